@@ -20,3 +20,10 @@ HasLoadCause told name before now Failed = Rose before now ⊎ IsAbsent told nam
 HasLoadCause told name before now Whole = ⊤
 HasLoadCause told name before now Long = ⊤
 HasLoadCause told name before now Memory = ⊤
+
+-- what a load of these bytes leaves, where it finds them
+abbrev pub Copies : List ℕ → ℕ → Loaded → List ℕ → Type 0
+Copies bytes limit Whole into = (length bytes ≤ limit) × (into ≡ bytes)
+Copies bytes limit Long into = (limit < length bytes) × (into ≡ take (limit + 1) bytes)
+Copies bytes limit Failed into = ⊥
+Copies bytes limit Memory into = ⊤
