@@ -70,9 +70,30 @@ impl<T> Seq<T> {
     {
         self.items.push(item)
     }
+
+    /// Puts an item before the first one; where there is no memory for it, gives it back.
+    pub fn push_front(&mut self, item: T) -> Result<(), AllocFailed<T>>
+        ensures ok { OnOk result (self.new ≡ item ∷ self.old) }
+        ensures err { OnErr result (self.new ≡ self.old) }
+    {
+        self.items.insert(0, item)
+    }
+
+    /// The allocator that the items' memory comes from.
+    pub fn allocator(&self) -> Global {
+        *self.items.allocator()
+    }
 }
 
 impl<T: Copy> Seq<T> {
+    /// Adds a copy of each item of a slice at the end; where there is no memory for them, the list stays.
+    pub fn extend_from_slice(&mut self, items: &[T]) -> Result<(), AllocError>
+        ensures ok { OnOk result (self.new ≡ self.old ++ items.now) }
+        ensures err { OnErr result (self.new ≡ self.old) }
+    {
+        self.items.extend_from_slice(items)
+    }
+
     /// A copy of the items of a slice.
     pub fn from_slice(alloc: Global, items: &[T]) -> Result<Self, AllocError>
         ensures { IfOk result (λ copy. copy ≡ items.now) }

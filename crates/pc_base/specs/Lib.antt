@@ -1,0 +1,5 @@
+pub mod Codes
+pub mod Counts
+pub mod Files
+pub mod Loads
+pub mod Puts

@@ -1,0 +1,29 @@
+-- What a load gives.
+use Rattle.std.specs.Prelude.{◌≡◌, ℕ, ◌+◌, ◌<◌, ◌≤◌, ◌⊎◌, ⊤, List, length, take, Option, Some, IsSomeAnd, IfSome}
+use Rattle.pc_base.specs.declared.outside.Loaded.{Loaded}
+use Rattle.pc_base.specs.declared.outside.Loaded.TheVariants.{Whole, Long, Failed, Memory}
+use Rattle.pc_base.specs.Counts.{Rose}
+use Rattle.pc_base.specs.Files.{Files, file_of, IsAbsent}
+
+-- all bytes of the file, or one more than the limit of a longer one
+abbrev pub Gives : Option Files → List ℕ → ℕ → Loaded → List ℕ → Type 0
+Gives told name limit Whole into =
+    (length into ≤ limit) × IfSome told (λ files. file_of files name ≡ Some into)
+Gives told name limit Long into =
+    (length into ≡ limit + 1) × IfSome told (λ files. IsSomeAnd (file_of files name) (λ bytes. (into ≡ take (limit + 1) bytes) × (limit < length bytes)))
+Gives told name limit Failed into = ⊤
+Gives told name limit Memory into = ⊤
+
+-- a failure has a fault, or a name that is not held
+abbrev pub HasLoadCause : Option Files → List ℕ → ℕ → ℕ → Loaded → Type 0
+HasLoadCause told name before now Failed = Rose before now ⊎ IsAbsent told name
+HasLoadCause told name before now Whole = ⊤
+HasLoadCause told name before now Long = ⊤
+HasLoadCause told name before now Memory = ⊤
+
+-- what a load of these bytes leaves, where it finds them
+abbrev pub Copies : List ℕ → ℕ → Loaded → List ℕ → Type 0
+Copies bytes limit Whole into = (length bytes ≤ limit) × (into ≡ bytes)
+Copies bytes limit Long into = (limit < length bytes) × (into ≡ take (limit + 1) bytes)
+Copies bytes limit Failed into = ⊥
+Copies bytes limit Memory into = ⊤

@@ -1,0 +1,14 @@
+//! What a program reads from and writes to, the statuses that it ends with, and stand-ins in memory for tests.
+#![tactic(auto)]
+
+mod memory_shelf;
+mod memory_sink;
+mod outside;
+mod status;
+#[cfg(test)]
+mod tests;
+
+pub use memory_shelf::MemShelf;
+pub use memory_sink::MemSink;
+pub use outside::{Loaded, Put, Shelf, Sink};
+pub use status::Status;
