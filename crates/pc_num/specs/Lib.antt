@@ -1,1 +1,2 @@
 pub mod Scaled
+pub mod Spelling

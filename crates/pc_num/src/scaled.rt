@@ -1,4 +1,5 @@
 ghost use Rattle.std.specs.Prelude.{◌≡◌, ◌≤◌, ◌+◌, ◌-◌, ◌*◌, ◌^◌, length, min, IfOk, unsigned_abs, option_copied, Some};
+ghost use Rattle.pc_num.specs.Spelling.{Spells};
 ghost use Rattle.pc_num.specs.Scaled.{are_digits, decimals_at, digits_len, greatest_size, has_decimals_past, number_after, scaled_of, scaled_parts, scaled_size, scaled_unsigned, signed, starts_with_minus, without_sign};
 
 use thiserror::Error;
@@ -19,9 +20,10 @@ const LIMIT: u64 = 1_000_000_000_000_000;
 
 /// Reads a decimal text as a whole number of units of its last place, with `scale` decimals: at a scale of 2,
 /// `-7.5` is -750. A text with several faults has the first that `NumFault` lists.
-#[tactic(auto, unfolding(crate::specs::Scaled::scaled_of))]
+#[tactic(auto, using(crate::proofs::Spells::spells), unfolding(crate::specs::Scaled::scaled_of))]
 pub fn read_scaled(text: &[u8], scale: u8) -> Result<i64, NumFault>
     ensures value { result ≡ scaled_of scale text.now }
+    ensures spelled { IfOk result (Spells text.now scale) }
     ensures small { IfOk result (λ n. unsigned_abs n ≤ 10 ^ 15) }
 {
     read_unsigned(starts_with_minus(text), without_sign(text), scale)
