@@ -1,5 +1,5 @@
 -- How many rows a possible list has, and when there is none.
-use Rattle.std.proofs.Common.{◌≡◌, ℕ, ◌+◌, ◌<◌, ◌≤◌, Bool, true, false, cond, not, nat_lt, ◌&&◌, List, [], ◌∷◌, length, get_or, All, sum_by, count_by, sym, refl, subst, ◌∙◌, arith, true≢false, ltb-true}
+use Rattle.std.proofs.Common.{◌≡◌, ◌+◌, ◌≤◌, true, false, cond, not, nat_lt, List, [], ◌∷◌, length, get_or, All, sum_by, sym, subst, ◌∙◌, arith, true≢false, ltb-true}
 use Rattle.std.specs.List.{AllPass, list_any}
 use Rattle.std.proofs.lemmas.Bool.{cond_both, and_parts, not-true, false_from_ne_true}
 use Rattle.std.proofs.lemmas.List.Elements.{All-head, All-tail, All-weaker}

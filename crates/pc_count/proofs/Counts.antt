@@ -39,8 +39,10 @@ module _ {X : Type 0} where
   pub count_by_some : (p : X → Bool) (xs : List X) → list_any p xs ≡ true → 1 ≤ count_by p xs
   count_by_some p [] some = cc
   count_by_some p (x ∷ xs) some =
-      elim (or_cases (p x) (list_any p xs) some) [ inl passes ↦ omega (arith, count_by-cons_yes p x xs passes)
-      | inr later ↦ omega (arith, sum_by-cons (λ y. cond (p y) 1 0) x xs, count_by_some p xs later) ]
+      elim (or_cases (p x) (list_any p xs) some) [
+        | inl passes ↦ omega (arith, count_by-cons_yes p x xs passes)
+        | inr later ↦ omega (arith, sum_by-cons (λ y. cond (p y) 1 0) x xs, count_by_some p xs later)
+      ]
 
   others_fail : (p : X → Bool) (d x : X) (xs : List X) → ((i j : ℕ) → i < j → j < length (x ∷ xs) → p (get_or (x ∷ xs) i d) ≡ true → p (get_or (x ∷ xs) j d) ≡ true → ⊥) → p x ≡ true → count_by p xs ≡ 0
   others_fail p d x xs apart passes = count_by_none p xs (All-from_get_or (λ y. p y ≡ false) xs d (λ k lt. false_from_ne_true (p (get_or xs k d)) (λ also. apart 0 (suc k) (omega arith) (omega arith) passes also)))
@@ -49,8 +51,10 @@ module _ {X : Type 0} where
   pub count_by_apart : (p : X → Bool) (d : X) (xs : List X) → ((i j : ℕ) → i < j → j < length xs → p (get_or xs i d) ≡ true → p (get_or xs j d) ≡ true → ⊥) → count_by p xs ≤ 1
   count_by_apart p d [] apart = omega arith
   count_by_apart p d (x ∷ xs) apart =
-      elim (cases_Bool (p x)) [ inl passes ↦ omega (arith, count_by-cons_yes p x xs passes, others_fail p d x xs apart passes)
-      | inr fails ↦ omega (arith, count_by-cons_no p x xs fails, count_by_apart p d xs (λ i j lt in_xs. apart (suc i) (suc j) (omega arith) (omega arith))) ]
+      elim (cases_Bool (p x)) [
+        | inl passes ↦ omega (arith, count_by-cons_yes p x xs passes, others_fail p d x xs apart passes)
+        | inr fails ↦ omega (arith, count_by-cons_no p x xs fails, count_by_apart p d xs (λ i j lt in_xs. apart (suc i) (suc j) (omega arith) (omega arith)))
+      ]
 
   pub filter_all : (p : X → Bool) (xs : List X) → All (λ x. p x ≡ true) xs → filter p xs ≡ xs
   filter_all p [] each = refl

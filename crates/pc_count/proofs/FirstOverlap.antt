@@ -1,5 +1,5 @@
 -- What the first overlap of boxes says of their rows.
-use Rattle.std.proofs.Common.{◌≡◌, ℕ, zero, suc, ◌+◌, ◌<◌, ◌≤◌, Bool, true, false, cond, List, [], ◌∷◌, ◌++◌, length, get_or, take, drop, All, count_by, Option, Some, None, IfSome, IfNone, slice_get, sym, refl, subst, ◌∙◌, inl, inr, arith, true≢false, get_or-take}
+use Rattle.std.proofs.Common.{◌≡◌, ℕ, zero, suc, ◌+◌, ◌<◌, ◌≤◌, Bool, true, false, List, [], length, get_or, take, drop, All, Option, Some, None, IfSome, IfNone, sym, refl, subst, ◌∙◌, inl, inr, arith, true≢false, get_or-take}
 use Rattle.std.proofs.lemmas.Bool.{cond_both, cases_eq}
 use Rattle.std.proofs.lemmas.List.{length-take}
 use Rattle.std.proofs.lemmas.List.Folds.{Any-from_list_any, list_any_at}
@@ -7,7 +7,7 @@ use Rattle.std.proofs.lemmas.Option.{slice_get_read, slice_get-get_or, slice_get
 use Rattle.pc_model.specs.declared.schema.Schema.{Schema}
 use Rattle.pc_model.specs.declared.row.Row.{Row}
 use Rattle.pc_model.specs.declared.constraint.Constraint.{Constraint}
-use Rattle.pc_model.specs.Membership.{in_domain, is_under, AreDisjoint}
+use Rattle.pc_model.specs.Membership.{is_under, AreDisjoint}
 use Rattle.pc_model.specs.Boxes.{IsServable, ShareRow, Overlaps, IsFirstOverlap}
 use Rattle.pc_count.specs.Sides.{regions_meet}
 use Rattle.pc_count.specs.Plan.{corner_of}

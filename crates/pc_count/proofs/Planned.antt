@@ -1,8 +1,7 @@
 -- The planned runs stand for a possible list, of as many rows as were counted.
-use Rattle.std.proofs.Common.{◌≡◌, ℕ, zero, suc, ◌+◌, ◌<◌, ◌≤◌, Bool, true, false, cond, not, nat_lt, ◌&&◌, List, [], ◌∷◌, ◌++◌, length, get_or, replicate, flat_map, All, sum_by, count_by, sym, refl, ap, subst, ◌∙◌, inl, inr, arith, true≢false, append-nil, append_assoc}
-use Rattle.std.specs.List.{AllPass}
+use Rattle.std.proofs.Common.{◌≡◌, ℕ, ◌≤◌, Bool, true, false, cond, not, nat_lt, List, [], ◌∷◌, ◌++◌, length, get_or, replicate, flat_map, All, sum_by, sym, refl, ap, subst, ◌∙◌, inl, inr, arith, true≢false, append-nil, append_assoc}
 use Rattle.std.proofs.lemmas.Bool.{cond_both, cases_lt, and_from, false_from_ne_true, not_from_false, lt-ltb, ltb-true, ltb-false}
-use Rattle.std.proofs.lemmas.List.{length-append, length-replicate, get_or_at}
+use Rattle.std.proofs.lemmas.List.{length-append, length-replicate}
 use Rattle.std.proofs.lemmas.List.Concat.{flat_map-append}
 use Rattle.std.proofs.lemmas.List.Elements.{All-nil, All-cons, All-head, All-tail, All-append, All-push, All-replicate, All-weaker}
 use Rattle.std.proofs.lemmas.List.Sums.{sum_by-cons, sum_by-append, get_or-le-sum_by}
@@ -14,7 +13,7 @@ use Rattle.pc_model.specs.declared.constraint.Constraint.{Constraint}
 use Rattle.pc_model.specs.Membership.{in_domain, has, is_under, AreDisjoint}
 use Rattle.pc_model.specs.Boxes.{IsServable}
 use Rattle.pc_model.specs.Runs.{rows_of, AreRuns}
-use Rattle.pc_model.specs.Possible.{is_covered, count_of, Meets, IsPossible}
+use Rattle.pc_model.specs.Possible.{is_covered, Meets, IsPossible}
 use Rattle.pc_count.specs.declared.plan.Extreme.{Extreme}
 use Rattle.pc_count.specs.declared.plan.Extreme.TheVariants.{Least, Most}
 use Rattle.pc_count.specs.Plan.{corner_of, is_met, number_of, times_of, is_unmeetable, runs_for, planned}
@@ -86,6 +85,7 @@ times_within extreme c ordered meetable = cond_both (is_met c) (number_of extrem
     by : (e : Extreme) → (c.least ≤ number_of e c) × (number_of e c ≤ c.most)
     by Least = (omega arith, ordered)
     by Most = (ordered, omega arith)
+
     none : is_met c ≡ false → c.least ≤ 0
     none unmet = elim (cases_lt 0 c.least) [ inl above ↦ absurd (true≢false (sym (and_from (not (is_met c)) (nat_lt 0 c.least) (not_from_false (is_met c) unmet) (lt-ltb 0 c.least above)) ∙ meetable)) | inr low ↦ low ]
 
@@ -103,9 +103,10 @@ module _ (schema : Schema) where
       let once = disjoint row allowed in
       let split = sum_by-append (λ (b : Constraint). cond (is_under b row) 1 0) before (c ∷ after) in
       let next = sum_by-cons (λ (b : Constraint). cond (is_under b row) 1 0) c after in
-      let mine = ap {B = ℕ} (λ (t : Bool). cond t 1 0) under in
-      (λ k d in_list. false_from_ne_true (is_under (get_or before k d) row) (λ also. omega (arith, once, split, next, mine, ap {B = ℕ} (λ (t : Bool). cond t 1 0) also, get_or-le-sum_by (λ (b : Constraint). cond (is_under b row) 1 0) before k d in_list)),
-      λ k d in_list. false_from_ne_true (is_under (get_or after k d) row) (λ also. omega (arith, once, split, next, mine, ap {B = ℕ} (λ (t : Bool). cond t 1 0) also, get_or-le-sum_by (λ (b : Constraint). cond (is_under b row) 1 0) after k d in_list)))
+      let mine = ap {B = ℕ} (λ (t : Bool). cond t 1 0) under in (
+        λ k d in_list. false_from_ne_true (is_under (get_or before k d) row) (λ also. omega (arith, once, split, next, mine, ap {B = ℕ} (λ (t : Bool). cond t 1 0) also, get_or-le-sum_by (λ (b : Constraint). cond (is_under b row) 1 0) before k d in_list)),
+        λ k d in_list. false_from_ne_true (is_under (get_or after k d) row) (λ also. omega (arith, once, split, next, mine, ap {B = ℕ} (λ (t : Bool). cond t 1 0) also, get_or-le-sum_by (λ (b : Constraint). cond (is_under b row) 1 0) after k d in_list)),
+      )
 
   meets_parts : (c : Constraint) (xs ys zs : List Row) → All (λ row. is_under c row ≡ false) xs → All (λ row. is_under c row ≡ true) ys → All (λ row. has c.values row ≡ true) ys → All (λ row. is_under c row ≡ false) zs → c.least ≤ length ys → length ys ≤ c.most → Meets c (xs ++ (ys ++ zs))
   meets_parts c xs ys zs no_x under values no_z enough not_more =

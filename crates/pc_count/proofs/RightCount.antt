@@ -1,5 +1,5 @@
 -- The planned runs and their numbers answer every count of all rows.
-use Rattle.std.proofs.Common.{◌≡◌, ℕ, ◌+◌, ◌<◌, ◌≤◌, pos, ◌≤ℤ◌, ◌*ℤ◌, Bool, true, false, ◌&&◌, ◌||◌, List, [], ◌∷◌, ◌++◌, length, get_or, map, filter, All, sum_by, Option, Some, None, IfSome, IsSomeAnd, sym, refl, ap, subst, ◌∙◌, arith}
+use Rattle.std.proofs.Common.{◌≡◌, ℕ, ◌+◌, ◌≤◌, pos, true, false, ◌&&◌, ◌||◌, List, ◌++◌, length, get_or, map, All, sum_by, Option, Some, None, IfSome, IsSomeAnd, sym, refl, ap, subst, ◌∙◌, arith}
 use Rattle.std.specs.List.{AllPass, list_any}
 use Rattle.std.proofs.lemmas.Int.{ints}
 use Rattle.std.proofs.lemmas.Bool.{cond_both, and_from, false_from_ne_true, true≢false}
@@ -11,13 +11,12 @@ use Rattle.pc_model.specs.declared.row.Row.{Row}
 use Rattle.pc_model.specs.declared.row.Run.{Run}
 use Rattle.pc_model.specs.declared.constraint.Constraint.{Constraint}
 use Rattle.pc_model.specs.declared.query.Query.{Query}
-use Rattle.pc_model.specs.declared.query.Agg.TheVariants.{Count}
 use Rattle.pc_model.specs.Membership.{in_domain, has, AreDisjoint}
 use Rattle.pc_model.specs.Boxes.{IsServable}
-use Rattle.pc_model.specs.Runs.{rows_of, AreRuns}
+use Rattle.pc_model.specs.Runs.{rows_of}
 use Rattle.pc_model.specs.Possible.{IsPossible}
-use Rattle.pc_model.specs.Aggregate.{Ratio, whole, IsAtMost, IsSame, asked, is_in_group, kept, value_of, aggregate}
-use Rattle.pc_model.specs.Right.{Question, Answer, ArePossible, IsAttained, IsRight, always_has_value, value_for}
+use Rattle.pc_model.specs.Aggregate.{whole, IsAtMost, IsSame, asked, is_in_group, kept, value_of, aggregate}
+use Rattle.pc_model.specs.Right.{Question, ArePossible, IsAttained, always_has_value, value_for}
 use Rattle.pc_count.specs.declared.answer.CountAnswer.TheVariants.{Possible, Impossible}
 use Rattle.pc_count.specs.declared.plan.Extreme.{Extreme}
 use Rattle.pc_count.specs.declared.plan.Extreme.TheVariants.{Least, Most}

@@ -1,5 +1,5 @@
 -- Boxes that pass the test are servable.
-use Rattle.std.proofs.Common.{◌≡◌, ℕ, ℤ, ◌≤◌, ◌≤ℤ◌, int_le, nat_le, ◌&&◌, ◌==◌, Bool, true, false, List, [], ◌∷◌, length, All, sym, refl, true≢false, arith, eqb-true, leb-true}
+use Rattle.std.proofs.Common.{◌≡◌, ℤ, int_le, nat_le, ◌&&◌, ◌==◌, true, List, [], ◌∷◌, length, All, sym, refl, true≢false, arith, eqb-true, leb-true}
 use Rattle.std.specs.List.{list_all}
 use Rattle.std.specs.Cmp.Lexicographic.{pointwise}
 use Rattle.std.proofs.lemmas.Int.{ints}

@@ -1,5 +1,5 @@
 -- A test of constraints that a count can serve.
-use Rattle.std.specs.Prelude.{ℤ, ◌==◌, ◌&&◌, int_le, nat_le, Bool, true, false, List, length}
+use Rattle.std.specs.Prelude.{◌==◌, ◌&&◌, int_le, nat_le, Bool, true, false, List, length}
 use Rattle.std.specs.List.{list_all}
 use Rattle.std.specs.Cmp.Lexicographic.{pointwise}
 use Rattle.pc_model.specs.declared.schema.Schema.{Schema}

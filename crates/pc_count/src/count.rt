@@ -26,10 +26,12 @@ pub fn bound_count(
     }
     let low_runs = plan_runs(alloc, Extreme::Least, constraints)?;
     let high_runs = plan_runs(alloc, Extreme::Most, constraints)?;
+    let low = observed + total_times(Extreme::Least, constraints);
+    let high = observed + total_times(Extreme::Most, constraints);
     Ok(CountAnswer::Possible {
-        low: observed + total_times(Extreme::Least, constraints),
+        low,
         low_runs,
-        high: observed + total_times(Extreme::Most, constraints),
+        high,
         high_runs,
     })
 }

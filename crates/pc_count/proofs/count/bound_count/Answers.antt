@@ -1,7 +1,5 @@
-use Rattle.std.proofs.Common.{◌≡◌, ◌+◌, ◌≤◌, sum_by, sym, ap, ◌∙◌, arith}
-use Rattle.pc_model.specs.declared.constraint.Constraint.{Constraint}
+use Rattle.std.proofs.Common.{◌+◌, sym, ap, ◌∙◌, arith}
 use Rattle.pc_count.specs.declared.plan.Extreme.TheVariants.{Least, Most}
-use Rattle.pc_count.specs.Plan.{times_of}
 use Rattle.pc_count.proofs.RightCount.{right_where_counted, right_impossible, sum_by-times_of}
 use Rattle.pc_count.proofs.count.bound_count.Goals as goal
 
@@ -11,14 +9,14 @@ returns-then-has_unmeetable c = right_impossible c.args.schema.now c.args.observ
 pub total_times-requires : goal.total_times-requires
 total_times-requires c = omega (arith, sum_by-times_of c.args.schema.now Least c.args.constraints.now c.requires.servable)
 
-pub overflow_add-result : goal.overflow_add-result
-overflow_add-result c = omega (arith, sum_by-times_of c.args.schema.now Least c.args.constraints.now c.requires.servable)
+pub overflow_add-low : goal.overflow_add-low
+overflow_add-low c = omega (arith, sum_by-times_of c.args.schema.now Least c.args.constraints.now c.requires.servable)
 
 pub total_times-requires-2 : goal.total_times-requires-2
 total_times-requires-2 c = omega (arith, sum_by-times_of c.args.schema.now Most c.args.constraints.now c.requires.servable)
 
-pub overflow_add-result-2 : goal.overflow_add-result-2
-overflow_add-result-2 c = omega (arith, sum_by-times_of c.args.schema.now Most c.args.constraints.now c.requires.servable)
+pub overflow_add-high : goal.overflow_add-high
+overflow_add-high c = omega (arith, sum_by-times_of c.args.schema.now Most c.args.constraints.now c.requires.servable)
 
 pub returns : goal.returns
 returns c =
