@@ -1,13 +1,8 @@
-// A library with one function.
+//! Lists and texts that contracts see as plain lists of their items and bytes.
 #![tactic(auto)]
 
-ghost use Rattle.std.specs.Prelude.{◌≡◌};
-ghost use Rattle.pc_list.specs.Echo.{echo_of};
+mod list;
+mod text;
 
-// The `ensures` clause is the contract: what `echo` returns is `echo_of` of its argument, a definition
-// in `specs/Echo.antt`, which a caller's clause can cite too.
-pub fn echo(x: usize) -> usize
-    ensures { result ≡ echo_of x }
-{
-    x
-}
+pub use list::Seq;
+pub use text::Text;
