@@ -1,6 +1,9 @@
 pub mod Aggregate
+pub mod Boxes
+pub mod FaultTexts
 pub mod Membership
 pub mod Places
 pub mod Possible
+pub mod Refusals
 pub mod Right
 pub mod Runs

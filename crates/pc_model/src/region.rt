@@ -1,5 +1,6 @@
 ghost use Rattle.std.specs.Prelude.{◌≡◌};
-ghost use Rattle.pc_model.specs.Membership.{holds, has};
+ghost use Rattle.pc_model.specs.Membership.{is_between, holds, has};
+ghost use Rattle.pc_model.specs.Places.{is_place_of};
 
 use crate::row::Row;
 use pc_list::Seq;
@@ -19,18 +20,39 @@ pub struct Region {
 
 impl Side {
     /// Whether the side holds a number.
+    #[tactic(auto, unfolding(crate::specs::Membership::holds))]
     pub fn holds(&self, number: i64) -> bool
         ensures { result ≡ holds self.now number }
     {
         match self {
-            Side::Span { low, high } => *low <= number && number <= *high,
-            Side::Names { bits } => 0 <= number && number < 128 && (*bits >> number) & 1 == 1,
+            Side::Span { low, high } => is_between(*low, *high, number),
+            Side::Names { bits } => is_place_of(*bits, number),
         }
     }
 }
 
+fn is_between(low: i64, high: i64, number: i64) -> bool
+    ensures { result ≡ is_between low high number }
+{
+    low <= number && number <= high
+}
+
+#[tactic(auto, using(crate::proofs::PastBits::past_the_bits))]
+fn is_place_of(bits: u128, number: i64) -> bool
+    ensures { result ≡ is_place_of bits number }
+{
+    if number < 0 {
+        return false;
+    }
+    if 128 <= number {
+        return false;
+    }
+    (bits >> number as u32) & 1 == 1
+}
+
 impl Region {
     /// Whether the region holds a row: one number per side, each held by its side.
+    #[tactic(auto, using(crate::proofs::Pairs::steps), unfolding(crate::specs::Membership::has))]
     pub fn has(&self, row: &Row) -> bool
         ensures { result ≡ has self.now row.now }
     {

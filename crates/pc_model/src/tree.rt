@@ -40,9 +40,18 @@ pub struct Mult {
 /// above; both are places in the tree's list of nodes.
 #[derive(Clone, Debug, PartialEq, Eq, Drop)]
 pub enum TreeNode {
-    Split { cell: u32, at: u64, less: u32, more: u32 },
-    Bound { mult: Mult },
-    Void { mult: Mult },
+    Split {
+        cell: u32,
+        at: u64,
+        less: u32,
+        more: u32,
+    },
+    Bound {
+        mult: Mult,
+    },
+    Void {
+        mult: Mult,
+    },
 }
 
 /// A search tree. Node 0 is the root, and children stand after their parent.
