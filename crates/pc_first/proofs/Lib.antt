@@ -1,1 +1,4 @@
 pub mod Cuts
+pub mod Names
+pub mod Reading
+pub mod SchemaLines
