@@ -1,12 +1,11 @@
 -- Reading line by line, as far as a loop has come.
-use Rattle.std.proofs.Common.{◌≡◌, ℕ, ◌+◌, ◌<◌, List, [], ◌∷◌, length, count_by, Option, Some, None, Result, Ok, Err, refl, ap, arith, ◌==◌}
-use Rattle.std.specs.List.{slice_split}
+use Rattle.std.proofs.Common.{◌≡◌, ℕ, ◌+◌, ◌<◌, List, [], ◌∷◌, length, Option, Some, None, Ok, Err, refl, sym, subst, ◌∙◌, arith, ◌==◌}
 use Rattle.std.proofs.lemmas.List.Splits.{length-slice_split}
 use Rattle.pc_model.specs.declared.fault.FileKind.{FileKind}
 use Rattle.pc_first.specs.Texts.{pieces_of}
 use Rattle.pc_first.specs.Lines.{lines_of, bad_line, read_lines}
 
-length-pieces_of : (separator : ℕ) (text : List ℕ) → 0 < length (pieces_of separator text)
+pub length-pieces_of : (separator : ℕ) (text : List ℕ) → 0 < length (pieces_of separator text)
 unfolding pieces_of
 length-pieces_of separator text = omega (arith, length-slice_split (λ byte. byte == separator) text)
 
@@ -44,3 +43,19 @@ module _ {S : Type 0} (file : FileKind) (step : S → List ℕ → Option S) (st
 
   pub lines_cut : (text : List ℕ) → lines_of text ≡ text ∷ [] → 0 < length text → read_lines file step state place (lines_of text) ≡ Err (bad_line file place)
   lines_cut text split e = rw split (cut_line text e)
+
+-- reading on after a line, where it reads to the end
+keep_step : {S : Type 0} (file : FileKind) (step : S → List ℕ → Option S) (P : S → Type 0) (state : S) (place : ℕ) (line : List ℕ) (lines : List (List ℕ)) (end : S) → 0 < length lines → ((after : S) → step state line ≡ Some after → read_lines file step after (place + 1) lines ≡ Ok end → P end) → (next : Option S) → step state line ≡ next → read_lines file step state place (line ∷ lines) ≡ Ok end → P end
+keep_step file step P state place line lines end some read_on None e read = let bad = bad_lines file step state place line lines some e in cc
+keep_step file step P state place line lines end some read_on (Some after) e read = read_on after e (sym (more_lines file step state place after line lines some e) ∙ read)
+
+-- what each step keeps, reading keeps
+pub lines_keep : {S : Type 0} (file : FileKind) (step : S → List ℕ → Option S) (P : S → Type 0) → ((state : S) (line : List ℕ) (after : S) → P state → step state line ≡ Some after → P after) → (lines : List (List ℕ)) (state : S) (place : ℕ) (end : S) → P state → read_lines file step state place lines ≡ Ok end → P end
+unfolding read_lines
+lines_keep file step P keeps [] state place end holds read = let same : state ≡ end = cc in subst P same holds
+lines_keep file step P keeps ([] ∷ []) state place end holds read = let same : state ≡ end = cc in subst P same holds
+lines_keep file step P keeps ((byte ∷ rest) ∷ []) state place end holds read = cc
+lines_keep file step P keeps (line ∷ next ∷ more) state place end holds read =
+    keep_step file step P state place line (next ∷ more) end (omega arith)
+    (λ after e read_on. lines_keep file step P keeps (next ∷ more) after (place + 1) end (keeps state line after holds e) read_on)
+    (step state line) refl read

@@ -1,5 +1,5 @@
 -- Which schema a file of the first form spells.
-use Rattle.std.specs.Prelude.{◌≡◌, ◌≢◌, ℕ, ◌+◌, ◌&&◌, not, ℤ, int_le, Bool, List, [], ◌∷◌, ◌++◌, length, codes, bytes_eq, Option, Some, None, option_map, option_and_then, ok_or, All, AllPairs, Result, Ok, Err, nat_lt, if◌then◌else◌}
+use Rattle.std.specs.Prelude.{◌≢◌, ℕ, ◌+◌, ◌&&◌, not, ℤ, int_le, Bool, List, [], ◌∷◌, ◌++◌, length, codes, bytes_eq, Option, Some, None, option_map, option_and_then, ok_or, All, AllPairs, Result, Ok, Err, nat_lt, if◌then◌else◌}
 use Rattle.std.specs.List.{list_any}
 use Rattle.pc_model.specs.declared.fault.FileKind.TheVariants as files
 use Rattle.pc_model.specs.declared.fault.Fault.{Fault}

@@ -3,8 +3,10 @@
 
 mod line;
 mod query;
+mod row;
 mod schema;
 mod text;
 
 pub use query::read_query;
+pub use row::count_rows;
 pub use schema::read_schema;

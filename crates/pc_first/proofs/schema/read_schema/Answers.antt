@@ -1,12 +1,11 @@
-use Rattle.std.proofs.Common.{rules, ◌≡◌, ◌≢◌, ◌+◌, ◌<◌, ◌≤◌, [], ◌∷◌, ◌++◌, length, Ok, arith, length-append, ◌∙◌}
+use Rattle.std.proofs.Common.{rules, ◌≡◌, ◌≢◌, ◌<◌, [], ◌∷◌, ◌++◌, length, Ok, arith, length-append, ◌∙◌}
 use Rattle.std.proofs.lemmas.List.Elements.{All-push}
 use Rattle.std.proofs.lemmas.Result.{err_from_is_err_and}
 use Rattle.std.proofs.lemmas.List.Quantifiers.{all_pairs_push}
 use Rattle.pc_model.specs.declared.schema.Column.{Column}
-use Rattle.pc_model.specs.Boxes.{IsWholeKind, AreWhole}
+use Rattle.pc_model.specs.Boxes.{IsWholeKind}
 use Rattle.pc_model.specs.Refusals.{RefusesAs}
-use Rattle.pc_first.specs.Lines.{lines_of}
-use Rattle.pc_first.specs.SchemaForm.{column_after, HaveOwnNames, LackName}
+use Rattle.pc_first.specs.SchemaForm.{column_after, LackName}
 use Rattle.pc_first.proofs.SchemaLines.{schema_start, schema_step, schema_refused, schema_cut, schema_without, schema_whole}
 use Rattle.pc_first.proofs.schema.read_schema.Goals as goal
 
