@@ -13,3 +13,20 @@ pub fn read_query(text: &[u8]) -> Result<(), Fault>
     }
     Err(bad_line(FileKind::Query, 1))
 }
+
+#[cfg(test)]
+mod tests {
+    use super::*;
+
+    #[test]
+    fn reads_the_count_alone(rt: HostRuntime) {
+        assert_eq!(rt; read_query(b"count"), Ok(()));
+        for text in ["", "count\n", "Count", "count where item = 3"] {
+            assert_eq!(rt;
+                read_query(text.as_bytes()),
+                Err(bad_line(FileKind::Query, 1)),
+                "{text}"
+            );
+        }
+    }
+}

@@ -151,3 +151,60 @@ fn is_below(count: usize, number: i64) -> bool
     }
     (number as u64) < count as u64
 }
+
+#[cfg(test)]
+mod tests {
+    use super::*;
+    use crate::schema::read_schema;
+
+    // How many rows a file has, or its first line that is not in the form.
+    fn outcome(schema: &Schema, text: &str) -> Result<u64, u64> {
+        match count_rows(schema, text.as_bytes()) {
+            Ok(count) => Ok(count),
+            Err(fault) => Err(fault.place),
+        }
+    }
+
+    #[test]
+    fn counts_rows(rt: HostRuntime) {
+        let schema = read_schema(rt.alloc(), b"item,int,1,9\nweek,int,1,4\n").expect(
+            &rt, "a schema",
+        );
+        let cases: [(&str, Result<u64, u64>); 24] = [
+            ("item,week\n3,1\n7,4\n", Ok(2)),
+            ("item,week\n03,1\n", Ok(1)),
+            ("item,week\n", Ok(0)),
+            ("", Err(1)),
+            ("item,week", Err(1)),
+            ("week,item\n3,1\n", Err(1)),
+            ("item\n3\n", Err(1)),
+            ("item,weeks\n3,1\n", Err(1)),
+            ("item,week,\n3,1\n", Err(1)),
+            ("item,week\r\n3,1\n", Err(1)),
+            ("item,week\n3,1", Err(2)),
+            ("item,week\n3,1\r\n", Err(2)),
+            ("item,week\n3,1\n3,5\n", Err(3)),
+            ("item,week\n0,1\n", Err(2)),
+            ("item,week\n3,1\n3\n", Err(3)),
+            ("item,week\n3,1,1\n", Err(2)),
+            ("item,week\n3,\n", Err(2)),
+            ("item,week\n+3,1\n", Err(2)),
+            ("item,week\n 3,1\n", Err(2)),
+            ("item,week\n3,1.0\n", Err(2)),
+            ("item,week\n3,-1\n", Err(2)),
+            ("item,week\n3,1\n\n7,4\n", Err(3)),
+            ("item,week\n3,1\n7,4\n\n", Err(4)),
+            ("item,week\n3,1\n7,4\nx", Err(4)),
+        ];
+        for (text, want) in cases {
+            assert_eq!(rt; outcome(&schema, text), want, "{text}");
+        }
+    }
+
+    #[test]
+    fn counts_numbers_below_zero(rt: HostRuntime) {
+        let schema = read_schema(rt.alloc(), b"level,int,-2,2\n").expect(&rt, "a schema");
+        assert_eq!(rt; outcome(&schema, "level\n-0\n-2\n2\n"), Ok(3));
+        assert_eq!(rt; outcome(&schema, "level\n-0\n-3\n"), Err(3));
+    }
+}

@@ -131,3 +131,79 @@ fn kind_between(low: Option<i64>, high: Option<i64>) -> Option<Kind>
         _ => None,
     }
 }
+
+#[cfg(test)]
+mod tests {
+    use super::*;
+
+    // The columns that a file has, or its first line that is not in the form.
+    fn outcome(alloc: Global, text: &str) -> Result<usize, u64> {
+        match read_schema(alloc, text.as_bytes()) {
+            Ok(schema) => Ok(schema.columns.len()),
+            Err(Refusal::Fault(fault)) => Err(fault.place),
+            Err(Refusal::Memory) => Err(0),
+        }
+    }
+
+    #[test]
+    fn reads_schemas(rt: HostRuntime) {
+        let cases: [(&str, Result<usize, u64>); 25] = [
+            ("item,int,1,9\nweek,int,1,4\n", Ok(2)),
+            ("_x9,int,-1000000000000000,1000000000000000\n", Ok(1)),
+            ("Count,int,-0,007\n", Ok(1)),
+            ("item,int,5,5\n", Ok(1)),
+            ("", Err(1)),
+            ("item,int,1,9", Err(1)),
+            ("item,int,1,9\nweek,int,1,4", Err(2)),
+            ("item,int,1,9\r\n", Err(1)),
+            ("item,int,1,9\n\nweek,int,1,4\n", Err(2)),
+            ("\u{feff}item,int,1,9\n", Err(1)),
+            ("item,int,1,9\n# week\n", Err(2)),
+            ("item,int,1,9\nitem,int,1,4\n", Err(2)),
+            ("week,int,1,4\ncount,int,1,9\n", Err(2)),
+            ("9item,int,1,9\n", Err(1)),
+            (",int,1,9\n", Err(1)),
+            ("item,int,9,1\n", Err(1)),
+            ("item,int,1,1000000000000001\n", Err(1)),
+            ("item,int,+1,9\n", Err(1)),
+            ("item,int,1\n", Err(1)),
+            ("item,int,1,9,9\n", Err(1)),
+            ("item, int,1,9\n", Err(1)),
+            (
+                "a,int,0,1\nb,int,0,1\nc,int,0,1\nd,int,0,1\ne,int,0,1\nf,int,0,1\ng,int,0,1\nh,int,0,1\ni,int,0,1\nj,int,0,1\nk,int,0,1\nl,int,0,1\n",
+                Ok(12),
+            ),
+            (
+                "a,int,0,1\nb,int,0,1\nc,int,0,1\nd,int,0,1\ne,int,0,1\nf,int,0,1\ng,int,0,1\nh,int,0,1\ni,int,0,1\nj,int,0,1\nk,int,0,1\nl,int,0,1\nm,int,0,1\n",
+                Err(13),
+            ),
+            (
+                "abcdefghijklmnopqrstuvwxyzABCDEFGHIJKLMNOPQRSTUVWXYZ_0123456789_,int,1,9\n",
+                Ok(1),
+            ),
+            (
+                "abcdefghijklmnopqrstuvwxyzABCDEFGHIJKLMNOPQRSTUVWXYZ_0123456789__,int,1,9\n",
+                Err(1),
+            ),
+        ];
+        for (text, want) in cases {
+            assert_eq!(rt; outcome(rt.alloc(), text), want, "{text}");
+        }
+    }
+
+    #[test]
+    fn keeps_names_and_domains(rt: HostRuntime) {
+        let schema = read_schema(rt.alloc(), b"item,int,-1,9\nweek,int,1,4\n").expect(
+            &rt, "a schema",
+        );
+        match schema.columns.as_slice() {
+            [item, week] => {
+                assert_eq!(rt; item.name.as_str(), "item");
+                assert_eq!(rt; item.kind, Kind::Int { low: -1, high: 9 });
+                assert_eq!(rt; week.name.as_str(), "week");
+                assert_eq!(rt; week.kind, Kind::Int { low: 1, high: 4 });
+            }
+            _ => assert!(rt; false, "two columns are wanted"),
+        }
+    }
+}

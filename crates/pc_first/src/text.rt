@@ -143,3 +143,37 @@ pub(crate) fn read_digits(text: &[u8]) -> Option<u64>
         Err(_) => None,
     }
 }
+
+#[cfg(test)]
+mod tests {
+    use super::*;
+
+    #[test]
+    fn cuts_at_the_first_separator(rt: HostRuntime) {
+        assert_eq!(rt;
+            cut_at(b"a: b: c", b": "),
+            Some((b"a".as_slice(), b"b: c".as_slice()))
+        );
+        assert_eq!(rt;
+            cut_at(b"a:b: ", b": "),
+            Some((b"a:b".as_slice(), b"".as_slice()))
+        );
+        assert_eq!(rt; cut_at(b"a:b:c", b": "), None);
+    }
+
+    #[test]
+    fn reads_digits(rt: HostRuntime) {
+        let cases = [
+            ("0", Some(0)),
+            ("007", Some(7)),
+            ("1000000000000000", Some(1_000_000_000_000_000)),
+            ("1000000000000001", None),
+            ("", None),
+            ("-1", None),
+            ("1.0", None),
+        ];
+        for (text, want) in cases {
+            assert_eq!(rt; read_digits(text.as_bytes()), want, "{text}");
+        }
+    }
+}
