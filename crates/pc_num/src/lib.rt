@@ -1,13 +1,8 @@
-// A library with one function.
+// Numbers as decimal text, in units of their last place.
 #![tactic(auto)]
 
-ghost use Rattle.std.specs.Prelude.{◌≡◌};
-ghost use Rattle.pc_num.specs.Echo.{echo_of};
+mod memory;
+mod scaled;
 
-// The `ensures` clause is the contract: what `echo` returns is `echo_of` of its argument, a definition
-// in `specs/Echo.antt`, which a caller's clause can cite too.
-pub fn echo(x: usize) -> usize
-    ensures { result ≡ echo_of x }
-{
-    x
-}
+pub use memory::Memory;
+pub use scaled::{NumFault, read_scaled};

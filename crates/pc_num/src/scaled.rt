@@ -1,0 +1,247 @@
+ghost use Rattle.std.specs.Prelude.{◌≡◌, ◌≤◌, ◌+◌, ◌-◌, ◌*◌, ◌^◌, length, min, IfOk, unsigned_abs, option_copied, Some};
+ghost use Rattle.pc_num.specs.Scaled.{are_digits, decimals_at, digits_len, greatest_size, has_decimals_past, number_after, scaled_of, scaled_parts, scaled_size, scaled_unsigned, signed, starts_with_minus, without_sign};
+
+use thiserror::Error;
+
+/// Why a text is not read as a number.
+#[derive(Clone, Copy, Debug, PartialEq, Eq, Error)]
+pub enum NumFault {
+    #[error("not a number: a sign or none, digits, and no more than a point and digits after them")]
+    NotANumber,
+    #[error("more decimals than the scale allows")]
+    TooManyDecimals,
+    #[error("beyond 10^15 units of the last place")]
+    PastLimit,
+}
+
+// The greatest size of a scaled number.
+const LIMIT: u64 = 1_000_000_000_000_000;
+
+/// Reads a decimal text as a whole number of units of its last place, with `scale` decimals: at a scale of 2,
+/// `-7.5` is -750. A text with several faults has the first that `NumFault` lists.
+#[tactic(auto, unfolding(crate::specs::Scaled::scaled_of))]
+pub fn read_scaled(text: &[u8], scale: u8) -> Result<i64, NumFault>
+    ensures value { result ≡ scaled_of scale text.now }
+    ensures small { IfOk result (λ n. unsigned_abs n ≤ 10 ^ 15) }
+{
+    read_unsigned(starts_with_minus(text), without_sign(text), scale)
+}
+
+// The number of a text without its sign.
+fn read_unsigned(minus: bool, number: &[u8], scale: u8) -> Result<i64, NumFault>
+    ensures value { result ≡ scaled_unsigned scale minus number.now }
+    ensures small { IfOk result (λ n. unsigned_abs n ≤ 10 ^ 15) }
+{
+    let (whole, rest) = number.split_at(digits_len(number));
+    if whole.is_empty() {
+        return Err(NumFault::NotANumber);
+    }
+    match decimals_at(rest) {
+        Some(decimals) => read_parts(minus, whole, decimals, scale),
+        None => Err(NumFault::NotANumber),
+    }
+}
+
+fn read_parts(minus: bool, whole: &[u8], decimals: &[u8], scale: u8) -> Result<i64, NumFault>
+    ensures value { result ≡ scaled_parts scale minus whole.now (Some decimals.now) }
+    ensures small { IfOk result (λ n. unsigned_abs n ≤ 10 ^ 15) }
+{
+    if has_decimals_past(decimals, scale) {
+        return Err(NumFault::TooManyDecimals);
+    }
+    let size = scaled_size(whole, decimals, scale);
+    if size > LIMIT {
+        return Err(NumFault::PastLimit);
+    }
+    Ok(signed(minus, size))
+}
+
+// Is a decimal past the scale not 0?
+fn has_decimals_past(decimals: &[u8], scale: u8) -> bool
+    ensures { result ≡ has_decimals_past scale decimals.now }
+{
+    decimals
+        .iter()
+        .skip(usize::from(scale))
+        .any(|&digit| digit != b'0')
+}
+
+fn starts_with_minus(text: &[u8]) -> bool
+    ensures { result ≡ starts_with_minus text.now }
+{
+    match text {
+        [byte, ..] => *byte == b'-',
+        [] => false,
+    }
+}
+
+fn without_sign(text: &[u8]) -> &[u8]
+    ensures { result.now ≡ without_sign text.now }
+{
+    match text {
+        [b'-' | b'+', rest @ ..] => rest,
+        _ => text,
+    }
+}
+
+// How many digits a text begins with.
+#[tactic(auto, unfolding(crate::specs::Scaled::digits_len))]
+fn digits_len(text: &[u8]) -> usize
+    ensures exact { result ≡ digits_len text.now }
+    ensures within { result ≤ length text.now }
+{
+    for (place, byte) in text.iter().enumerate() {
+        if !byte.is_ascii_digit() {
+            return place;
+        }
+    }
+    text.len()
+}
+
+// One digit or more, and nothing else.
+#[tactic(auto, unfolding(crate::specs::Scaled::are_digits))]
+fn are_digits(text: &[u8]) -> bool
+    ensures { result ≡ are_digits text.now }
+{
+    let count = digits_len(text);
+    count > 0 && count == text.len()
+}
+
+// The decimals of what follows the whole part, if it is nothing or a point with digits.
+fn decimals_at(rest: &[u8]) -> Option<&[u8]>
+    ensures { option_copied result ≡ decimals_at rest.now }
+{
+    match rest {
+        [] => Some(rest),
+        [b'.', decimals @ ..] if are_digits(decimals) => Some(decimals),
+        _ => None,
+    }
+}
+
+// The number with one digit more, where LIMIT + 1 stands for everything past LIMIT.
+fn with_digit(number: u64, digit: u8) -> u64
+    requires { number ≤ greatest_size + 1 }
+    ensures { result ≡ min (10 * number + (digit - 48)) (greatest_size + 1) }
+{
+    (10 * number + u64::from(digit.saturating_sub(b'0'))).min(LIMIT + 1)
+}
+
+// The number of these digits.
+#[tactic(auto, using(crate::proofs::Numbers::number_after_steps))]
+fn number_of(digits: &[u8]) -> u64
+    ensures { result ≡ min (number_after 0 digits.now) (greatest_size + 1) }
+{
+    let mut number = 0;
+    for digit in digits {
+        number = with_digit(number, *digit);
+    }
+    number
+}
+
+// The number in units of its last place, with a 0 for each decimal that is missing.
+#[tactic(auto, using(crate::proofs::Numbers::scaled_size_steps), unfolding(crate::specs::Scaled::scaled_size))]
+fn scaled_size(whole: &[u8], decimals: &[u8], scale: u8) -> u64
+    ensures { result ≡ min (scaled_size whole.now decimals.now scale) (greatest_size + 1) }
+{
+    let mut size = number_of(whole);
+    for place in 0..usize::from(scale) {
+        size = with_digit(size, decimals.get(place).copied().unwrap_or(b'0'));
+    }
+    size
+}
+
+fn signed(minus: bool, size: u64) -> i64
+    requires { size ≤ greatest_size }
+    ensures { result ≡ signed minus size }
+{
+    let number = size as i64;
+    if minus { -number } else { number }
+}
+
+#[cfg(test)]
+mod tests {
+    use super::*;
+
+    #[test]
+    fn reads_decimal_texts(rt: HostRuntime) {
+        let cases: [(&str, u8, Result<i64, NumFault>); 58] = [
+            ("0", 0, Ok(0)),
+            ("-0", 0, Ok(0)),
+            ("+007.5", 2, Ok(750)),
+            ("-7.5", 2, Ok(-750)),
+            ("3", 2, Ok(300)),
+            ("50.100", 1, Ok(501)),
+            ("1.10", 1, Ok(11)),
+            ("1.0", 0, Ok(1)),
+            ("-12.0000000000", 0, Ok(-12)),
+            ("3.14159", 5, Ok(314159)),
+            ("0.000001", 6, Ok(1)),
+            ("-0.000001", 6, Ok(-1)),
+            ("00000000000000000000000000000000000000007", 0, Ok(7)),
+            ("9999999999999.99", 2, Ok(999_999_999_999_999)),
+            ("10000000000000", 2, Ok(1_000_000_000_000_000)),
+            ("1000000000000000", 0, Ok(1_000_000_000_000_000)),
+            ("-1000000000000000", 0, Ok(-1_000_000_000_000_000)),
+            ("1", 15, Ok(1_000_000_000_000_000)),
+            ("0", 255, Ok(0)),
+            ("", 0, Err(NumFault::NotANumber)),
+            ("-", 0, Err(NumFault::NotANumber)),
+            ("+", 0, Err(NumFault::NotANumber)),
+            (".", 0, Err(NumFault::NotANumber)),
+            (".5", 1, Err(NumFault::NotANumber)),
+            ("-.5", 1, Err(NumFault::NotANumber)),
+            ("5.", 1, Err(NumFault::NotANumber)),
+            ("+1.", 0, Err(NumFault::NotANumber)),
+            ("1e3", 0, Err(NumFault::NotANumber)),
+            ("12a", 0, Err(NumFault::NotANumber)),
+            ("0x10", 0, Err(NumFault::NotANumber)),
+            ("1_000", 0, Err(NumFault::NotANumber)),
+            ("1,5", 1, Err(NumFault::NotANumber)),
+            ("1.2.3", 2, Err(NumFault::NotANumber)),
+            ("1.-5", 1, Err(NumFault::NotANumber)),
+            ("--1", 0, Err(NumFault::NotANumber)),
+            ("+-1", 0, Err(NumFault::NotANumber)),
+            ("-+1", 0, Err(NumFault::NotANumber)),
+            ("1-", 0, Err(NumFault::NotANumber)),
+            (" 1", 0, Err(NumFault::NotANumber)),
+            ("1 ", 0, Err(NumFault::NotANumber)),
+            ("1\n", 0, Err(NumFault::NotANumber)),
+            ("/", 0, Err(NumFault::NotANumber)),
+            (":", 0, Err(NumFault::NotANumber)),
+            ("٣", 0, Err(NumFault::NotANumber)),
+            ("99999999999999999999.1x", 0, Err(NumFault::NotANumber)),
+            ("50.01", 1, Err(NumFault::TooManyDecimals)),
+            ("1.5", 0, Err(NumFault::TooManyDecimals)),
+            ("3.14159", 4, Err(NumFault::TooManyDecimals)),
+            (
+                "0.0000000000000000000000000000000000000001",
+                6,
+                Err(NumFault::TooManyDecimals),
+            ),
+            ("99999999999999999999.1", 0, Err(NumFault::TooManyDecimals)),
+            (
+                "1234567890123456789012345678901234567890.01",
+                1,
+                Err(NumFault::TooManyDecimals),
+            ),
+            ("10000000000000.01", 2, Err(NumFault::PastLimit)),
+            ("1000000000000001", 0, Err(NumFault::PastLimit)),
+            ("-1000000000000001", 0, Err(NumFault::PastLimit)),
+            (
+                "1234567890123456789012345678901234567890",
+                0,
+                Err(NumFault::PastLimit),
+            ),
+            ("-18446744073709551617", 0, Err(NumFault::PastLimit)),
+            ("1", 16, Err(NumFault::PastLimit)),
+            ("2", 255, Err(NumFault::PastLimit)),
+        ];
+        for (text, scale, want) in cases {
+            assert_eq!(rt;
+                read_scaled(text.as_bytes(), scale),
+                want,
+                "{text} at {scale}"
+            );
+        }
+    }
+}
