@@ -1,0 +1,5 @@
+pub mod Lines
+pub mod QueryForm
+pub mod RowForm
+pub mod SchemaForm
+pub mod Texts

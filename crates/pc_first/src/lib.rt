@@ -1,0 +1,7 @@
+//! Readers of the first form of the files: a schema of whole numbers, rows of them, and the count of rows.
+#![tactic(auto)]
+
+mod query;
+mod text;
+
+pub use query::read_query;
