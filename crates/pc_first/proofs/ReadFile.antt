@@ -1,12 +1,11 @@
 -- The constraints of a file, as far as a loop has come, and what is sure of them.
-use Rattle.std.proofs.Common.{◌≡◌, ℕ, ◌+◌, ◌<◌, ◌≤◌, ◌&&◌, not, nat_lt, Bool, true, List, [], ◌∷◌, ◌++◌, length, Option, Some, None, Result, Ok, Err, IfOk, refl, sym, ap, subst, ◌∙◌, arith}
+use Rattle.std.proofs.Common.{◌≡◌, ℕ, ◌+◌, ◌<◌, ◌≤◌, ◌&&◌, not, nat_lt, List, [], ◌∷◌, ◌++◌, length, Some, None, Result, Ok, Err, IfOk, refl, sym, ap, arith}
 use Rattle.std.specs.List.{All}
 use Rattle.std.proofs.lemmas.List.{length-append}
 use Rattle.std.proofs.lemmas.List.Elements.{All-push}
 use Rattle.std.proofs.lemmas.Bool.{and_parts}
 use Rattle.std.proofs.lemmas.Bool.Decides.{nat_tests}
 use Rattle.std.proofs.lemmas.Option.{cond_some}
-use Rattle.pc_model.specs.declared.fault.FileKind.{FileKind}
 use Rattle.pc_model.specs.declared.fault.FileKind.TheVariants as files
 use Rattle.pc_model.specs.declared.fault.Fault.{Fault}
 use Rattle.pc_model.specs.declared.fault.Refusal.{Refusal}
@@ -16,9 +15,9 @@ use Rattle.pc_model.specs.declared.constraint.Constraint.{Constraint}
 use Rattle.pc_model.specs.Boxes.{IsServable}
 use Rattle.pc_model.specs.Refusals.{Gives}
 use Rattle.pc_first.specs.Lines.{lines_of, bad_line, read_lines}
-use Rattle.pc_first.specs.ConstraintForm.{most_rows, constraint_of, most_constraints, has_name, one_more_constraint, with_constraint, constraints_of}
-use Rattle.pc_first.proofs.Reading.{lines_more, lines_bad, lines_end, lines_cut}
-use Rattle.pc_first.proofs.Servable.{Found, found, IsRead, is_read}
+use Rattle.pc_first.specs.ConstraintForm.{constraint_of, most_constraints, has_name, one_more_constraint, with_constraint, constraints_of}
+use Rattle.pc_first.proofs.Reading.{lines_more, lines_bad, lines_end, lines_cut, lines_keep}
+use Rattle.pc_first.proofs.Servable.{found, IsRead, is_read}
 
 -- the constraints are the earlier ones with another after them
 pub record IsLonger (columns : List Column) (before : List Constraint) (line : List ℕ) (more : List Constraint) : Type 0 where
@@ -73,33 +72,13 @@ more_are_read schema before line more are e =
     let longer = is_longer schema.columns before line more e in
     record {
       all = rw longer.is (All-push (IsRead schema) before longer.constraint are.all (is_read schema line longer.constraint longer.of_line));
-      few = omega arith }
-
-same_Ok : {S : Type 0} (a b : S) → ◌≡◌ {A = Result S Fault} (Ok a) (Ok b) → a ≡ b
-same_Ok a b e = cc
-
-err_ok : {S : Type 0} (fault : Fault) (a : S) → ◌≡◌ {A = Result S Fault} (Err fault) (Ok a) → ⊥
-err_ok fault a e = cc
-
-module _ {S : Type 0} (P : S → Type 0) (file : FileKind) (step : S → List ℕ → Option S) (kept : (state : S) (line : List ℕ) (after : S) → P state → step state line ≡ Some after → P after) where
-  lines_keep : (lines : List (List ℕ)) (place : ℕ) (state last : S) → P state → read_lines file step state place lines ≡ Ok last → P last
-  unfolding read_lines
-  lines_keep [] place state last p e = subst P (same_Ok state last e) p
-  lines_keep ([] ∷ []) place state last p e = subst P (same_Ok state last e) p
-  lines_keep ((byte ∷ rest) ∷ []) place state last p e = absurd (err_ok _ last e)
-  lines_keep ([] ∷ next ∷ more) place state last p e =
-    (elim (step state []) as (λ o. step state [] ≡ o → P last) [
-      None ↦ λ none. absurd (err_ok _ last (rw none at e))
-    | Some after ↦ λ some. lines_keep (next ∷ more) (place + 1) after last (kept state [] after p some) (rw some at e) ]) refl
-  lines_keep ((byte ∷ rest) ∷ next ∷ more) place state last p e =
-    (elim (step state (byte ∷ rest)) as (λ o. step state (byte ∷ rest) ≡ o → P last) [
-      None ↦ λ none. absurd (err_ok _ last (rw none at e))
-    | Some after ↦ λ some. lines_keep (next ∷ more) (place + 1) after last (kept state (byte ∷ rest) after p some) (rw some at e) ]) refl
+      few = omega arith;
+    }
 
 are_read : (schema : Schema) (bytes : List ℕ) (constraints : List Constraint) → constraints_of schema bytes ≡ Ok constraints → AreRead schema constraints
 unfolding constraints_of
 are_read schema bytes constraints e =
-    lines_keep (AreRead schema) files.Constraints (with_constraint schema.columns) (more_are_read schema) (lines_of bytes) 1 [] constraints
+    lines_keep files.Constraints (with_constraint schema.columns) (AreRead schema) (more_are_read schema) (lines_of bytes) [] 1 constraints
     (record { all = λ k d inside. absurd (omega arith); few = omega arith }) e
 
 pub can_be_served : (schema : Schema) (bytes : List ℕ) (result : Result (List Constraint) Refusal) → Gives result (constraints_of schema bytes) → IfOk result (All (IsServable schema))

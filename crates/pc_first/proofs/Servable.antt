@@ -1,11 +1,11 @@
 -- What is read of a constraint file can be served.
-use Rattle.std.proofs.Common.{◌≡◌, ℕ, zero, suc, ◌+◌, ◌<◌, ◌≤◌, ◌&&◌, not, nat_lt, nat_le, Bool, true, false, cond, if◌then◌else◌, List, [], ◌∷◌, ◌++◌, length, Option, Some, None, Result, Ok, Err, option_and_then, refl, sym, ap, subst, ◌∙◌, arith, rules, option_map, ℤ, ◌≤ℤ◌, int_le, codes, append_assoc}
+use Rattle.std.proofs.Common.{◌≡◌, ℕ, suc, ◌≤◌, ◌&&◌, nat_le, Bool, true, false, if◌then◌else◌, List, [], ◌∷◌, ◌++◌, length, Option, Some, None, option_and_then, refl, sym, ap, subst, ◌∙◌, arith, rules, option_map, ℤ, ◌≤ℤ◌, int_le, codes, append_assoc}
 use Rattle.std.specs.List.{All, AllZip}
 use Rattle.std.specs.Cmp.Lexicographic.{pointwise}
 use Rattle.std.specs.Cmp.Derive.{both_true}
 use Rattle.std.proofs.lemmas.Int.{ints}
 use Rattle.std.proofs.lemmas.List.{append-nil}
-use Rattle.std.proofs.lemmas.List.Elements.{All-push, All-cons}
+use Rattle.std.proofs.lemmas.List.Elements.{All-cons}
 use Rattle.std.proofs.lemmas.Bool.{and_parts}
 use Rattle.std.proofs.lemmas.Bool.Decides.{nat_tests}
 use Rattle.std.proofs.lemmas.Option.{none-some, same_Some, cond_some}
@@ -179,8 +179,10 @@ together_is_read schema name a b d (Some when) (Some values) (Some counts) const
         when_spans = are_spans when.sides schema.columns when_fits;
         value_spans = are_spans values.sides schema.columns values_fit;
         inside = is_inside schema when when_fits;
-        ordered = are.ordered };
-      small = are.small })
+        ordered = are.ordered;
+      };
+      small = are.small;
+    })
 
 when_is_read : (schema : Schema) (name when rest : List ℕ) (constraint : Constraint) → constraint_when schema.columns name when rest ≡ Some constraint → IsRead schema constraint
 unfolding constraint_when

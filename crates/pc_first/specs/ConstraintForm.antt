@@ -1,5 +1,5 @@
 -- Which constraints a file of the first form stands for, or its first line that is not in the form.
-use Rattle.std.specs.Prelude.{ℕ, zero, suc, ◌+◌, ◌==◌, ◌&&◌, not, Bool, List, [], ◌∷◌, ◌++◌, length, codes, bytes_eq, Option, Some, None, Result, Ok, Err, option_and_then, option_map, position, find, nat_le, nat_lt, int_le, if◌then◌else◌}
+use Rattle.std.specs.Prelude.{ℕ, zero, suc, ◌==◌, ◌&&◌, not, Bool, List, [], ◌∷◌, ◌++◌, length, codes, bytes_eq, Option, Some, None, Result, option_and_then, option_map, position, find, nat_le, nat_lt, int_le, if◌then◌else◌}
 use Rattle.std.specs.List.{list_any}
 use Rattle.std.specs.Option.{option_map_or}
 use Rattle.pc_model.specs.declared.fault.FileKind.TheVariants as files

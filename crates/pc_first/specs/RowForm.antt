@@ -1,5 +1,5 @@
 -- Which rows a file of the first form spells.
-use Rattle.std.specs.Prelude.{◌≡◌, ℕ, ℤ, Bool, List, [], ◌∷◌, ◌++◌, length, bytes_eq, Option, Some, None, option_map, option_and_then, Result, Ok, Err, nat_lt, if◌then◌else◌}
+use Rattle.std.specs.Prelude.{◌≡◌, ℕ, ℤ, Bool, false, List, [], ◌∷◌, ◌++◌, length, bytes_eq, slice_get, is_some, Option, Some, None, option_map, option_and_then, Result, Ok, Err, nat_lt, if◌then◌else◌}
 use Rattle.std.specs.Cmp.Lexicographic.{pointwise}
 use Rattle.pc_model.specs.declared.fault.FileKind.TheVariants as files
 use Rattle.pc_model.specs.declared.fault.Fault.{Fault}
@@ -24,6 +24,26 @@ cell_before None cells = None
 cell_before (Some cell) None = None
 cell_before (Some cell) (Some cells) = Some (cell ∷ cells)
 
+-- whether the column at a place has this test at this field
+abbrev pub passes_at : (Column → List ℕ → Bool) → List Column → ℕ → List ℕ → Bool
+passes_at test columns place field = passes (slice_get columns place)
+  where
+    passes : Option Column → Bool
+    passes None = false
+    passes (Some column) = test column field
+
+abbrev pub is_named : Column → List ℕ → Bool
+is_named column field = bytes_eq column.name field
+
+abbrev pub is_named_at : List Column → ℕ → List ℕ → Bool
+is_named_at columns place field = passes_at is_named columns place field
+
+abbrev pub fits : Column → List ℕ → Bool
+fits column field = is_some (cell_of column.kind field)
+
+abbrev pub fits_at : List Column → ℕ → List ℕ → Bool
+fits_at columns place field = passes_at fits columns place field
+
 -- one field for each column
 unfoldable pub cells_of : List Column → List (List ℕ) → Option (List ℤ)
 cells_of [] [] = Some []
@@ -36,8 +56,8 @@ unfoldable pub row_of : Schema → List ℕ → Option Row
 row_of schema line = option_map (λ cells. record { cells = cells }) (cells_of schema.columns (fields_of line))
 
 -- whether a line has the names of the columns, in their order
-unfoldable pub is_header : Schema → List ℕ → Bool
-is_header schema line = pointwise (λ (column : Column) field. bytes_eq column.name field) schema.columns (fields_of line)
+abbrev pub is_header : Schema → List ℕ → Bool
+is_header schema line = pointwise is_named schema.columns (fields_of line)
 
 -- the rows with that of a line after them, of which there are at most 1,000,000
 abbrev pub with_row : Schema → List Row → List ℕ → Option (List Row)

@@ -1,8 +1,10 @@
 -- Which schema a file of the first form spells.
-use Rattle.std.specs.Prelude.{◌≢◌, ℕ, ◌&&◌, not, ℤ, int_le, Bool, List, [], ◌∷◌, ◌++◌, length, codes, bytes_eq, Option, Some, None, option_map, option_and_then, AllPairs, Result, Ok, Err, nat_lt, if◌then◌else◌}
+use Rattle.std.specs.Prelude.{◌≢◌, ℕ, ◌+◌, ◌&&◌, not, ℤ, int_le, Bool, List, [], ◌∷◌, ◌++◌, length, codes, bytes_eq, Option, Some, None, option_map, option_and_then, ok_or, All, AllPairs, Result, Ok, Err, nat_lt, if◌then◌else◌}
 use Rattle.std.specs.List.{list_any}
 use Rattle.pc_model.specs.declared.fault.FileKind.TheVariants as files
 use Rattle.pc_model.specs.declared.fault.Fault.{Fault}
+use Rattle.pc_model.specs.declared.fault.Refusal.{Refusal}
+use Rattle.pc_model.specs.declared.fault.Refusal.TheVariants as refusals
 use Rattle.pc_model.specs.declared.schema.Kind.{Kind}
 use Rattle.pc_model.specs.declared.schema.Kind.TheVariants.{Int}
 use Rattle.pc_model.specs.declared.schema.Column.{Column}
@@ -19,8 +21,11 @@ kind_between (Some low) (Some high) = if int_le low high then Some (Int low high
 unfoldable pub kind_of : List ℕ → Option Kind
 kind_of text = option_and_then (λ (cut : List ℕ × List ℕ). kind_between (number_of cut.0) (number_of cut.1)) (cut_at (codes ",") text)
 
+abbrev pub column : List ℕ → Kind → Column
+column name kind = record { name = name; kind = kind }
+
 abbrev pub column_named : List ℕ → Option Kind → Option Column
-column_named name kind = if is_free_name name then option_map (λ found. record { name = name; kind = found }) kind else None
+column_named name kind = if is_free_name name then option_map (column name) kind else None
 
 -- NAME,int,LOW,HIGH
 unfoldable pub column_of : List ℕ → Option Column
@@ -34,6 +39,10 @@ unfoldable pub next_column : List Column → List ℕ → Option Column
 next_column before line =
     option_and_then (λ (column : Column). if nat_lt (length before) 12 && not (is_taken before column.name) then Some column else None) (column_of line)
 
+-- the same with the fault of the line, which is one further than there are columns
+abbrev pub column_after : List Column → List ℕ → Result Column Fault
+column_after before line = ok_or (next_column before line) (bad_line files.Schema (length before + 1))
+
 abbrev pub with_column : List Column → List ℕ → Option (List Column)
 with_column before line = option_map (λ column. before ++ column ∷ []) (next_column before line)
 
@@ -43,6 +52,9 @@ schema_from (Ok []) = Err (bad_line files.Schema 1)
 schema_from (Ok (column ∷ columns)) = Ok (record { columns = column ∷ columns })
 schema_from (Err fault) = Err fault
 
+abbrev pub refused : ℕ → Refusal
+refused place = refusals.Fault (bad_line files.Schema place)
+
 -- the schema that a file spells, or its first line that is not in the form
 unfoldable pub schema_of : List ℕ → Result Schema Fault
 schema_of bytes = schema_from (read_lines files.Schema with_column [] 1 (lines_of bytes))
@@ -50,3 +62,7 @@ schema_of bytes = schema_from (read_lines files.Schema with_column [] 1 (lines_o
 -- no two columns have one name
 abbrev pub HaveOwnNames : List Column → Type 0
 HaveOwnNames columns = AllPairs (λ (a b : Column). a.name ≢ b.name) columns
+
+-- none of the columns has this name
+abbrev pub LackName : List ℕ → List Column → Type 0
+LackName name columns = All (λ (column : Column). column.name ≢ name) columns

@@ -1,4 +1,4 @@
-ghost use Rattle.std.specs.Prelude.{◌≡◌, ◌≤◌, true, List, [], All, length, Option, Some, None, MatchOption, IfOk, option_map};
+ghost use Rattle.std.specs.Prelude.{◌≡◌, ◌≤◌, true, List, [], All, length, Option, Some, None, IfOk};
 ghost use Rattle.pc_model.specs.Boxes.{IsServable};
 ghost use Rattle.pc_model.specs.Refusals.{Gives};
 ghost use Rattle.pc_first.specs.ConstraintForm.{place_of, has_atom, atom_at, point_of, span_of, atom_of, one_more, atoms_from, atoms_of, side_of, sides_from, region_of, counts_of, constraint_named, constraint_of, has_name, with_constraint, constraints_of};
@@ -7,12 +7,18 @@ ghost use Rattle.pc_first.specs.Lines.{bad_line};
 ghost use Rattle.pc_model.specs.declared.fault.FileKind.TheVariants as files;
 ghost use Rattle.pc_model.specs.declared.fault.Refusal.TheVariants as refusals;
 
+use crate::line::bad_line;
+use crate::schema::copy_name;
 use crate::text::{cut_at, first_piece, is_free_name, read_digits, read_number};
-use pc_list::{Seq, Text};
-use pc_model::{Column, Constraint, Fault, FileKind, Kind, Reason, Refusal, Region, Schema, Side};
+use pc_list::Seq;
+use pc_model::{Column, Constraint, FileKind, Kind, Refusal, Region, Schema, Side};
 use std::alloc::{AllocError, Global};
 
+#[cfg(test)]
+mod tests;
+
 const MOST_CONSTRAINTS: usize = 20;
+
 const MOST_ROWS: u64 = 10000000;
 
 /// What a part says of the column at a place: its numbers are from `low` to `high`.
@@ -48,7 +54,7 @@ fn constraints_of(alloc: Global, schema: &Schema, bytes: &[u8]) -> Result<Seq<Co
         let place = constraints.len() as u64 + 1;
         constraints = match with_constraint(alloc, columns, constraints, line) {
             Ok(Some(more)) => more,
-            Ok(None) => return Err(bad_line(place)),
+            Ok(None) => return Err(bad_constraint(place)),
             Err(_) => return Err(Refusal::Memory),
         };
         rest = after;
@@ -56,18 +62,14 @@ fn constraints_of(alloc: Global, schema: &Schema, bytes: &[u8]) -> Result<Seq<Co
     if rest.is_empty() {
         Ok(constraints)
     } else {
-        Err(bad_line(constraints.len() as u64 + 1))
+        Err(bad_constraint(constraints.len() as u64 + 1))
     }
 }
 
-fn bad_line(place: u64) -> Refusal
+fn bad_constraint(place: u64) -> Refusal
     ensures { result ≡ refusals.Fault (bad_line files.Constraints place) }
 {
-    Refusal::Fault(Fault {
-        file: FileKind::Constraints,
-        place,
-        reason: Reason::NotBuilt,
-    })
+    Refusal::Fault(bad_line(FileKind::Constraints, place))
 }
 
 #[tactic(auto, unfolding(crate::specs::ConstraintForm::with_constraint))]
@@ -82,7 +84,9 @@ fn with_constraint(
     let Some(constraint) = constraint_of(alloc, columns, line)? else {
         return Ok(None);
     };
-    if constraints.len() >= MOST_CONSTRAINTS || has_name(constraints.as_slice(), constraint.name.as_bytes()) {
+    if constraints.len() >= MOST_CONSTRAINTS
+        || has_name(constraints.as_slice(), constraint.name.as_bytes())
+    {
         return Ok(None);
     }
     constraints.push(constraint)?;
@@ -92,7 +96,9 @@ fn with_constraint(
 fn has_name(constraints: &[Constraint], name: &[u8]) -> bool
     ensures { result ≡ has_name constraints.now name.now }
 {
-    constraints.iter().any(|constraint| constraint.name.as_bytes() == name)
+    constraints
+        .iter()
+        .any(|constraint| constraint.name.as_bytes() == name)
 }
 
 #[tactic(auto, unfolding(crate::specs::ConstraintForm::constraint_of))]
@@ -137,7 +143,7 @@ fn constraint_named(
     let Some((least, most)) = counts_of(counts_text) else {
         return Ok(None);
     };
-    let name = name_text(alloc, name)?;
+    let name = copy_name(alloc, name)?;
     Ok(Some(Constraint {
         name,
         when,
@@ -145,18 +151,6 @@ fn constraint_named(
         least,
         most,
     }))
-}
-
-// The text of a name, whose bytes are all below 128.
-#[tactic(auto, using(crate::proofs::Names::name_is_text))]
-fn name_text(alloc: Global, name: &[u8]) -> Result<Text, AllocError>
-    requires { is_free_name name.now ≡ true }
-    ensures { IfOk result (λ text. text ≡ name.now) }
-{
-    match str::from_utf8(name) {
-        Ok(text) => Text::from_text(alloc, text),
-        Err(_) => unreachable!(),
-    }
 }
 
 #[tactic(auto, unfolding(crate::specs::ConstraintForm::counts_of))]
@@ -187,7 +181,11 @@ fn region_of(alloc: Global, columns: &[Column], text: &[u8]) -> Result<Option<Re
 }
 
 #[tactic(auto, using(crate::proofs::Atoms::sides))]
-fn sides_of(alloc: Global, atoms: &[Atom], columns: &[Column]) -> Result<Option<Seq<Side>>, AllocError>
+fn sides_of(
+    alloc: Global,
+    atoms: &[Atom],
+    columns: &[Column],
+) -> Result<Option<Seq<Side>>, AllocError>
     ensures { IfOk result (λ found. found ≡ sides_from atoms.now [] columns.now) }
 {
     let mut sides = Seq::new(alloc);
@@ -263,7 +261,11 @@ fn joined_atoms(
 }
 
 #[tactic(auto, unfolding(crate::specs::ConstraintForm::one_more))]
-fn one_more(columns: &[Column], mut atoms: Seq<Atom>, text: &[u8]) -> Result<Option<Seq<Atom>>, AllocError>
+fn one_more(
+    columns: &[Column],
+    mut atoms: Seq<Atom>,
+    text: &[u8],
+) -> Result<Option<Seq<Atom>>, AllocError>
     ensures { IfOk result (λ found. found ≡ one_more columns.now atoms text.now) }
 {
     let Some(atom) = atom_of(columns, text) else {
@@ -324,5 +326,7 @@ fn span_of(columns: &[Column], text: &[u8]) -> Option<Atom>
 fn place_of(columns: &[Column], name: &[u8]) -> Option<usize>
     ensures { result ≡ place_of columns.now name.now }
 {
-    columns.iter().position(|column| column.name.as_bytes() == name)
+    columns
+        .iter()
+        .position(|column| column.name.as_bytes() == name)
 }

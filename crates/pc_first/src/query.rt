@@ -1,7 +1,8 @@
 ghost use Rattle.std.specs.Prelude.{◌≡◌};
 ghost use Rattle.pc_first.specs.QueryForm.{query_of};
 
-use pc_model::{Fault, FileKind, Reason};
+use crate::line::bad_line;
+use pc_model::{Fault, FileKind};
 
 /// Reads the text of a query, of which there is only the count of all rows.
 pub fn read_query(text: &[u8]) -> Result<(), Fault>
@@ -10,9 +11,5 @@ pub fn read_query(text: &[u8]) -> Result<(), Fault>
     if text == b"count".as_slice() {
         return Ok(());
     }
-    Err(Fault {
-        file: FileKind::Query,
-        place: 1,
-        reason: Reason::NotBuilt,
-    })
+    Err(bad_line(FileKind::Query, 1))
 }

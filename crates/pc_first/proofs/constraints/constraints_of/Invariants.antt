@@ -6,7 +6,8 @@ use Rattle.pc_first.proofs.constraints.constraints_of.Given as goal
 abbrev pub invariant-loop-line : goal.invariant-loop-line
 invariant-loop-line l = record {
   in_form : read_rest l.schema l.constraints l.rest ≡ constraints_of l.schema l.bytes;
-  few : length l.constraints ≤ 20 }
+  few : length l.constraints ≤ 20;
+}
 
 abbrev pub decreases-loop-line : goal.decreases-loop-line
 decreases-loop-line l = length l.rest
