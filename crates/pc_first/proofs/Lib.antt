@@ -4,3 +4,6 @@ pub mod Names
 pub mod Reading
 pub mod RowLines
 pub mod SchemaLines
+pub mod Atoms
+pub mod Servable
+pub mod ReadFile

@@ -3,3 +3,4 @@ pub mod QueryForm
 pub mod RowForm
 pub mod SchemaForm
 pub mod Texts
+pub mod ConstraintForm

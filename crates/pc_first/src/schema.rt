@@ -63,7 +63,7 @@ fn read_column(alloc: Global, before: &[Column], line: &[u8]) -> Result<Column, 
 
 // A name is text, since its bytes are letters, digits and low lines.
 #[tactic(auto, using(crate::proofs::Names::name_is_text))]
-fn copy_name(alloc: Global, name: &[u8]) -> Result<Text, AllocError>
+pub(crate) fn copy_name(alloc: Global, name: &[u8]) -> Result<Text, AllocError>
     requires { is_free_name name.now ≡ true }
     ensures { IfOk result (λ text. text ≡ name.now) }
 {
