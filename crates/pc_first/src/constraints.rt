@@ -29,7 +29,8 @@ struct Atom {
     high: i64,
 }
 
-/// Reads the constraints of a file in the first form. Whether two of them share a row is not looked at.
+/// Reads the constraints of a file in the first form, or tells the first line that is not in the form.
+/// Whether two of them share a row is not looked at.
 #[tactic(auto, using(crate::proofs::ReadFile::can_be_served, crate::proofs::ReadFile::are_few, crate::proofs::ReadFile::are_small))]
 pub fn read_constraints(
     alloc: Global,
@@ -180,6 +181,7 @@ fn region_of(alloc: Global, columns: &[Column], text: &[u8]) -> Result<Option<Re
     Ok(Some(Region { sides }))
 }
 
+// One side for each column: that of its atom, if the part has one.
 #[tactic(auto, using(crate::proofs::Atoms::sides))]
 fn sides_of(
     alloc: Global,
@@ -237,6 +239,7 @@ fn atoms_of(alloc: Global, columns: &[Column], text: &[u8]) -> Result<Option<Seq
     joined_atoms(alloc, columns, text)
 }
 
+// No column has two atoms, so there are no more atoms than columns.
 #[tactic(auto, using(crate::proofs::Atoms::atoms))]
 fn joined_atoms(
     alloc: Global,
