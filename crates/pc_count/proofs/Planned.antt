@@ -108,6 +108,14 @@ module _ (schema : Schema) where
         λ k d in_list. false_from_ne_true (is_under (get_or after k d) row) (λ also. omega (arith, once, split, next, mine, ap {B = ℕ} (λ (t : Bool). cond t 1 0) also, get_or-le-sum_by (λ (b : Constraint). cond (is_under b row) 1 0) after k d in_list)),
       )
 
+  -- the corner of one of the others is not under the constraint
+  corners_apart : (c : Constraint) (others : List Constraint) → All IsGood others → ((row : Row) → in_domain schema row ≡ true → is_under c row ≡ true → All (λ b. is_under b row ≡ false) others) → All (λ b. is_met b ≡ true → is_under c (corner b) ≡ false) others
+  corners_apart c others good never k d in_list met =
+      let b = get_or others k d in
+      let under_itself = (corner_in_both b.when b.values met).0 in
+      let allowed = corner_allowed b (good k d in_list).servable met in
+      false_from_ne_true (is_under c (corner b)) (λ under. true≢false (sym under_itself ∙ never (corner b) allowed under k d in_list))
+
   meets_parts : (c : Constraint) (xs ys zs : List Row) → All (λ row. is_under c row ≡ false) xs → All (λ row. is_under c row ≡ true) ys → All (λ row. has c.values row ≡ true) ys → All (λ row. is_under c row ≡ false) zs → c.least ≤ length ys → length ys ≤ c.most → Meets c (xs ++ (ys ++ zs))
   meets_parts c xs ys zs no_x under values no_z enough not_more =
       let front = sum_by-append (λ row. cond (is_under c row) 1 0) xs (ys ++ zs) in
@@ -133,10 +141,10 @@ module _ (schema : Schema) where
         let split = lost-append extreme before (c ∷ after) ∙ ap (λ rows. lost extreme before ++ rows) (lost-cons extreme c after) in
         subst (Meets c) (sym split)
         (meets_parts c (lost extreme before) (own extreme c) (lost extreme after)
-        (lost_each (λ row. is_under c row ≡ false) extreme before (λ k d in_list met. false_from_ne_true (is_under c (corner (get_or before k d))) (λ under. true≢false (sym (corner_in_both (get_or before k d).when (get_or before k d).values met).0 ∙ (never_both before after c disjoint (corner (get_or before k d)) (corner_allowed (get_or before k d) (good_before k d in_list).servable met) under).0 k d in_list))))
+        (lost_each (λ row. is_under c row ≡ false) extreme before (corners_apart c before good_before (λ row allowed under. (never_both before after c disjoint row allowed under).0)))
         (own_each (λ row. is_under c row ≡ true) extreme c (λ met. (met_corner met).0))
         (own_each (λ row. has c.values row ≡ true) extreme c (λ met. (met_corner met).1))
-        (lost_each (λ row. is_under c row ≡ false) extreme after (λ k d in_list met. false_from_ne_true (is_under c (corner (get_or after k d))) (λ under. true≢false (sym (corner_in_both (get_or after k d).when (get_or after k d).values met).0 ∙ (never_both before after c disjoint (corner (get_or after k d)) (corner_allowed (get_or after k d) (good_after k d in_list).servable met) under).1 k d in_list))))
+        (lost_each (λ row. is_under c row ≡ false) extreme after (corners_apart c after good_after (λ row allowed under. (never_both before after c disjoint row allowed under).1)))
         (omega (arith, within, long)) (omega (arith, within, long)))
 
     meets_all : (cs before after : List Constraint) → cs ≡ before ++ after → AreDisjoint schema cs → All IsGood before → All IsGood after → All (λ c. Meets c (lost extreme cs)) after

@@ -6,7 +6,8 @@ use pc_list::Seq;
 use pc_model::{Region, Row, Side};
 use std::alloc::{AllocError, Global};
 
-/// Whether two spans have a number in common.
+/// Whether two spans have a number in common. Of other sides, which no box of number columns has, it
+/// says no.
 fn sides_meet(side: &Side, other: &Side) -> bool
     ensures { result ≡ sides_meet side.now other.now }
 {

@@ -76,12 +76,12 @@ refused_no call can refused' =
 unread_no : (call : Call) → IsAnswerable call → HasReadFault call → ⊥
 unread_no call can fault =
     ⊎_elim (λ rose. can.loads rose)
-      (λ is_absent.
-        let names = same_names call.words fault.names can.names fault.command can.command in
-        let none = rw (can.told, names) at is_absent in
-        let reached = rw names at fault.unread.reached in
-        held_file can.names can.files (held_from can.names can.files can.accepted can.is_accepted) call.files can.told fault.file reached none)
-      fault.unread.cause
+    (λ is_absent.
+    let names = same_names call.words fault.names can.names fault.command can.command in
+    let none = rw (can.told, names) at is_absent in
+    let reached = rw names at fault.unread.reached in
+    held_file can.names can.files (held_from can.names can.files can.accepted can.is_accepted) call.files can.told fault.file reached none)
+    fault.unread.cause
 
 pub answers : (call : Call) (status : Status) → Means call status → IsAnswerable call → IsDoneUnlessMemory status
 answers call ended.Done means can = inl refl

@@ -27,7 +27,6 @@ rises before middle now earlier rose = omega arith
 later_cause : (told : Option Files) (name : List ℕ) (before middle now : ℕ) → before ≤ middle → Rose middle now ⊎ IsAbsent told name → Rose before now ⊎ IsAbsent told name
 later_cause told name before middle now earlier cause = ⊎_elim (λ rose. inl (rises before middle now earlier rose)) (λ is_absent. inr is_absent) cause
 
-
 -- what one part of the call says of the shelf after it, said of the shelf before it
 pub moved_rows : (schema : Schema) (name : List ℕ) (stop : Stop) (later told : Option Files) → later ≡ told → AgreesOnRows later schema name (Err stop) → AgreesOnRows told schema name (Err stop)
 moved_rows schema name stop later told same agrees = subst (λ (t : Option Files). AgreesOnRows t schema name (Err stop)) same agrees

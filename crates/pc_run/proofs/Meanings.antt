@@ -67,16 +67,16 @@ outcome_whole call names status text command (Err (absent file)) says agrees wri
 command_whole : (call : Call) (status : Status) (text : List ℕ) → RepliesToCommand call.files call.words call.loads_before call.loads_after status text → IsWritten call text → Means call status
 command_whole call status text replies written =
     ⊎_elim
-      (λ (says : SaysFault call.files replies.names call.loads_before call.loads_after status text). rw says.ended (told_fault call replies.names status text replies.command says (inl written)))
-      (λ (says : SaysOutcome call.files replies.names status text). outcome_whole call replies.names status text replies.command says.outcome says.says says.agrees written)
-      replies.replies
+    (λ (says : SaysFault call.files replies.names call.loads_before call.loads_after status text). rw says.ended (told_fault call replies.names status text replies.command says (inl written)))
+    (λ (says : SaysOutcome call.files replies.names status text). outcome_whole call replies.names status text replies.command says.outcome says.says says.agrees written)
+    replies.replies
 
 pub means_whole : (call : Call) (status : Status) (text : List ℕ) → RespondsIn call status text → IsWritten call text → Means call status
 means_whole call status text responds written =
     ⊎_elim
-      (λ (none : (command_of call.words ≡ None) × (status ≡ ended.Usage) × (text ≡ usage_line)). rw none.1 (told_usage call text none.0 none.2 (inl written)))
-      (λ (replies : RepliesToCommand call.files call.words call.loads_before call.loads_after status text). command_whole call status text replies written)
-      responds
+    (λ (none : (command_of call.words ≡ None) × (status ≡ ended.Usage) × (text ≡ usage_line)). rw none.1 (told_usage call text none.0 none.2 (inl written)))
+    (λ (replies : RepliesToCommand call.files call.words call.loads_before call.loads_after status text). command_whole call status text replies written)
+    responds
 
 -- a front of it was put
 outcome_cut_off : (call : Call) (names : Names) (status : Status) (text : List ℕ) → command_of call.words ≡ Some names → (outcome : Result Accepted Obstacle) → Says outcome status text → IfSome call.files (λ files. accepted_under names files ≡ outcome) → IsCutOff call text → Means call (after_failed_put status)
@@ -89,13 +89,13 @@ outcome_cut_off call names status text command (Err (absent file)) says agrees c
 command_cut_off : (call : Call) (status : Status) (text : List ℕ) → RepliesToCommand call.files call.words call.loads_before call.loads_after status text → IsCutOff call text → Means call (after_failed_put status)
 command_cut_off call status text replies cut =
     ⊎_elim
-      (λ (says : SaysFault call.files replies.names call.loads_before call.loads_after status text). rw says.ended (told_fault call replies.names status text replies.command says (inr cut)))
-      (λ (says : SaysOutcome call.files replies.names status text). outcome_cut_off call replies.names status text replies.command says.outcome says.says says.agrees cut)
-      replies.replies
+    (λ (says : SaysFault call.files replies.names call.loads_before call.loads_after status text). rw says.ended (told_fault call replies.names status text replies.command says (inr cut)))
+    (λ (says : SaysOutcome call.files replies.names status text). outcome_cut_off call replies.names status text replies.command says.outcome says.says says.agrees cut)
+    replies.replies
 
 pub means_cut_off : (call : Call) (status : Status) (text : List ℕ) → RespondsIn call status text → IsCutOff call text → Means call (after_failed_put status)
 means_cut_off call status text responds cut =
     ⊎_elim
-      (λ (none : (command_of call.words ≡ None) × (status ≡ ended.Usage) × (text ≡ usage_line)). rw none.1 (told_usage call text none.0 none.2 (inr cut)))
-      (λ (replies : RepliesToCommand call.files call.words call.loads_before call.loads_after status text). command_cut_off call status text replies cut)
-      responds
+    (λ (none : (command_of call.words ≡ None) × (status ≡ ended.Usage) × (text ≡ usage_line)). rw none.1 (told_usage call text none.0 none.2 (inr cut)))
+    (λ (replies : RepliesToCommand call.files call.words call.loads_before call.loads_after status text). command_cut_off call status text replies cut)
+    responds

@@ -25,7 +25,11 @@ pub(crate) struct Case {
 }
 
 /// Reads the files of a command in their order, and then its query.
-pub(crate) fn read_case<F: Shelf>(alloc: Global, files: &mut F, command: &Command) -> Result<Case, Stop>
+pub(crate) fn read_case<F: Shelf>(
+    alloc: Global,
+    files: &mut F,
+    command: &Command,
+) -> Result<Case, Stop>
     ensures agrees { CaseAgrees (F.files files.old) (names_in command.now) (F.faults files.old) (F.faults files.new) result }
     ensures sound { IfOk result IsSound }
     ensures files_stay { F.files files.new ≡ F.files files.old }

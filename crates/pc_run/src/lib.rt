@@ -10,6 +10,8 @@ mod loading;
 mod reply;
 mod report;
 mod stop;
+#[cfg(test)]
+mod tests;
 
 use pc_base::{Put, Shelf, Sink, Status};
 use reply::respond;

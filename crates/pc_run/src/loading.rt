@@ -1,7 +1,9 @@
 ghost use Rattle.std.specs.Prelude.{◌≡◌, ◌≤◌, List, IfOk, All, length};
 ghost use Rattle.pc_model.specs.declared.constraint.Constraint.{Constraint as ConstraintData};
 ghost use Rattle.pc_model.specs.declared.fault.FileKind.TheVariants as kinds;
-ghost use Rattle.pc_model.specs.Boxes.{AreWhole, IsServable};
+ghost use Rattle.pc_model.specs.Boxes.{IsServable};
+ghost use Rattle.pc_model.specs.declared.fault.Reason.TheVariants as reasons;
+ghost use Rattle.pc_model.specs.Refusals.{fault_at};
 ghost use Rattle.pc_base.specs.Counts.{RoseByOne};
 ghost use Rattle.pc_run.specs.Outcome.{bytes_under, schema_under, constraints_under};
 ghost use Rattle.pc_run.specs.Loading.{Agrees, AgreesOnRows, HasCause};
@@ -17,7 +19,12 @@ use std::alloc::Global;
 const FILE_LIMIT: usize = 67_108_864;
 
 /// Loads the bytes of a file.
-fn load_bytes<F: Shelf>(alloc: Global, files: &mut F, file: FileKind, name: &str) -> Result<Seq<u8>, Stop>
+fn load_bytes<F: Shelf>(
+    alloc: Global,
+    files: &mut F,
+    file: FileKind,
+    name: &str,
+) -> Result<Seq<u8>, Stop>
     ensures agrees { Agrees file (F.files files.old) (bytes_under file name.now) result }
     ensures cause { HasCause (F.files files.old) name.now (F.faults files.old) (F.faults files.new) result }
     ensures files_stay { F.files files.new ≡ F.files files.old }
@@ -27,32 +34,45 @@ fn load_bytes<F: Shelf>(alloc: Global, files: &mut F, file: FileKind, name: &str
     let mut bytes = Vec::new(alloc);
     match files.load(alloc, name, &mut bytes, FILE_LIMIT) {
         Loaded::Whole => Ok(Seq::from_vec(bytes)),
-        Loaded::Long => Err(Stop::Refused(Fault {
-            file,
-            place: 0,
-            reason: Reason::TooLong,
-        })),
+        Loaded::Long => Err(Stop::Refused(too_long(file))),
         Loaded::Failed => Err(Stop::Unread(file)),
         Loaded::Memory => Err(Stop::Memory),
     }
 }
 
+fn too_long(file: FileKind) -> Fault
+    ensures { result ≡ fault_at file 0 reasons.TooLong }
+{
+    Fault {
+        file,
+        place: 0,
+        reason: Reason::TooLong,
+    }
+}
+
 /// Loads and reads the schema.
-pub(crate) fn load_schema<F: Shelf>(alloc: Global, files: &mut F, name: &str) -> Result<Schema, Stop>
+pub(crate) fn load_schema<F: Shelf>(
+    alloc: Global,
+    files: &mut F,
+    name: &str,
+) -> Result<Schema, Stop>
     ensures agrees { Agrees kinds.Schema (F.files files.old) (schema_under name.now) result }
     ensures cause { HasCause (F.files files.old) name.now (F.faults files.old) (F.faults files.new) result }
     ensures files_stay { F.files files.new ≡ F.files files.old }
     ensures faults_stay { F.faults files.old ≤ F.faults files.new }
     ensures one_call { RoseByOne (F.calls files.old) (F.calls files.new) }
-    ensures whole { IfOk result (λ schema. AreWhole schema.columns) }
 {
     let bytes = load_bytes(alloc, files, FileKind::Schema, name)?;
     Ok(read_schema(alloc, bytes.as_slice())?)
 }
 
 /// Loads the observed rows and counts them.
-pub(crate) fn load_rows<F: Shelf>(alloc: Global, files: &mut F, name: &str, schema: &Schema) -> Result<u64, Stop>
-    requires { AreWhole schema.now.columns }
+pub(crate) fn load_rows<F: Shelf>(
+    alloc: Global,
+    files: &mut F,
+    name: &str,
+    schema: &Schema,
+) -> Result<u64, Stop>
     ensures agrees { AgreesOnRows (F.files files.old) schema.now name.now result }
     ensures cause { HasCause (F.files files.old) name.now (F.faults files.old) (F.faults files.new) result }
     ensures files_stay { F.files files.new ≡ F.files files.old }
@@ -65,8 +85,12 @@ pub(crate) fn load_rows<F: Shelf>(alloc: Global, files: &mut F, name: &str, sche
 }
 
 /// Loads and reads the constraints.
-pub(crate) fn load_constraints<F: Shelf>(alloc: Global, files: &mut F, name: &str, schema: &Schema) -> Result<Seq<Constraint>, Stop>
-    requires { AreWhole schema.now.columns }
+pub(crate) fn load_constraints<F: Shelf>(
+    alloc: Global,
+    files: &mut F,
+    name: &str,
+    schema: &Schema,
+) -> Result<Seq<Constraint>, Stop>
     ensures agrees { Agrees kinds.Constraints (F.files files.old) (constraints_under schema.now name.now) result }
     ensures cause { HasCause (F.files files.old) name.now (F.faults files.old) (F.faults files.new) result }
     ensures files_stay { F.files files.new ≡ F.files files.old }

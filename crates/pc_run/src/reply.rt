@@ -18,7 +18,11 @@ pub(crate) struct Reply {
 }
 
 /// The reply to any words.
-pub(crate) fn respond<F: Shelf>(alloc: Global, words: &[String], files: &mut F) -> Result<Reply, AllocError>
+pub(crate) fn respond<F: Shelf>(
+    alloc: Global,
+    words: &[String],
+    files: &mut F,
+) -> Result<Reply, AllocError>
     ensures responds { IfOk result (λ reply. Responds (F.files files.old) (map string_bytes words.now) (F.faults files.old) (F.faults files.new) reply.status (string_bytes reply.text)) }
     ensures files_stay { F.files files.new ≡ F.files files.old }
     ensures faults_stay { F.faults files.old ≤ F.faults files.new }
@@ -62,6 +66,11 @@ fn report_case(alloc: Global, case: &Case) -> Result<String, AllocError>
     requires { IsSound case.now }
     ensures { IfOk result (λ text. SaysCase case.now (string_bytes text)) }
 {
-    let answer = bound_count(alloc, &case.schema, case.observed, case.constraints.as_slice())?;
+    let answer = bound_count(
+        alloc,
+        &case.schema,
+        case.observed,
+        case.constraints.as_slice(),
+    )?;
     report(alloc, &answer)
 }

@@ -49,17 +49,23 @@ pub(crate) fn report(alloc: Global, answer: &CountAnswer) -> Result<String, Allo
             let high_lines = run_lines(alloc, high_runs.as_slice())?;
             possible_report(alloc, *low, low_lines.as_str(), *high, high_lines.as_str())
         }
-        CountAnswer::Impossible => {
-            String::from_str(alloc, "query count\nrelation impossible\n")
-        }
+        CountAnswer::Impossible => { String::from_str(alloc, "query count\nrelation impossible\n") }
     }
 }
 
 #[tactic(auto, unfolding(crate::specs::Reports::possible_report))]
-fn possible_report(alloc: Global, low: u64, low_lines: &str, high: u64, high_lines: &str) -> Result<String, AllocError>
+fn possible_report(
+    alloc: Global,
+    low: u64,
+    low_lines: &str,
+    high: u64,
+    high_lines: &str,
+) -> Result<String, AllocError>
     ensures { IfOk result (λ text. string_bytes text ≡ possible_report low low_lines.now high high_lines.now) }
 {
-    format!(in alloc; "query count\nrelation possible\n{low_lines}low {low} exact\n{low_lines}high {high} exact\n{high_lines}")
+    format!(in alloc;
+        "query count\nrelation possible\n{low_lines}low {low} exact\n{low_lines}high {high} exact\n{high_lines}"
+    )
 }
 
 /// A line for each run.

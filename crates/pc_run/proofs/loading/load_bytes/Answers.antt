@@ -7,4 +7,4 @@ returns-in-Whole-clause-agrees g c =
 
 pub returns-in-Long-clause-agrees : goal.returns-in-Long-clause-agrees
 returns-in-Long-clause-agrees g c =
-    agrees_long c.args.file (g.F.Shelf.files c.args.files.now) c.args.name.now c.load.new.into.items c.in-Long.ensures.gives.1
+    rw c.too_long.ensures (agrees_long c.args.file (g.F.Shelf.files c.args.files.now) c.args.name.now c.load.new.into.items c.in-Long.ensures.gives.1)

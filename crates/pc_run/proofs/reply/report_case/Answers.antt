@@ -9,4 +9,4 @@ pub returns : goal.returns
 returns c =
     let right = rw c.as_slice.ensures at c.in_ok-answer.ensures in
     IfOk-weaker c.report.result (λ text. string_bytes text ≡ report_of c.in_ok-answer.answer) (λ text. SaysCase c.args.case.now (string_bytes text))
-      (λ text reported. says_case c.args.case.now c.in_ok-answer.answer (string_bytes text) c.requires.disjoint right reported) c.report.ensures
+    (λ text reported. says_case c.args.case.now c.in_ok-answer.answer (string_bytes text) c.requires.disjoint right reported) c.report.ensures

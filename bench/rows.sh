@@ -1,0 +1,54 @@
+#!/usr/bin/env bash
+# Times `pc bound` on 1,000,000 rows of 12 columns, and prints time and peak memory as ratios to sqlite3's
+# import of the same file in the same run. Run ./build first. Usage: bench/rows.sh [RUNS]
+set -eu
+top=$(cd "$(dirname "$0")/.." && pwd)
+runs=${1:-3}
+[ -x "$top/pc" ] || { echo "bench/rows.sh: run ./build first" >&2; exit 1; }
+work=$(mktemp -d)
+trap 'rm -rf "$work"' EXIT
+cd "$work"
+
+names=a,b,c,d,e,f,g,h,i,j,k,l
+for name in ${names//,/ }; do echo "$name,int,0,99999"; done > schema.csv
+awk -v names="$names" 'BEGIN {
+  print names
+  seed = 12345
+  for (row = 0; row < 1000000; row++) {
+    line = ""
+    for (column = 0; column < 12; column++) {
+      seed = (seed * 1103515245 + 12345) % 2147483648
+      line = line (column ? "," : "") (seed % 10000)
+    }
+    print line
+  }
+}' > rows.csv
+printf 'p: a in 0..49999 => b in 0..9, 1..3\nq: a in 50000..99999 => true, 0..2\n' > constraints.txt
+echo "rows.csv: $(wc -c < rows.csv) bytes, $(($(wc -l < rows.csv) - 1)) rows"
+
+# measure COMMAND..: seconds and peak kilobytes of one run
+measure() {
+  python3 - "$@" <<'PY'
+import resource, subprocess, sys, time
+begin = time.monotonic()
+done = subprocess.run(sys.argv[1:], stdin=subprocess.DEVNULL, stdout=subprocess.DEVNULL)
+seconds = time.monotonic() - begin
+print(f"{seconds:.3f} {resource.getrusage(resource.RUSAGE_CHILDREN).ru_maxrss}")
+sys.exit(done.returncode)
+PY
+}
+
+for run in $(seq "$runs"); do
+  ours=$(measure "$top/pc" bound schema.csv rows.csv constraints.txt count)
+  line="run $run: pc ${ours% *} s, ${ours#* } kB"
+  if command -v sqlite3 >/dev/null; then
+    rm -f rows.db
+    theirs=$(measure sqlite3 rows.db ".import --csv rows.csv t")
+    line="$line; sqlite3 ${theirs% *} s, ${theirs#* } kB"
+    line="$line; time $(awk "BEGIN { printf \"%.2f\", ${ours% *} / ${theirs% *} }"), memory $(awk "BEGIN { printf \"%.2f\", ${ours#* } / ${theirs#* } }")"
+  else
+    line="$line; sqlite3 is missing, so there is no ratio"
+  fi
+  echo "$line"
+done
+echo "memory over the file: $(awk "BEGIN { printf \"%.2f\", ${ours#* } * 1024 / $(wc -c < rows.csv) }")"
