@@ -1,0 +1,5 @@
+pub mod Boxed
+pub mod Counting
+pub mod Overlap
+pub mod Plan
+pub mod Sides

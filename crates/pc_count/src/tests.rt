@@ -1,0 +1,150 @@
+use crate::{CountAnswer, are_servable, bound_count, find_overlap, total_most};
+use pc_list::{Seq, Text};
+use pc_model::{Column, Constraint, Kind, Region, Run, Schema, Side};
+use std::alloc::{AllocError, Global};
+use std::test::Fail;
+
+fn column(alloc: Global, name: &str, low: i64, high: i64) -> Result<Column, AllocError> {
+    Ok(Column {
+        name: Text::from_text(alloc, name)?,
+        kind: Kind::Int { low, high },
+    })
+}
+
+/// Items from 1 to 9, in weeks from 1 to 4.
+fn schema(alloc: Global) -> Result<Schema, AllocError> {
+    let item = column(alloc, "item", 1, 9)?;
+    let week = column(alloc, "week", 1, 4)?;
+    Ok(Schema {
+        columns: Seq::from_vec(vec![in alloc; item, week]?),
+    })
+}
+
+/// All items in these weeks.
+fn weeks(alloc: Global, low: i64, high: i64) -> Result<Region, AllocError> {
+    let item = Side::Span { low: 1, high: 9 };
+    let week = Side::Span { low, high };
+    Ok(Region {
+        sides: Seq::from_vec(vec![in alloc; item, week]?),
+    })
+}
+
+/// From `least` to `most` rows in these weeks.
+fn rows_in(
+    alloc: Global,
+    low: i64,
+    high: i64,
+    least: u64,
+    most: u64,
+) -> Result<Constraint, AllocError> {
+    Ok(Constraint {
+        name: Text::from_text(alloc, "c")?,
+        when: weeks(alloc, low, high)?,
+        values: weeks(alloc, 1, 4)?,
+        least,
+        most,
+    })
+}
+
+/// From `least` to `most` rows in week 1, each of which is in week 2.
+fn contradiction(alloc: Global, least: u64, most: u64) -> Result<Constraint, AllocError> {
+    Ok(Constraint {
+        name: Text::from_text(alloc, "c")?,
+        when: weeks(alloc, 1, 1)?,
+        values: weeks(alloc, 2, 2)?,
+        least,
+        most,
+    })
+}
+
+#[test]
+fn counts_rows_of_two_boxes(rt: HostRuntime) -> Result<(), Fail> {
+    let alloc = rt.alloc();
+    let schema = schema(alloc)?;
+    let constraints = vec![in alloc; rows_in(alloc, 1, 2, 1, 3)?, rows_in(alloc, 4, 4, 0, 2)?]?;
+    assert!(rt; are_servable(&schema, &constraints));
+    assert!(rt; find_overlap(&schema, &constraints).is_none());
+    assert!(rt; total_most(2, &constraints).is_some());
+    match bound_count(alloc, &schema, 2, &constraints)? {
+        CountAnswer::Possible {
+            low,
+            low_runs,
+            high,
+            high_runs,
+        } => {
+            let first = weeks(alloc, 1, 2)?;
+            let second = weeks(alloc, 4, 4)?;
+            assert_eq!(rt; low, 3);
+            assert!(rt; low_runs.len() == 1);
+            assert!(rt; is_run_in(&low_runs.as_slice()[0], 1, &first));
+            assert_eq!(rt; high, 7);
+            assert!(rt; high_runs.len() == 2);
+            assert!(rt; is_run_in(&high_runs.as_slice()[0], 3, &first));
+            assert!(rt; is_run_in(&high_runs.as_slice()[1], 2, &second));
+        }
+        CountAnswer::Impossible => assert!(rt; false),
+    }
+    Ok(())
+}
+
+fn is_run_in(run: &Run, times: u64, region: &Region) -> bool {
+    run.times == times && region.has(&run.row)
+}
+
+#[test]
+fn tells_what_is_impossible(rt: HostRuntime) -> Result<(), Fail> {
+    let alloc = rt.alloc();
+    let schema = schema(alloc)?;
+    let constraints = vec![in alloc; contradiction(alloc, 1, 2)?]?;
+    assert!(rt; are_servable(&schema, &constraints));
+    assert!(rt; find_overlap(&schema, &constraints).is_none());
+    assert!(rt; total_most(2, &constraints).is_some());
+    let answer = bound_count(alloc, &schema, 2, &constraints)?;
+    assert!(rt; answer == CountAnswer::Impossible);
+    Ok(())
+}
+
+#[test]
+fn leaves_out_what_asks_for_no_rows(rt: HostRuntime) -> Result<(), Fail> {
+    let alloc = rt.alloc();
+    let schema = schema(alloc)?;
+    let constraints = vec![in alloc; contradiction(alloc, 0, 2)?]?;
+    assert!(rt; are_servable(&schema, &constraints));
+    assert!(rt; find_overlap(&schema, &constraints).is_none());
+    assert!(rt; total_most(2, &constraints).is_some());
+    let answer = bound_count(alloc, &schema, 2, &constraints)?;
+    let wanted = CountAnswer::Possible {
+        low: 2,
+        low_runs: Seq::new(alloc),
+        high: 2,
+        high_runs: Seq::new(alloc),
+    };
+    assert!(rt; answer == wanted);
+    Ok(())
+}
+
+#[test]
+fn finds_the_first_overlap(rt: HostRuntime) -> Result<(), Fail> {
+    let alloc = rt.alloc();
+    let schema = schema(alloc)?;
+    let pair = vec![in alloc; rows_in(alloc, 1, 2, 1, 3)?, rows_in(alloc, 2, 2, 0, 1)?]?;
+    assert!(rt; are_servable(&schema, &pair));
+    assert_eq!(rt; find_overlap(&schema, &pair), Some(1));
+    let three = vec![in alloc;
+        rows_in(alloc, 1, 2, 1, 3)?,
+        rows_in(alloc, 4, 4, 0, 2)?,
+        rows_in(alloc, 2, 2, 0, 1)?,
+    ]?;
+    assert!(rt; are_servable(&schema, &three));
+    assert_eq!(rt; find_overlap(&schema, &three), Some(2));
+    Ok(())
+}
+
+#[test]
+fn refuses_sums_past_64_bits(rt: HostRuntime) -> Result<(), Fail> {
+    let alloc = rt.alloc();
+    let constraints = vec![in alloc; rows_in(alloc, 1, 2, 0, u64::MAX)?]?;
+    assert_eq!(rt; total_most(0, &constraints), Some(u64::MAX));
+    assert_eq!(rt; total_most(1, &constraints), None);
+    Ok(())
+}

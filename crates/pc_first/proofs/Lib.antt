@@ -1,0 +1,9 @@
+pub mod Cuts
+pub mod Fields
+pub mod Names
+pub mod Reading
+pub mod RowLines
+pub mod SchemaLines
+pub mod Atoms
+pub mod Servable
+pub mod ReadFile

@@ -1,0 +1,6 @@
+pub mod Lines
+pub mod QueryForm
+pub mod RowForm
+pub mod SchemaForm
+pub mod Texts
+pub mod ConstraintForm

@@ -1,0 +1,93 @@
+-- A run over files that are held and accepted, where no load and no put failed, is done or has no memory.
+use Rattle.std.proofs.Common.{◌≡◌, ℕ, ◌⊎◌, ⊎_elim, inl, inr, List, length, nat_lt, if◌then◌else◌, Option, Some, None, Result, Ok, Err, IsOk, IsOkAnd, IfSome, sym, subst, ap, refl, ◌∙◌}
+use Rattle.pc_model.specs.declared.schema.Schema.{Schema}
+use Rattle.pc_model.specs.declared.row.Row.{Row}
+use Rattle.pc_model.specs.declared.fault.Fault.{Fault}
+use Rattle.pc_model.specs.declared.fault.FileKind.{FileKind}
+use Rattle.pc_model.specs.declared.fault.FileKind.TheVariants as kinds
+use Rattle.pc_base.specs.declared.status.Status.{Status}
+use Rattle.pc_base.specs.declared.status.Status.TheVariants as ended
+use Rattle.pc_base.specs.Files.{Files, file_of, IsAbsent}
+use Rattle.pc_run.specs.Words.{Names, name_of, command_of}
+use Rattle.pc_run.specs.Outcome.{Obstacle, refused, absent, Accepted, and_then, bytes_in, bytes_under, or_refused, schema_under, observed_under, constraints_under, accepted_under}
+use Rattle.pc_run.specs.Replies.{IsReached, IsUnread}
+use Rattle.pc_run.specs.Meaning.{Call, IsNoCommand, IsRefused, HasReadFault, Means, IsAnswerable, IsDoneUnlessMemory}
+
+-- what a chain of steps that succeeds is made of
+record Step {X Y : Type 0} (first : Result X Obstacle) (next : X → Result Y Obstacle) (y : Y) : Type 0 where
+  value : X
+  first_is : first ≡ Ok value
+  next_is : next value ≡ Ok y
+
+step : {X Y : Type 0} (first : Result X Obstacle) (next : X → Result Y Obstacle) (y : Y) → and_then first next ≡ Ok y → Step first next y
+step (Ok x) next y is = record { value = x; first_is = refl; next_is = is }
+step {X} {Y} (Err obstacle) next y is = let no : ⊥ = cc in absurd no
+
+absent_bytes : (file : FileKind) (name : List ℕ) (files : Files) → file_of files name ≡ None → bytes_under file name files ≡ Err (absent file)
+unfolding bytes_under
+absent_bytes file name files none = rw none refl
+
+absent_schema : (name : List ℕ) (files : Files) → file_of files name ≡ None → schema_under name files ≡ Err (absent kinds.Schema)
+unfolding schema_under
+absent_schema name files none = rw (absent_bytes kinds.Schema name files none) refl
+
+absent_rows : (schema : Schema) (name : List ℕ) (files : Files) → file_of files name ≡ None → observed_under schema name files ≡ Err (absent kinds.Rows)
+unfolding observed_under
+absent_rows schema name files none = rw (absent_bytes kinds.Rows name files none) refl
+
+absent_constraints : (schema : Schema) (name : List ℕ) (files : Files) → file_of files name ≡ None → constraints_under schema name files ≡ Err (absent kinds.Constraints)
+unfolding constraints_under
+absent_constraints schema name files none = rw (absent_bytes kinds.Constraints name files none) refl
+
+-- the steps of accepted files
+record Held (names : Names) (files : Files) : Type 0 where
+  schema : Schema
+  rows : List Row
+  schema_is : schema_under names.schema files ≡ Ok schema
+  rows_are : observed_under schema names.rows files ≡ Ok rows
+  constraints_are : IsOk (constraints_under schema names.constraints files)
+
+held_from : (names : Names) (files : Files) (accepted : Accepted) → accepted_under names files ≡ Ok accepted → Held names files
+unfolding accepted_under
+held_from names files accepted is =
+    let first = step (schema_under names.schema files) _ accepted is in
+    let second = step (observed_under first.value names.rows files) _ accepted first.next_is in
+    let third = step (constraints_under first.value names.constraints files) _ accepted second.next_is in
+    record { schema = first.value; rows = second.value; schema_is = first.first_is; rows_are = second.first_is; constraints_are = rw third.first_is refl }
+
+-- no file that is reached is absent
+held_file : (names : Names) (files : Files) → Held names files → (told : Option Files) → told ≡ Some files → (file : FileKind) → IsReached told names file → file_of files (name_of names file) ≡ None → ⊥
+held_file names files held told is kinds.Schema reached none = let both = sym held.schema_is ∙ absent_schema names.schema files none in cc
+held_file names files held told is kinds.Rows reached none = let both = sym held.rows_are ∙ absent_rows held.schema names.rows files none in cc
+held_file names files held told is kinds.Constraints reached none = let h = rw (absent_constraints held.schema names.constraints files none) at held.constraints_are in cc
+held_file names files held told is kinds.Query reached none = absurd reached
+held_file names files held told is kinds.Document reached none = absurd reached
+
+same_names : (words : List (List ℕ)) (a b : Names) → command_of words ≡ Some a → command_of words ≡ Some b → a ≡ b
+same_names words a b is_a is_b = let both : Some a ≡ Some b = sym is_a ∙ is_b in cc
+
+refused_no : (call : Call) → IsAnswerable call → IsRefused call → ⊥
+refused_no call can refused' =
+    let names = same_names call.words refused'.names can.names refused'.command can.command in
+    let agrees = rw (can.told, names) at refused'.agrees in
+    let both = sym can.is_accepted ∙ agrees in
+    cc
+
+unread_no : (call : Call) → IsAnswerable call → HasReadFault call → ⊥
+unread_no call can fault =
+    ⊎_elim (λ rose. can.loads rose)
+      (λ is_absent.
+        let names = same_names call.words fault.names can.names fault.command can.command in
+        let none = rw (can.told, names) at is_absent in
+        let reached = rw names at fault.unread.reached in
+        held_file can.names can.files (held_from can.names can.files can.accepted can.is_accepted) call.files can.told fault.file reached none)
+      fault.unread.cause
+
+pub answers : (call : Call) (status : Status) → Means call status → IsAnswerable call → IsDoneUnlessMemory status
+answers call ended.Done means can = inl refl
+answers call ended.SaidNo means can = absurd means
+answers call ended.Usage means can = let both = sym can.command ∙ means.no_command in let no : ⊥ = cc in absurd no
+answers call ended.Malformed means can = absurd (refused_no call can means)
+answers call ended.ReadFault means can = absurd (unread_no call can means)
+answers call ended.WriteFault means can = absurd (can.puts means.cut_off.rose)
+answers call ended.Memory means can = inr refl

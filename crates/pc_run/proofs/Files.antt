@@ -1,0 +1,94 @@
+-- What is read of files that the shelf tells.
+use Rattle.std.specs.List.{AllPass}
+use Rattle.pc_model.specs.Membership.{in_domain}
+use Rattle.std.proofs.Common.{sym, ◌≡◌, ℕ, ◌+◌, ◌<◌, ◌≤◌, Bool, true, false, List, length, take, Option, Some, None, Result, Ok, Err, IfSome, IsSomeAnd, ap, refl, arith}
+use Rattle.std.proofs.lemmas.Bool.{le-ltb, lt-ltb}
+use Rattle.pc_model.specs.declared.schema.Schema.{Schema}
+use Rattle.pc_model.specs.declared.row.Row.{Row}
+use Rattle.pc_model.specs.declared.constraint.Constraint.{Constraint}
+use Rattle.pc_model.specs.declared.fault.Fault.{Fault}
+use Rattle.pc_model.specs.declared.fault.FileKind.{FileKind}
+use Rattle.pc_model.specs.declared.fault.FileKind.TheVariants as kinds
+use Rattle.pc_model.specs.declared.fault.Reason.TheVariants as reasons
+use Rattle.pc_model.specs.declared.fault.Refusal.{Refusal}
+use Rattle.pc_model.specs.declared.fault.Refusal.TheVariants as refusals
+use Rattle.pc_model.specs.Refusals.{fault_at, Gives}
+use Rattle.pc_base.specs.Files.{Files, file_of}
+use Rattle.pc_first.specs.SchemaForm.{schema_of}
+use Rattle.pc_first.specs.RowForm.{observed_of, Counts}
+use Rattle.pc_first.specs.ConstraintForm.{constraints_of}
+use Rattle.pc_run.specs.declared.stop.Stop.{Stop}
+use Rattle.pc_run.specs.declared.stop.Stop.TheVariants as stops
+use Rattle.pc_run.specs.Outcome.{Obstacle, refused, absent, file_limit, bytes_in, bytes_under, and_then, or_refused, schema_under, observed_under, constraints_under}
+use Rattle.pc_run.specs.Loading.{Agrees, AgreesOnRows, AreCounted}
+use Rattle.pc_run.specs.Stops.{stop_of}
+
+-- a file that is not too long gives its bytes
+whole_in : (file : FileKind) (held : Option (List ℕ)) (bytes : List ℕ) → held ≡ Some bytes → length bytes ≤ file_limit → bytes_in file held ≡ Ok bytes
+whole_in file held bytes is short = rw is (rw (le-ltb file_limit (length bytes) short) refl)
+
+long_in : (file : FileKind) (held : Option (List ℕ)) → IsSomeAnd held (λ bytes. file_limit < length bytes) → bytes_in file held ≡ Err (refused (fault_at file 0 reasons.TooLong))
+long_in file None none = absurd none
+long_in file (Some bytes) long = rw (lt-ltb file_limit (length bytes) long) refl
+
+pub agrees_whole : (file : FileKind) (told : Option Files) (name bytes : List ℕ) → length bytes ≤ file_limit → IfSome told (λ files. file_of files name ≡ Some bytes) → Agrees file told (bytes_under file name) (Ok bytes)
+unfolding bytes_under
+agrees_whole file None name bytes short is = tt
+agrees_whole file (Some files) name bytes short is = whole_in file (file_of files name) bytes is short
+
+only_long : (held : Option (List ℕ)) (into : List ℕ) (limit : ℕ) → IsSomeAnd held (λ bytes. (into ≡ take (limit + 1) bytes) × (limit < length bytes)) → IsSomeAnd held (λ bytes. limit < length bytes)
+only_long None into limit none = none
+only_long (Some bytes) into limit both = both.1
+
+pub agrees_long : (file : FileKind) (told : Option Files) (name into : List ℕ) → IfSome told (λ files. IsSomeAnd (file_of files name) (λ bytes. (into ≡ take (file_limit + 1) bytes) × (file_limit < length bytes))) → Agrees file told (bytes_under file name) (Err (stops.Refused (fault_at file 0 reasons.TooLong)))
+unfolding bytes_under
+agrees_long file None name into is = tt
+agrees_long file (Some files) name into is = long_in file (file_of files name) (only_long (file_of files name) into file_limit is)
+
+-- what a reader answers for the bytes of a file
+pub stopped : {X : Type 0} → Result X Refusal → Result X Stop
+stopped (Ok x) = Ok x
+stopped (Err refusal) = Err (stop_of refusal)
+
+module _ {X : Type 0} (value_of : List ℕ → Result X Fault) where
+  abbrev pub value_in : Result (List ℕ) Obstacle → Result X Obstacle
+  value_in held = and_then held (λ bytes. or_refused (value_of bytes))
+
+  read_at : (held : Result (List ℕ) Obstacle) (bytes : List ℕ) → held ≡ Ok bytes → value_in held ≡ or_refused (value_of bytes)
+  read_at held bytes is = ap value_in is
+
+  pub agrees_read : (file : FileKind) (told : Option Files) (wanted : Files → Result (List ℕ) Obstacle) (bytes : List ℕ) (x : X) → Agrees file told wanted (Ok bytes) → value_of bytes ≡ Ok x → Agrees file told (λ files. value_in (wanted files)) (Ok x)
+  agrees_read file None wanted bytes x is value = tt
+  agrees_read file (Some files) wanted bytes x is value = rw (is, value) refl
+
+  pub agrees_refused : (file : FileKind) (told : Option Files) (wanted : Files → Result (List ℕ) Obstacle) (bytes : List ℕ) (refusal : Refusal) → Agrees file told wanted (Ok bytes) → Gives (Err refusal) (value_of bytes) → Agrees {X = X} file told (λ files. value_in (wanted files)) (Err (stop_of refusal))
+  agrees_refused file told wanted bytes refusals.Memory is value = tt
+  agrees_refused file None wanted bytes (refusals.Fault fault) is value = tt
+  agrees_refused file (Some files) wanted bytes (refusals.Fault fault) is value = rw (is, value) refl
+
+  pub agrees_stopped : (file : FileKind) (told : Option Files) (wanted : Files → Result (List ℕ) Obstacle) (stop : Stop) → Agrees file told wanted (Err stop) → Agrees {X = X} file told (λ files. value_in (wanted files)) (Err stop)
+  agrees_stopped file told wanted stops.Memory is = tt
+  agrees_stopped file told wanted (stops.Unread kind) is = is
+  agrees_stopped file None wanted (stops.Refused fault) is = tt
+  agrees_stopped file (Some files) wanted (stops.Refused fault) is = rw is refl
+
+-- rows that are counted and not kept
+module _ (told : Option Files) (schema : Schema) (name : List ℕ) where
+  pub rows_counted : (bytes : List ℕ) (count : ℕ) → Agrees kinds.Rows told (bytes_under kinds.Rows name) (Ok bytes) → Counts (Ok count) (observed_of schema bytes) → ((rows : List Row) → observed_of schema bytes ≡ Ok rows → AllPass (in_domain schema) rows) → AreCounted told schema name count
+  unfolding observed_under
+  rows_counted bytes count held counts seen = record {
+    rows = counts.0;
+    counted = counts.2;
+    seen = seen counts.0 counts.1;
+    agrees = agrees_read (observed_of schema) kinds.Rows told (bytes_under kinds.Rows name) bytes counts.0 held counts.1;
+  }
+
+  pub rows_stopped : (stop : Stop) → Agrees kinds.Rows told (bytes_under kinds.Rows name) (Err stop) → AgreesOnRows told schema name (Err stop)
+  unfolding observed_under
+  rows_stopped stops.Memory is = tt
+  rows_stopped (stops.Unread kind) is = is
+  rows_stopped (stops.Refused fault) is = agrees_stopped (observed_of schema) kinds.Rows told (bytes_under kinds.Rows name) (stops.Refused fault) is
+
+  pub rows_refused : (bytes : List ℕ) (fault : Fault) → Agrees kinds.Rows told (bytes_under kinds.Rows name) (Ok bytes) → observed_of schema bytes ≡ Err fault → AgreesOnRows told schema name (Err (stops.Refused fault))
+  unfolding observed_under
+  rows_refused bytes fault held is = agrees_refused (observed_of schema) kinds.Rows told (bytes_under kinds.Rows name) bytes (refusals.Fault fault) held is

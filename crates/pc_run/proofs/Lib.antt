@@ -1,0 +1,5 @@
+pub mod Files
+pub mod Cases
+pub mod Replying
+pub mod Meanings
+pub mod Answering

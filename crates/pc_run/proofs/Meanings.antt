@@ -1,0 +1,101 @@
+-- What the status of a run means, from the reply and what the put of it left.
+use Rattle.std.proofs.Common.{◌≡◌, ◌≢◌, ℕ, ◌⊎◌, ⊎_elim, inl, inr, ◌++◌, List, take, length, nat_lt, if◌then◌else◌, Option, Some, None, Result, Ok, Err, IfSome, sym, subst, ap, refl, ◌∙◌}
+use Rattle.pc_model.specs.declared.fault.FileKind.{FileKind}
+use Rattle.pc_model.specs.declared.fault.FileKind.TheVariants as kinds
+use Rattle.pc_base.specs.declared.status.Status.{Status}
+use Rattle.pc_base.specs.declared.status.Status.TheVariants as ended
+use Rattle.pc_base.specs.declared.outside.Put.TheVariants.{All, Failed}
+use Rattle.pc_base.specs.Counts.{Rose}
+use Rattle.pc_base.specs.Files.{Files, file_of, IsAbsent}
+use Rattle.pc_base.specs.Puts.{Leaves}
+use Rattle.pc_run.specs.Words.{Names, name_of, command_of}
+use Rattle.pc_run.specs.Outcome.{Obstacle, refused, absent, Accepted, and_then, bytes_in, bytes_under, schema_under, observed_under, constraints_under, accepted_under}
+use Rattle.pc_model.specs.declared.fault.Fault.{Fault}
+use Rattle.pc_run.specs.Reports.{usage_line, fault_line, malformed_line}
+use Rattle.pc_run.specs.Replies.{SaysCount, Says, SaysOutcome, SaysFault, RepliesTo, RepliesToCommand, Responds, IsReached, IsUnread}
+use Rattle.pc_run.specs.Meaning.{Call, IsWritten, IsCutOff, IsTold, IsAnswered, IsDone, HasWriteFault, IsNoCommand, IsRefused, HasReadFault, Means, IsAnswerable, IsDoneUnlessMemory, after_failed_put}
+
+-- what the sink holds after its put
+pub written_from : (kept left : Option (List ℕ)) (text : List ℕ) → Leaves kept left text All → IfSome kept (λ before. left ≡ Some (before ++ text))
+written_from None None text leaves = tt
+written_from None (Some new) text leaves = absurd leaves
+written_from (Some old) None text leaves = absurd leaves
+written_from (Some old) (Some new) text leaves = ap Some leaves
+
+pub front_from : (kept left : Option (List ℕ)) (text : List ℕ) → Leaves kept left text Failed → IfSome kept (λ before. (n : ℕ) × (left ≡ Some (before ++ take n text)))
+front_from None None text leaves = tt
+front_from None (Some new) text leaves = absurd leaves
+front_from (Some old) None text leaves = absurd leaves
+front_from (Some old) (Some new) text leaves = (leaves.0, ap Some leaves.1)
+
+abbrev RespondsIn : Call → Status → List ℕ → Type 0
+RespondsIn call status text = Responds call.files call.words call.loads_before call.loads_after status text
+
+-- the reply to no command, to files that are not read, and to an outcome
+told_usage : (call : Call) (text : List ℕ) → command_of call.words ≡ None → text ≡ usage_line → IsTold call text → IsNoCommand call
+told_usage call text none is told = record { no_command = none; told = subst (λ (t : List ℕ). IsTold call t) is told }
+
+told_fault : (call : Call) (names : Names) (status : Status) (text : List ℕ) → command_of call.words ≡ Some names → SaysFault call.files names call.loads_before call.loads_after status text → IsTold call text → HasReadFault call
+told_fault call names status text command says told = record {
+  names = names;
+  command = command;
+  file = says.file;
+  unread = says.unread;
+  told = subst (λ (t : List ℕ). IsTold call t) says.line told;
+}
+
+answered : (call : Call) (names : Names) (text : List ℕ) (accepted : Accepted) → command_of call.words ≡ Some names → IfSome call.files (λ files. accepted_under names files ≡ Ok accepted) → SaysCount accepted text → IsAnswered call text
+answered call names text accepted command agrees says = record { names = names; command = command; accepted = accepted; agrees = agrees; says = says }
+
+told_refusal : (call : Call) (names : Names) (text : List ℕ) (fault : Fault) → command_of call.words ≡ Some names → IfSome call.files (λ files. accepted_under names files ≡ Err (refused fault)) → text ≡ malformed_line fault → IsTold call text → IsRefused call
+told_refusal call names text fault command agrees is told = record {
+  names = names;
+  command = command;
+  fault = fault;
+  agrees = agrees;
+  told = subst (λ (t : List ℕ). IsTold call t) is told;
+}
+
+-- the whole text was put
+outcome_whole : (call : Call) (names : Names) (status : Status) (text : List ℕ) → command_of call.words ≡ Some names → (outcome : Result Accepted Obstacle) → Says outcome status text → IfSome call.files (λ files. accepted_under names files ≡ outcome) → IsWritten call text → Means call status
+outcome_whole call names status text command (Ok accepted) says agrees written =
+    rw says.0 (let done : IsDone call = record { text = text; answered = answered call names text accepted command agrees says.1; written = written } in done)
+outcome_whole call names status text command (Err (refused fault)) says agrees written =
+    rw says.0 (told_refusal call names text fault command agrees says.1 (inl written))
+outcome_whole call names status text command (Err (absent file)) says agrees written = absurd says
+
+command_whole : (call : Call) (status : Status) (text : List ℕ) → RepliesToCommand call.files call.words call.loads_before call.loads_after status text → IsWritten call text → Means call status
+command_whole call status text replies written =
+    ⊎_elim
+      (λ (says : SaysFault call.files replies.names call.loads_before call.loads_after status text). rw says.ended (told_fault call replies.names status text replies.command says (inl written)))
+      (λ (says : SaysOutcome call.files replies.names status text). outcome_whole call replies.names status text replies.command says.outcome says.says says.agrees written)
+      replies.replies
+
+pub means_whole : (call : Call) (status : Status) (text : List ℕ) → RespondsIn call status text → IsWritten call text → Means call status
+means_whole call status text responds written =
+    ⊎_elim
+      (λ (none : (command_of call.words ≡ None) × (status ≡ ended.Usage) × (text ≡ usage_line)). rw none.1 (told_usage call text none.0 none.2 (inl written)))
+      (λ (replies : RepliesToCommand call.files call.words call.loads_before call.loads_after status text). command_whole call status text replies written)
+      responds
+
+-- a front of it was put
+outcome_cut_off : (call : Call) (names : Names) (status : Status) (text : List ℕ) → command_of call.words ≡ Some names → (outcome : Result Accepted Obstacle) → Says outcome status text → IfSome call.files (λ files. accepted_under names files ≡ outcome) → IsCutOff call text → Means call (after_failed_put status)
+outcome_cut_off call names status text command (Ok accepted) says agrees cut =
+    rw says.0 (let fault : HasWriteFault call = record { text = text; answered = answered call names text accepted command agrees says.1; cut_off = cut } in fault)
+outcome_cut_off call names status text command (Err (refused fault)) says agrees cut =
+    rw says.0 (told_refusal call names text fault command agrees says.1 (inr cut))
+outcome_cut_off call names status text command (Err (absent file)) says agrees cut = absurd says
+
+command_cut_off : (call : Call) (status : Status) (text : List ℕ) → RepliesToCommand call.files call.words call.loads_before call.loads_after status text → IsCutOff call text → Means call (after_failed_put status)
+command_cut_off call status text replies cut =
+    ⊎_elim
+      (λ (says : SaysFault call.files replies.names call.loads_before call.loads_after status text). rw says.ended (told_fault call replies.names status text replies.command says (inr cut)))
+      (λ (says : SaysOutcome call.files replies.names status text). outcome_cut_off call replies.names status text replies.command says.outcome says.says says.agrees cut)
+      replies.replies
+
+pub means_cut_off : (call : Call) (status : Status) (text : List ℕ) → RespondsIn call status text → IsCutOff call text → Means call (after_failed_put status)
+means_cut_off call status text responds cut =
+    ⊎_elim
+      (λ (none : (command_of call.words ≡ None) × (status ≡ ended.Usage) × (text ≡ usage_line)). rw none.1 (told_usage call text none.0 none.2 (inr cut)))
+      (λ (replies : RepliesToCommand call.files call.words call.loads_before call.loads_after status text). command_cut_off call status text replies cut)
+      responds

@@ -1,0 +1,8 @@
+pub mod Commands
+pub mod Loading
+pub mod Meaning
+pub mod Outcome
+pub mod Reports
+pub mod Replies
+pub mod Stops
+pub mod Words

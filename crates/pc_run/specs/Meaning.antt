@@ -1,0 +1,121 @@
+-- What the status of a run means for the files, the words and what was written.
+use Rattle.std.specs.Prelude.{◌≡◌, ℕ, ◌⊎◌, ◌++◌, take, List, Option, Some, None, Ok, Err, IfSome}
+use Rattle.pc_model.specs.declared.fault.FileKind.{FileKind}
+use Rattle.pc_model.specs.declared.fault.Fault.{Fault}
+use Rattle.pc_base.specs.declared.status.Status.{Status}
+use Rattle.pc_base.specs.declared.status.Status.TheVariants as ended
+use Rattle.pc_base.specs.Counts.{Rose}
+use Rattle.pc_base.specs.Files.{Files}
+use Rattle.pc_run.specs.Words.{Names, command_of}
+use Rattle.pc_run.specs.Outcome.{Accepted, refused, accepted_under}
+use Rattle.pc_run.specs.Replies.{SaysCount, IsUnread}
+use Rattle.pc_run.specs.Reports.{usage_line, fault_line, malformed_line}
+
+-- what a run is given and what it leaves: the files, where the shelf tells them, and the bytes that the sink holds before
+-- and after the run, where it tells them; the words; the counts of failed loads and puts before and after the run
+pub record Call : Type 0 where
+  pub files : Option Files
+  pub kept : Option (List ℕ)
+  pub left : Option (List ℕ)
+  pub words : List (List ℕ)
+  pub loads_before : ℕ
+  pub loads_after : ℕ
+  pub puts_before : ℕ
+  pub puts_after : ℕ
+
+abbrev pub call_of : Option Files → Option (List ℕ) → Option (List ℕ) → List (List ℕ) → ℕ → ℕ → ℕ → ℕ → Call
+call_of files kept left words loads_before loads_after puts_before puts_after = record {
+  files = files;
+  kept = kept;
+  left = left;
+  words = words;
+  loads_before = loads_before;
+  loads_after = loads_after;
+  puts_before = puts_before;
+  puts_after = puts_after;
+}
+
+-- the whole text was written
+abbrev pub IsWritten : Call → List ℕ → Type 0
+IsWritten call text = IfSome call.kept (λ kept. call.left ≡ Some (kept ++ text))
+
+-- a front of the text was written, and a put failed in this call
+pub record IsCutOff (call : Call) (text : List ℕ) : Type 0 where
+  pub rose : Rose call.puts_before call.puts_after
+  pub front : IfSome call.kept (λ kept. (n : ℕ) × (call.left ≡ Some (kept ++ take n text)))
+
+-- a line of a refusal stays what it says where the put of it fails
+abbrev pub IsTold : Call → List ℕ → Type 0
+IsTold call line = IsWritten call line ⊎ IsCutOff call line
+
+-- the words are a command whose files are accepted, and this is the report of a right answer to them
+pub record IsAnswered (call : Call) (text : List ℕ) : Type 0 where
+  pub names : Names
+  pub command : command_of call.words ≡ Some names
+  pub accepted : Accepted
+  pub agrees : IfSome call.files (λ files. accepted_under names files ≡ Ok accepted)
+  pub says : SaysCount accepted text
+
+pub record IsDone (call : Call) : Type 0 where
+  pub text : List ℕ
+  pub answered : IsAnswered call text
+  pub written : IsWritten call text
+
+pub record HasWriteFault (call : Call) : Type 0 where
+  pub text : List ℕ
+  pub answered : IsAnswered call text
+  pub cut_off : IsCutOff call text
+
+pub record IsNoCommand (call : Call) : Type 0 where
+  pub no_command : command_of call.words ≡ None
+  pub told : IsTold call usage_line
+
+-- a file or the query has a first fault
+pub record IsRefused (call : Call) : Type 0 where
+  pub names : Names
+  pub command : command_of call.words ≡ Some names
+  pub fault : Fault
+  pub agrees : IfSome call.files (λ files. accepted_under names files ≡ Err (refused fault))
+  pub told : IsTold call (malformed_line fault)
+
+-- a load failed
+pub record HasReadFault (call : Call) : Type 0 where
+  pub names : Names
+  pub command : command_of call.words ≡ Some names
+  pub file : FileKind
+  pub unread : IsUnread call.files names call.loads_before call.loads_after file
+  pub told : IsTold call (fault_line file)
+
+abbrev pub Means : Call → Status → Type 0
+Means call ended.Done = IsDone call
+Means call ended.SaidNo = ⊥
+Means call ended.Usage = IsNoCommand call
+Means call ended.Malformed = IsRefused call
+Means call ended.ReadFault = HasReadFault call
+Means call ended.WriteFault = HasWriteFault call
+Means call ended.Memory = call.left ≡ call.kept
+
+-- the words are a command whose files are held and accepted, and no load and no put failed
+pub record IsAnswerable (call : Call) : Type 0 where
+  pub names : Names
+  pub command : command_of call.words ≡ Some names
+  pub files : Files
+  pub told : call.files ≡ Some files
+  pub accepted : Accepted
+  pub is_accepted : accepted_under names files ≡ Ok accepted
+  pub loads : ¬ Rose call.loads_before call.loads_after
+  pub puts : ¬ Rose call.puts_before call.puts_after
+
+-- such a run is done, or there was no memory for it
+abbrev pub IsDoneUnlessMemory : Status → Type 0
+IsDoneUnlessMemory status = (status ≡ ended.Done) ⊎ (status ≡ ended.Memory)
+
+-- the status of a run whose text could not be put: a report that is cut off is a write fault, the line of a refusal stays
+abbrev pub after_failed_put : Status → Status
+after_failed_put ended.Done = ended.WriteFault
+after_failed_put ended.SaidNo = ended.WriteFault
+after_failed_put ended.Usage = ended.Usage
+after_failed_put ended.Malformed = ended.Malformed
+after_failed_put ended.ReadFault = ended.ReadFault
+after_failed_put ended.WriteFault = ended.WriteFault
+after_failed_put ended.Memory = ended.Memory

@@ -1,0 +1,45 @@
+//! The run of a command, from the bytes of its files to the bytes that it writes.
+#![tactic(auto)]
+
+ghost use Rattle.std.specs.Prelude.{◌≡◌, ◌≤◌, ◌+◌, map, string_bytes};
+ghost use Rattle.pc_run.specs.Meaning.{Call, Means, IsAnswerable, IsDoneUnlessMemory, call_of, after_failed_put};
+
+mod case;
+mod command;
+mod loading;
+mod reply;
+mod report;
+mod stop;
+
+use pc_base::{Put, Shelf, Sink, Status};
+use reply::respond;
+use std::alloc::Global;
+
+/// Runs the command that the words are: loads its files, each at most once, and writes its report or the line of a
+/// refusal by at most one put.
+pub fn run<F: Shelf, K: Sink>(alloc: Global, words: &[String], files: &mut F, out: &mut K) -> Status
+    ensures means { Means (call_of (F.files files.old) (K.kept out.old) (K.kept out.new) (map string_bytes words.now) (F.faults files.old) (F.faults files.new) (K.faults out.old) (K.faults out.new)) result }
+    ensures answers { IsAnswerable (call_of (F.files files.old) (K.kept out.old) (K.kept out.new) (map string_bytes words.now) (F.faults files.old) (F.faults files.new) (K.faults out.old) (K.faults out.new)) → IsDoneUnlessMemory result }
+    ensures files_stay { F.files files.new ≡ F.files files.old }
+    ensures loads { F.calls files.new ≤ F.calls files.old + 3 }
+    ensures puts { K.calls out.new ≤ K.calls out.old + 1 }
+{
+    let Ok(reply) = respond(alloc, words, files) else {
+        return Status::Memory;
+    };
+    match out.put(reply.text.as_bytes()) {
+        Put::All => reply.status,
+        Put::Failed => after_failed_put(reply.status),
+        Put::Memory => Status::Memory,
+    }
+}
+
+/// A report that was cut off is a write fault; the line of a refusal keeps its status.
+fn after_failed_put(status: Status) -> Status
+    ensures { result ≡ after_failed_put status }
+{
+    match status {
+        Status::Done | Status::SaidNo => Status::WriteFault,
+        _ => status,
+    }
+}

@@ -1,0 +1,81 @@
+ghost use Rattle.std.specs.Prelude.{◌≡◌, ◌≤◌, List, IfOk, All, length};
+ghost use Rattle.pc_model.specs.declared.constraint.Constraint.{Constraint as ConstraintData};
+ghost use Rattle.pc_model.specs.declared.fault.FileKind.TheVariants as kinds;
+ghost use Rattle.pc_model.specs.Boxes.{AreWhole, IsServable};
+ghost use Rattle.pc_base.specs.Counts.{RoseByOne};
+ghost use Rattle.pc_run.specs.Outcome.{bytes_under, schema_under, constraints_under};
+ghost use Rattle.pc_run.specs.Loading.{Agrees, AgreesOnRows, HasCause};
+
+use crate::stop::Stop;
+use pc_base::{Loaded, Shelf};
+use pc_first::{count_rows, read_constraints, read_schema};
+use pc_list::Seq;
+use pc_model::{Constraint, Fault, FileKind, Reason, Schema};
+use std::alloc::Global;
+
+/// The greatest length of a file.
+const FILE_LIMIT: usize = 67_108_864;
+
+/// Loads the bytes of a file.
+fn load_bytes<F: Shelf>(alloc: Global, files: &mut F, file: FileKind, name: &str) -> Result<Seq<u8>, Stop>
+    ensures agrees { Agrees file (F.files files.old) (bytes_under file name.now) result }
+    ensures cause { HasCause (F.files files.old) name.now (F.faults files.old) (F.faults files.new) result }
+    ensures files_stay { F.files files.new ≡ F.files files.old }
+    ensures faults_stay { F.faults files.old ≤ F.faults files.new }
+    ensures one_call { RoseByOne (F.calls files.old) (F.calls files.new) }
+{
+    let mut bytes = Vec::new(alloc);
+    match files.load(alloc, name, &mut bytes, FILE_LIMIT) {
+        Loaded::Whole => Ok(Seq::from_vec(bytes)),
+        Loaded::Long => Err(Stop::Refused(Fault {
+            file,
+            place: 0,
+            reason: Reason::TooLong,
+        })),
+        Loaded::Failed => Err(Stop::Unread(file)),
+        Loaded::Memory => Err(Stop::Memory),
+    }
+}
+
+/// Loads and reads the schema.
+pub(crate) fn load_schema<F: Shelf>(alloc: Global, files: &mut F, name: &str) -> Result<Schema, Stop>
+    ensures agrees { Agrees kinds.Schema (F.files files.old) (schema_under name.now) result }
+    ensures cause { HasCause (F.files files.old) name.now (F.faults files.old) (F.faults files.new) result }
+    ensures files_stay { F.files files.new ≡ F.files files.old }
+    ensures faults_stay { F.faults files.old ≤ F.faults files.new }
+    ensures one_call { RoseByOne (F.calls files.old) (F.calls files.new) }
+    ensures whole { IfOk result (λ schema. AreWhole schema.columns) }
+{
+    let bytes = load_bytes(alloc, files, FileKind::Schema, name)?;
+    Ok(read_schema(alloc, bytes.as_slice())?)
+}
+
+/// Loads the observed rows and counts them.
+pub(crate) fn load_rows<F: Shelf>(alloc: Global, files: &mut F, name: &str, schema: &Schema) -> Result<u64, Stop>
+    requires { AreWhole schema.now.columns }
+    ensures agrees { AgreesOnRows (F.files files.old) schema.now name.now result }
+    ensures cause { HasCause (F.files files.old) name.now (F.faults files.old) (F.faults files.new) result }
+    ensures files_stay { F.files files.new ≡ F.files files.old }
+    ensures faults_stay { F.faults files.old ≤ F.faults files.new }
+    ensures one_call { RoseByOne (F.calls files.old) (F.calls files.new) }
+    ensures few { IfOk result (λ count. count ≤ 1000000) }
+{
+    let bytes = load_bytes(alloc, files, FileKind::Rows, name)?;
+    Ok(count_rows(schema, bytes.as_slice())?)
+}
+
+/// Loads and reads the constraints.
+pub(crate) fn load_constraints<F: Shelf>(alloc: Global, files: &mut F, name: &str, schema: &Schema) -> Result<Seq<Constraint>, Stop>
+    requires { AreWhole schema.now.columns }
+    ensures agrees { Agrees kinds.Constraints (F.files files.old) (constraints_under schema.now name.now) result }
+    ensures cause { HasCause (F.files files.old) name.now (F.faults files.old) (F.faults files.new) result }
+    ensures files_stay { F.files files.new ≡ F.files files.old }
+    ensures faults_stay { F.faults files.old ≤ F.faults files.new }
+    ensures one_call { RoseByOne (F.calls files.old) (F.calls files.new) }
+    ensures servable { IfOk result (λ list. All (IsServable schema.now) list) }
+    ensures few { IfOk result (λ list. length list ≤ 20) }
+    ensures small { IfOk result (λ list. All (λ (c : ConstraintData). c.most ≤ 10000000) list) }
+{
+    let bytes = load_bytes(alloc, files, FileKind::Constraints, name)?;
+    Ok(read_constraints(alloc, schema, bytes.as_slice())?)
+}
