@@ -2,6 +2,8 @@
 #![tactic(auto)]
 
 mod list;
+#[cfg(test)]
+mod tests;
 mod text;
 
 pub use list::Seq;

@@ -1,5 +1,5 @@
 -- Constraints whose regions are boxes of number columns, and rows that two of them share.
-use Rattle.std.specs.Prelude.{◌≡◌, ℕ, ◌<◌, ◌≤◌, ◌≤ℤ◌, true, ⊤, List, length, All, Option, Some, slice_get}
+use Rattle.std.specs.Prelude.{◌≡◌, ℕ, ◌<◌, ◌≤◌, ◌≤ℤ◌, true, ⊤, List, length, All, Some, slice_get}
 use Rattle.pc_model.specs.declared.schema.Schema.{Schema}
 use Rattle.pc_model.specs.declared.schema.Column.{Column}
 use Rattle.pc_model.specs.declared.schema.Kind.{Kind}
@@ -8,7 +8,7 @@ use Rattle.pc_model.specs.declared.row.Row.{Row}
 use Rattle.pc_model.specs.declared.region.Side.{Side}
 use Rattle.pc_model.specs.declared.region.Side.TheVariants.{Span, Names}
 use Rattle.pc_model.specs.declared.constraint.Constraint.{Constraint}
-use Rattle.pc_model.specs.Membership.{in_domain, has, is_under}
+use Rattle.pc_model.specs.Membership.{in_domain, is_under}
 
 abbrev pub IsSpan : Side → Type 0
 IsSpan (Span low high) = ⊤

@@ -7,6 +7,8 @@ mod query;
 mod region;
 mod row;
 mod schema;
+#[cfg(test)]
+mod tests;
 mod tree;
 
 pub use constraint::Constraint;

@@ -31,7 +31,7 @@ impl Side {
     }
 }
 
-fn is_between(low: i64, high: i64, number: i64) -> bool
+pub(crate) fn is_between(low: i64, high: i64, number: i64) -> bool
     ensures { result ≡ is_between low high number }
 {
     low <= number && number <= high

@@ -1,3 +1,9 @@
+ghost use Rattle.std.specs.Prelude.{◌≡◌};
+ghost use Rattle.pc_model.specs.Membership.{allows, in_domain};
+ghost use Rattle.pc_model.specs.Places.{is_below};
+
+use crate::region::is_between;
+use crate::row::Row;
 use pc_list::{Seq, Text};
 
 /// What the numbers of a column are. Numbers of a decimal column are in units of its last place, and
@@ -20,4 +26,47 @@ pub struct Column {
 #[derive(Clone, Debug, PartialEq, Eq, Drop)]
 pub struct Schema {
     pub columns: Seq<Column>,
+}
+
+impl Kind {
+    /// Whether a column of this kind may hold a number.
+    #[tactic(auto, unfolding(crate::specs::Membership::allows))]
+    pub fn allows(&self, number: i64) -> bool
+        ensures { result ≡ allows self.now number }
+    {
+        match self {
+            Kind::Int { low, high } => is_between(*low, *high, number),
+            Kind::Dec { low, high, .. } => is_between(*low, *high, number),
+            Kind::Cat { names } => is_below(names.len(), number),
+        }
+    }
+}
+
+fn is_below(count: usize, number: i64) -> bool
+    ensures { result ≡ is_below count number }
+{
+    if number < 0 {
+        return false;
+    }
+    (number as usize) < count
+}
+
+impl Schema {
+    /// Whether a row is in the domain: one number per column, each allowed by its kind.
+    #[tactic(auto, using(crate::proofs::Pairs::steps), unfolding(crate::specs::Membership::in_domain))]
+    pub fn allows_row(&self, row: &Row) -> bool
+        ensures { result ≡ in_domain self.now row.now }
+    {
+        let columns = self.columns.as_slice();
+        let cells = row.cells.as_slice();
+        if columns.len() != cells.len() {
+            return false;
+        }
+        for (place, column) in columns.iter().enumerate() {
+            if !column.kind.allows(cells[place]) {
+                return false;
+            }
+        }
+        true
+    }
 }

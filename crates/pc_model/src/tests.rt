@@ -1,0 +1,124 @@
+use crate::{Column, FileKind, Kind, Reason, Region, Row, Schema, Side};
+use pc_list::{Seq, Text};
+use std::alloc::{AllocError, Global};
+use std::test::Fail;
+
+fn row(alloc: Global, cells: &[i64]) -> Result<Row, AllocError> {
+    Ok(Row {
+        cells: Seq::from_slice(alloc, cells)?,
+    })
+}
+
+// Numbers from -3 to 5, and the places 0, 2 and 127.
+#[test]
+fn rows_of_a_region(rt: HostRuntime) -> Result<(), Fail> {
+    let alloc = rt.alloc();
+    let sides = [
+        Side::Span { low: -3, high: 5 },
+        Side::Names {
+            bits: 1 << 127 | 0b101,
+        },
+    ];
+    let region = Region {
+        sides: Seq::from_slice(alloc, &sides)?,
+    };
+    let cases: [(&[i64], bool); 12] = [
+        (&[-3, 0], true),
+        (&[5, 2], true),
+        (&[0, 127], true),
+        (&[-4, 0], false),
+        (&[6, 0], false),
+        (&[0, 1], false),
+        (&[0, 3], false),
+        (&[0, 128], false),
+        (&[0, -1], false),
+        (&[], false),
+        (&[0], false),
+        (&[0, 0, 0], false),
+    ];
+    for (number, (cells, held)) in cases.into_iter().enumerate() {
+        assert!(rt; region.has(&row(alloc, cells)?) == held, "case {number}");
+    }
+    Ok(())
+}
+
+fn column(alloc: Global, name: &str, kind: Kind) -> Result<Column, AllocError> {
+    Ok(Column {
+        name: Text::from_text(alloc, name)?,
+        kind,
+    })
+}
+
+// Whole numbers from -3 to 5, hundredths from 0 to 1.50, and two names.
+fn schema(alloc: Global) -> Result<Schema, AllocError> {
+    let names = vec![in alloc;
+        Text::from_text(alloc, "north")?,
+        Text::from_text(alloc, "south")?,
+    ]?;
+    let item = Kind::Int { low: -3, high: 5 };
+    let price = Kind::Dec {
+        scale: 2,
+        low: 0,
+        high: 150,
+    };
+    let place = Kind::Cat {
+        names: Seq::from_vec(names),
+    };
+    let columns = vec![in alloc;
+        column(alloc, "item", item)?,
+        column(alloc, "price", price)?,
+        column(alloc, "place", place)?,
+    ]?;
+    Ok(Schema {
+        columns: Seq::from_vec(columns),
+    })
+}
+
+#[test]
+fn rows_of_a_domain(rt: HostRuntime) -> Result<(), Fail> {
+    let alloc = rt.alloc();
+    let schema = schema(alloc)?;
+    let cases: [(&[i64], bool); 10] = [
+        (&[-3, 0, 0], true),
+        (&[5, 150, 1], true),
+        (&[-4, 0, 0], false),
+        (&[6, 0, 0], false),
+        (&[0, -1, 0], false),
+        (&[0, 151, 0], false),
+        (&[0, 0, -1], false),
+        (&[0, 0, 2], false),
+        (&[0, 0], false),
+        (&[0, 0, 0, 0], false),
+    ];
+    for (number, (cells, allowed)) in cases.into_iter().enumerate() {
+        assert!(rt;
+            schema.allows_row(&row(alloc, cells)?) == allowed,
+            "case {number}"
+        );
+    }
+    Ok(())
+}
+
+#[test]
+fn printed_names(rt: HostRuntime) {
+    let reasons = [
+        (Reason::NotUtf8, 1, "NotUtf8"),
+        (Reason::TooLong, 20, "TooLong"),
+        (Reason::NotBuilt, 21, "NotBuilt"),
+        (Reason::Overlap, 22, "Overlap"),
+    ];
+    for (reason, number, name) in reasons {
+        assert_eq!(rt; reason.number(), number);
+        assert!(rt; reason.name() == name, "the name of reason {number}");
+    }
+    let files = [
+        (FileKind::Schema, "schema"),
+        (FileKind::Rows, "rows"),
+        (FileKind::Constraints, "constraints"),
+        (FileKind::Query, "query"),
+        (FileKind::Document, "document"),
+    ];
+    for (file, name) in files {
+        assert!(rt; file.name() == name, "the file {name}");
+    }
+}

@@ -1,0 +1,103 @@
+use crate::meets;
+use pc_list::{Seq, Text};
+use pc_model::{Column, Constraint, Kind, Region, Row, Run, Schema, Side};
+use std::alloc::{AllocError, Global};
+use std::test::Fail;
+
+fn column(alloc: Global, name: &str, high: i64) -> Result<Column, AllocError> {
+    Ok(Column {
+        name: Text::from_text(alloc, name)?,
+        kind: Kind::Int { low: 1, high },
+    })
+}
+
+fn schema(alloc: Global) -> Result<Schema, AllocError> {
+    let columns = vec![in alloc; column(alloc, "item", 9)?, column(alloc, "week", 4)?]?;
+    Ok(Schema {
+        columns: Seq::from_vec(columns),
+    })
+}
+
+// The rows of some weeks, of any item, also of those outside the domain.
+fn weeks(alloc: Global, low: i64, high: i64) -> Result<Region, AllocError> {
+    let sides = [Side::Span { low: 0, high: 99 }, Side::Span { low, high }];
+    Ok(Region {
+        sides: Seq::from_slice(alloc, &sides)?,
+    })
+}
+
+// From `least` to `most` rows in the weeks of `when`, which are in the weeks of `values`.
+fn constraint(
+    alloc: Global,
+    when: (i64, i64),
+    values: (i64, i64),
+    least: u64,
+    most: u64,
+) -> Result<Constraint, AllocError> {
+    Ok(Constraint {
+        name: Text::from_text(alloc, "c")?,
+        when: weeks(alloc, when.0, when.1)?,
+        values: weeks(alloc, values.0, values.1)?,
+        least,
+        most,
+    })
+}
+
+// A run for each number of times, item and week.
+fn runs_of(alloc: Global, listed: &[(u64, i64, i64)]) -> Result<Vec<Run>, AllocError> {
+    let mut runs = Vec::new(alloc);
+    for &(times, item, week) in listed {
+        let row = Row {
+            cells: Seq::from_slice(alloc, &[item, week])?,
+        };
+        runs.push(Run { times, row })?;
+    }
+    Ok(runs)
+}
+
+#[test]
+fn possible_runs(rt: HostRuntime) -> Result<(), Fail> {
+    let alloc = rt.alloc();
+    let schema = schema(alloc)?;
+    let any = (1, 4);
+    let two = vec![in alloc;
+        constraint(alloc, (1, 2), any, 1, 3)?,
+        constraint(alloc, (4, 4), any, 0, 2)?,
+    ]?;
+    let never = vec![in alloc; constraint(alloc, (1, 1), (2, 2), 1, 2)?]?;
+    let none = vec![in alloc; constraint(alloc, (1, 1), (2, 2), 0, 2)?]?;
+    let shared = vec![in alloc;
+        constraint(alloc, (1, 2), any, 1, 3)?,
+        constraint(alloc, (2, 2), any, 0, 1)?,
+    ]?;
+    let many = vec![in alloc; constraint(alloc, (1, 2), any, 1, u64::MAX)?]?;
+    let cases: [(&[Constraint], &[(u64, i64, i64)], bool); 19] = [
+        (&two, &[], false),
+        (&two, &[(1, 1, 1)], true),
+        (&two, &[(3, 1, 1), (2, 1, 4)], true),
+        (&two, &[(2, 1, 1), (2, 1, 4)], true),
+        (&two, &[(4, 1, 1), (2, 1, 4)], false),
+        (&two, &[(3, 1, 1), (3, 1, 4)], false),
+        (&two, &[(1, 1, 1), (1, 1, 3)], false),
+        (&two, &[(1, 1, 3)], false),
+        (&two, &[(1, 10, 1)], false),
+        (&two, &[(1, 1, 1), (0, 1, 1)], false),
+        (&never, &[], false),
+        (&never, &[(1, 1, 1)], false),
+        (&never, &[(1, 1, 2)], false),
+        (&none, &[], true),
+        (&none, &[(1, 1, 1)], false),
+        (&shared, &[(1, 1, 2)], true),
+        (&shared, &[(2, 1, 2)], false),
+        (&shared, &[(1, 1, 1)], true),
+        (&many, &[(u64::MAX, 1, 1), (1, 1, 1)], false),
+    ];
+    for (number, (constraints, listed, possible)) in cases.into_iter().enumerate() {
+        let runs = runs_of(alloc, listed)?;
+        assert!(rt;
+            meets(&schema, constraints, &runs) == possible,
+            "case {number}"
+        );
+    }
+    Ok(())
+}
