@@ -2,10 +2,9 @@ ghost use Rattle.std.specs.Prelude.{◌≡◌, ◌+◌, ◌<◌, ◌≤◌, ◌^
 
 use pc_base::{Loaded, Put, Shelf, Sink};
 use std::alloc::Global;
-use std::fs;
-use std::io;
 use std::io::{Read, Write};
 use std::rt::Files;
+use std::{fs, io};
 
 /// How many bytes are read at a time.
 const CHUNK: usize = 8192;
@@ -25,7 +24,9 @@ impl<'a, R> HostShelf<'a, R> {
 
 impl<R: Files> Shelf for HostShelf<'_, R> {
     ghost files = { λ shelf. None };
+
     ghost faults = { λ shelf. shelf.faults };
+
     ghost calls = { λ shelf. 0 };
 
     fn load(&mut self, _alloc: Global, name: &str, into: &mut Vec<u8>, limit: usize) -> Loaded {
@@ -78,7 +79,9 @@ impl<'a, R> HostSink<'a, R> {
 
 impl<R: Print> Sink for HostSink<'_, R> {
     ghost kept = { λ sink. None };
+
     ghost faults = { λ sink. sink.faults };
+
     ghost calls = { λ sink. 0 };
 
     fn put(&mut self, piece: &[u8]) -> Put {

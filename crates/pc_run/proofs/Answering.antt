@@ -1,17 +1,16 @@
 -- A run over files that are held and accepted, where no load and no put failed, is done or has no memory.
-use Rattle.std.proofs.Common.{◌≡◌, ℕ, ◌⊎◌, ⊎_elim, inl, inr, List, length, nat_lt, if◌then◌else◌, Option, Some, None, Result, Ok, Err, IsOk, IsOkAnd, IfSome, sym, subst, ap, refl, ◌∙◌}
+use Rattle.std.proofs.Common.{◌≡◌, ℕ, ⊎_elim, inl, inr, List, Option, Some, None, Result, Ok, Err, IsOk, sym, refl, ◌∙◌}
 use Rattle.pc_model.specs.declared.schema.Schema.{Schema}
 use Rattle.pc_model.specs.declared.row.Row.{Row}
-use Rattle.pc_model.specs.declared.fault.Fault.{Fault}
 use Rattle.pc_model.specs.declared.fault.FileKind.{FileKind}
 use Rattle.pc_model.specs.declared.fault.FileKind.TheVariants as kinds
 use Rattle.pc_base.specs.declared.status.Status.{Status}
 use Rattle.pc_base.specs.declared.status.Status.TheVariants as ended
-use Rattle.pc_base.specs.Files.{Files, file_of, IsAbsent}
+use Rattle.pc_base.specs.Files.{Files, file_of}
 use Rattle.pc_run.specs.Words.{Names, name_of, command_of}
-use Rattle.pc_run.specs.Outcome.{Obstacle, refused, absent, Accepted, and_then, bytes_in, bytes_under, or_refused, schema_under, observed_under, constraints_under, accepted_under}
-use Rattle.pc_run.specs.Replies.{IsReached, IsUnread}
-use Rattle.pc_run.specs.Meaning.{Call, IsNoCommand, IsRefused, HasReadFault, Means, IsAnswerable, IsDoneUnlessMemory}
+use Rattle.pc_run.specs.Outcome.{Obstacle, absent, Accepted, and_then, bytes_under, schema_under, observed_under, constraints_under, accepted_under}
+use Rattle.pc_run.specs.Replies.{IsReached}
+use Rattle.pc_run.specs.Meaning.{Call, IsRefused, HasReadFault, Means, IsAnswerable, IsDoneUnlessMemory}
 
 -- what a chain of steps that succeeds is made of
 record Step {X Y : Type 0} (first : Result X Obstacle) (next : X → Result Y Obstacle) (y : Y) : Type 0 where

@@ -1,6 +1,5 @@
 -- What reading the files of a command answers, exit by exit.
-use Rattle.std.proofs.Common.{◌≡◌, ℕ, ◌+◌, ◌*◌, ◌^◌, ◌<◌, ◌≤◌, ◌⊎◌, ⊎_elim, inl, inr, sym, ap, subst, refl, ◌∙◌, List, length, All, sum_by, Option, Some, None, Result, Ok, Err, IsOk, IfSome, arith}
-use Rattle.std.specs.List.{AllPass}
+use Rattle.std.proofs.Common.{◌≡◌, ℕ, ◌+◌, ◌*◌, ◌^◌, ◌<◌, ◌≤◌, ◌⊎◌, ⊎_elim, inl, inr, subst, refl, List, length, All, sum_by, Option, Some, None, Result, Ok, Err, IsOk, IfSome, arith}
 use Rattle.std.proofs.lemmas.List.Sums.{sum_by-le}
 use Rattle.pc_model.specs.declared.schema.Schema.{Schema}
 use Rattle.pc_model.specs.declared.row.Row.{Row}
@@ -12,13 +11,12 @@ use Rattle.pc_base.specs.Counts.{Rose}
 use Rattle.pc_base.specs.Files.{Files, IsAbsent}
 use Rattle.pc_first.specs.QueryForm.{query_of}
 use Rattle.pc_count.specs.Overlap.{first_overlap}
-use Rattle.pc_run.specs.declared.case.Case.{Case}
 use Rattle.pc_run.specs.declared.stop.Stop.{Stop}
 use Rattle.pc_run.specs.declared.stop.Stop.TheVariants as stops
 use Rattle.pc_run.specs.Words.{Names}
-use Rattle.pc_run.specs.Outcome.{Obstacle, refused, Accepted, or_refused, overlap_at, schema_under, observed_under, constraints_under, accepted_under}
-use Rattle.pc_run.specs.Loading.{Agrees, AgreesOnRows, AreCounted, HasCause}
-use Rattle.pc_run.specs.Replies.{CaseAgrees, IsReached, IsRead, IsUnread}
+use Rattle.pc_run.specs.Outcome.{Obstacle, Accepted, or_refused, overlap_at, schema_under, observed_under, constraints_under, accepted_under}
+use Rattle.pc_run.specs.Loading.{Agrees, AgreesOnRows, HasCause}
+use Rattle.pc_run.specs.Replies.{CaseAgrees, IsReached, IsUnread}
 
 rises : (before middle now : ℕ) → before ≤ middle → Rose middle now → Rose before now
 rises before middle now earlier rose = omega arith

@@ -1,11 +1,10 @@
 -- What is read of files that the shelf tells.
 use Rattle.std.specs.List.{AllPass}
 use Rattle.pc_model.specs.Membership.{in_domain}
-use Rattle.std.proofs.Common.{sym, ◌≡◌, ℕ, ◌+◌, ◌<◌, ◌≤◌, Bool, true, false, List, length, take, Option, Some, None, Result, Ok, Err, IfSome, IsSomeAnd, ap, refl, arith}
+use Rattle.std.proofs.Common.{◌≡◌, ℕ, ◌+◌, ◌<◌, ◌≤◌, List, length, take, Option, Some, None, Result, Ok, Err, IfSome, IsSomeAnd, ap, refl}
 use Rattle.std.proofs.lemmas.Bool.{le-ltb, lt-ltb}
 use Rattle.pc_model.specs.declared.schema.Schema.{Schema}
 use Rattle.pc_model.specs.declared.row.Row.{Row}
-use Rattle.pc_model.specs.declared.constraint.Constraint.{Constraint}
 use Rattle.pc_model.specs.declared.fault.Fault.{Fault}
 use Rattle.pc_model.specs.declared.fault.FileKind.{FileKind}
 use Rattle.pc_model.specs.declared.fault.FileKind.TheVariants as kinds
@@ -14,12 +13,10 @@ use Rattle.pc_model.specs.declared.fault.Refusal.{Refusal}
 use Rattle.pc_model.specs.declared.fault.Refusal.TheVariants as refusals
 use Rattle.pc_model.specs.Refusals.{fault_at, Gives}
 use Rattle.pc_base.specs.Files.{Files, file_of}
-use Rattle.pc_first.specs.SchemaForm.{schema_of}
 use Rattle.pc_first.specs.RowForm.{observed_of, Counts}
-use Rattle.pc_first.specs.ConstraintForm.{constraints_of}
 use Rattle.pc_run.specs.declared.stop.Stop.{Stop}
 use Rattle.pc_run.specs.declared.stop.Stop.TheVariants as stops
-use Rattle.pc_run.specs.Outcome.{Obstacle, refused, absent, file_limit, bytes_in, bytes_under, and_then, or_refused, schema_under, observed_under, constraints_under}
+use Rattle.pc_run.specs.Outcome.{Obstacle, refused, file_limit, bytes_in, bytes_under, and_then, or_refused, observed_under}
 use Rattle.pc_run.specs.Loading.{Agrees, AgreesOnRows, AreCounted}
 use Rattle.pc_run.specs.Stops.{stop_of}
 

@@ -1,19 +1,15 @@
 -- What the status of a run means, from the reply and what the put of it left.
-use Rattle.std.proofs.Common.{◌≡◌, ◌≢◌, ℕ, ◌⊎◌, ⊎_elim, inl, inr, ◌++◌, List, take, length, nat_lt, if◌then◌else◌, Option, Some, None, Result, Ok, Err, IfSome, sym, subst, ap, refl, ◌∙◌}
-use Rattle.pc_model.specs.declared.fault.FileKind.{FileKind}
-use Rattle.pc_model.specs.declared.fault.FileKind.TheVariants as kinds
+use Rattle.std.proofs.Common.{◌≡◌, ℕ, ⊎_elim, inl, inr, ◌++◌, List, take, Option, Some, None, Result, Ok, Err, IfSome, subst, ap}
 use Rattle.pc_base.specs.declared.status.Status.{Status}
 use Rattle.pc_base.specs.declared.status.Status.TheVariants as ended
 use Rattle.pc_base.specs.declared.outside.Put.TheVariants.{All, Failed}
-use Rattle.pc_base.specs.Counts.{Rose}
-use Rattle.pc_base.specs.Files.{Files, file_of, IsAbsent}
 use Rattle.pc_base.specs.Puts.{Leaves}
-use Rattle.pc_run.specs.Words.{Names, name_of, command_of}
-use Rattle.pc_run.specs.Outcome.{Obstacle, refused, absent, Accepted, and_then, bytes_in, bytes_under, schema_under, observed_under, constraints_under, accepted_under}
+use Rattle.pc_run.specs.Words.{Names, command_of}
+use Rattle.pc_run.specs.Outcome.{Obstacle, refused, absent, Accepted, accepted_under}
 use Rattle.pc_model.specs.declared.fault.Fault.{Fault}
-use Rattle.pc_run.specs.Reports.{usage_line, fault_line, malformed_line}
-use Rattle.pc_run.specs.Replies.{SaysCount, Says, SaysOutcome, SaysFault, RepliesTo, RepliesToCommand, Responds, IsReached, IsUnread}
-use Rattle.pc_run.specs.Meaning.{Call, IsWritten, IsCutOff, IsTold, IsAnswered, IsDone, HasWriteFault, IsNoCommand, IsRefused, HasReadFault, Means, IsAnswerable, IsDoneUnlessMemory, after_failed_put}
+use Rattle.pc_run.specs.Reports.{usage_line, malformed_line}
+use Rattle.pc_run.specs.Replies.{SaysCount, Says, SaysOutcome, SaysFault, RepliesToCommand, Responds}
+use Rattle.pc_run.specs.Meaning.{Call, IsWritten, IsCutOff, IsTold, IsAnswered, IsDone, HasWriteFault, IsNoCommand, IsRefused, HasReadFault, Means, after_failed_put}
 
 -- what the sink holds after its put
 pub written_from : (kept left : Option (List ℕ)) (text : List ℕ) → Leaves kept left text All → IfSome kept (λ before. left ≡ Some (before ++ text))

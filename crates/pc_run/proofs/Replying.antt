@@ -1,14 +1,13 @@
 -- The report of a case, and the reply to it.
-use Rattle.std.proofs.Common.{◌≡◌, ℕ, List, length, Option, Result, Ok, Err, IfOk, IfSome, sym, subst, refl, inr}
-use Rattle.std.specs.List.{AllPass}
+use Rattle.std.proofs.Common.{◌≡◌, ℕ, List, subst}
 use Rattle.pc_model.specs.declared.schema.Schema.{Schema}
 use Rattle.pc_model.specs.declared.constraint.Constraint.{Constraint}
-use Rattle.pc_model.specs.Membership.{in_domain, AreDisjoint}
+use Rattle.pc_model.specs.Membership.{AreDisjoint}
 use Rattle.pc_count.specs.declared.answer.CountAnswer.{CountAnswer}
 use Rattle.pc_count.specs.Counting.{IsRightCount, IsRightCountOf}
 use Rattle.pc_run.specs.declared.case.Case.{Case}
 use Rattle.pc_run.specs.Outcome.{Accepted}
-use Rattle.pc_run.specs.Replies.{StandsFor, SaysCase, SaysCount}
+use Rattle.pc_run.specs.Replies.{StandsFor, SaysCase}
 use Rattle.pc_run.specs.Reports.{report_of}
 
 -- a right answer to what is kept of the files is one to the files

@@ -1,5 +1,5 @@
 -- What a load and a reading answer, against what the files stand for.
-use Rattle.std.specs.Prelude.{◌≡◌, ℕ, ◌<◌, ◌≤◌, ◌⊎◌, ⊤, List, length, Option, Some, Result, Ok, Err, IfSome, IsSomeAnd}
+use Rattle.std.specs.Prelude.{◌≡◌, ℕ, ◌⊎◌, ⊤, List, length, Option, Result, Ok, Err, IfSome}
 use Rattle.std.specs.List.{AllPass}
 use Rattle.pc_model.specs.declared.schema.Schema.{Schema}
 use Rattle.pc_model.specs.declared.row.Row.{Row}
@@ -7,7 +7,7 @@ use Rattle.pc_model.specs.declared.fault.FileKind.{FileKind}
 use Rattle.pc_model.specs.declared.fault.FileKind.TheVariants as kinds
 use Rattle.pc_model.specs.Membership.{in_domain}
 use Rattle.pc_base.specs.Counts.{Rose}
-use Rattle.pc_base.specs.Files.{Files, file_of, IsAbsent}
+use Rattle.pc_base.specs.Files.{Files, IsAbsent}
 use Rattle.pc_run.specs.declared.stop.Stop.{Stop}
 use Rattle.pc_run.specs.declared.stop.Stop.TheVariants as stops
 use Rattle.pc_run.specs.Outcome.{Obstacle, refused, observed_under}

@@ -1,8 +1,6 @@
 -- With which status and text a run replies to the files of a command.
 use Rattle.std.specs.Prelude.{◌≡◌, ℕ, ◌+◌, ◌<◌, ◌^◌, ◌⊎◌, ⊤, List, length, All, sum_by, Option, Some, None, Result, Ok, Err, IsOk, IsOkAnd, IfSome}
 use Rattle.std.specs.List.{AllPass}
-use Rattle.pc_model.specs.declared.schema.Schema.{Schema}
-use Rattle.pc_model.specs.declared.row.Row.{Row}
 use Rattle.pc_model.specs.declared.constraint.Constraint.{Constraint}
 use Rattle.pc_model.specs.declared.fault.FileKind.{FileKind}
 use Rattle.pc_model.specs.declared.fault.FileKind.TheVariants as kinds

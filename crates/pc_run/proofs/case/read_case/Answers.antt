@@ -1,4 +1,4 @@
-use Rattle.std.proofs.Common.{ℕ, ◌≡◌, ◌≤◌, ◌∙◌, List, refl, sym, arith}
+use Rattle.std.proofs.Common.{ℕ, ◌≤◌, ◌∙◌, List, refl, sym, arith}
 use Rattle.std.proofs.lemmas.Result.{err_from_is_err_and}
 use Rattle.pc_run.specs.Commands.{names_in}
 use Rattle.pc_run.specs.Outcome.{Accepted, constraints_under}
