@@ -2,8 +2,7 @@ ghost use Rattle.std.specs.Prelude.{◌≡◌, ◌≤◌, ℕ, List, Ok, is_some
 ghost use Rattle.std.specs.List.{AllPass};
 ghost use Rattle.std.specs.Cmp.Lexicographic.{pointwise};
 ghost use Rattle.pc_model.specs.declared.row.Row.{Row};
-ghost use Rattle.pc_model.specs.Places.{is_below};
-ghost use Rattle.pc_model.specs.Membership.{is_between, allows, in_domain};
+ghost use Rattle.pc_model.specs.Membership.{in_domain};
 ghost use Rattle.pc_first.specs.Lines.{lines_of};
 ghost use Rattle.pc_first.specs.RowForm.{fields_of, cell_of, fits, fits_at, is_named, is_named_at, row_of, rows_of, observed_of, Counts};
 
@@ -14,7 +13,6 @@ use pc_model::{Column, Fault, FileKind, Kind, Schema};
 const MOST_ROWS: u64 = 1_000_000;
 
 /// How many rows a file has, or its first line that is not in the form. The rows are checked and passed over.
-#[tactic(auto)]
 pub fn count_rows(schema: &Schema, bytes: &[u8]) -> Result<u64, Fault>
     ensures counts { Counts result (observed_of schema.now bytes.now) }
     ensures inside { (rows : List Row) → observed_of schema.now bytes.now ≡ Ok rows → AllPass (in_domain schema.now) rows }
@@ -120,36 +118,9 @@ fn is_cell(kind: &Kind, field: &[u8]) -> bool
     ensures { result ≡ is_some (cell_of kind.now field.now) }
 {
     match read_number(field) {
-        Some(number) => allows(kind, number),
+        Some(number) => kind.allows(number),
         None => false,
     }
-}
-
-#[tactic(auto, unfolding(pc_model::specs::Membership::allows))]
-fn allows(kind: &Kind, number: i64) -> bool
-    ensures { result ≡ allows kind.now number }
-{
-    match kind {
-        Kind::Int { low, high } => is_between(*low, *high, number),
-        Kind::Dec { low, high, .. } => is_between(*low, *high, number),
-        Kind::Cat { names } => is_below(names.len(), number),
-    }
-}
-
-fn is_between(low: i64, high: i64, number: i64) -> bool
-    ensures { result ≡ is_between low high number }
-{
-    low <= number && number <= high
-}
-
-// Whether a number is a place in a list of that length.
-fn is_below(count: usize, number: i64) -> bool
-    ensures { result ≡ is_below count number }
-{
-    if number < 0 {
-        return false;
-    }
-    (number as u64) < count as u64
 }
 
 #[cfg(test)]
