@@ -1,2 +1,11 @@
+pub mod Decimals
 pub mod Numbers
+pub mod ReadBack
 pub mod Spells
+pub mod Divisors
+pub mod Signed
+pub mod Quotients
+pub mod Comparing
+pub mod Sums
+pub mod Rounding
+pub mod Rows

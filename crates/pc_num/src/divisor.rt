@@ -1,0 +1,104 @@
+ghost use Rattle.std.specs.Prelude.{◌≡◌, ◌<◌, ◌^◌, ◌*ℤ◌, ◌<ℤ◌, ◌≤ℤ◌, ℕ, ℤ, pos, unsigned_abs, int_div, map, All};
+ghost use Rattle.std.specs.Int.{IsGcd};
+ghost use Rattle.pc_num.specs.Divisor.{IsRowGcd};
+ghost use Rattle.pc_num.specs.Signs.{Fits};
+
+/// The greatest common divisor. It is at least 0, and that of 0 and 0 is 0.
+pub fn gcd(a: i128, b: i128) -> i128
+    requires a_fits { Fits a }
+    requires b_fits { Fits b }
+    ensures common { IsGcd (unsigned_abs a) (unsigned_abs b) (unsigned_abs result) }
+    ensures sign { pos 0 ≤ℤ result }
+    ensures fits { Fits result }
+{
+    common_divisor(a.unsigned_abs(), b.unsigned_abs()) as i128
+}
+
+/// Divides a row by the greatest common divisor of its entries, and leaves a row of zeros as it is.
+pub fn primitive(row: &mut [i128])
+    requires { All Fits row.old }
+    ensures divided { (g : ℕ) × IsRowGcd row.old g × (map (λ x. x *ℤ pos g) row.new ≡ row.old) }
+    ensures zeros { All (λ x. x ≡ pos 0) row.old → row.new ≡ row.old }
+{
+    let divisor = row_divisor(row);
+    if divisor > 0 {
+        divide(row, divisor);
+    }
+}
+
+// The greatest common divisor of a row.
+fn row_divisor(row: &[i128]) -> i128
+    requires { All Fits row.now }
+    ensures common { IsRowGcd row.now (unsigned_abs result) }
+    ensures sign { pos 0 ≤ℤ result }
+{
+    let mut divisor: i128 = 0;
+    for entry in row {
+        divisor = gcd(divisor, *entry);
+    }
+    divisor
+}
+
+fn divide(row: &mut [i128], divisor: i128)
+    requires { pos 0 <ℤ divisor }
+    ensures { row.new ≡ map (λ x. int_div x divisor) row.old }
+{
+    for entry in row.iter_mut() {
+        *entry /= divisor;
+    }
+}
+
+// The greatest common divisor of two sizes.
+pub(crate) fn common_divisor(a: u128, b: u128) -> u128
+    ensures { IsGcd a b result }
+{
+    let mut divisor = a;
+    let mut rest = b;
+    while rest != 0 {
+        let next = divisor % rest;
+        divisor = rest;
+        rest = next;
+    }
+    divisor
+}
+
+#[cfg(test)]
+mod tests {
+    use super::*;
+
+    #[test]
+    fn greatest_common_divisors(rt: HostRuntime) {
+        let cases: [(i128, i128, i128); 8] = [
+            (0, 0, 0),
+            (-12, 18, 6),
+            (12, -18, 6),
+            (0, -7, 7),
+            (7, 0, 7),
+            (1, 12, 1),
+            (-i128::MAX, i128::MAX, i128::MAX),
+            (1 << 126, 1 << 100, 1 << 100),
+        ];
+        for (a, b, expected) in cases {
+            assert_eq!(rt; gcd(a, b), expected);
+        }
+    }
+
+    #[test]
+    fn rows(rt: HostRuntime) {
+        let mut row = [6, -9, 0];
+        primitive(&mut row);
+        assert_eq!(rt; row, [2, -3, 0]);
+        let mut zeros = [0, 0];
+        primitive(&mut zeros);
+        assert_eq!(rt; zeros, [0, 0]);
+        let mut coprime = [4, 9];
+        primitive(&mut coprime);
+        assert_eq!(rt; coprime, [4, 9]);
+        let mut one = [-i128::MAX];
+        primitive(&mut one);
+        assert_eq!(rt; one, [-1]);
+        let mut empty: [i128; 0] = [];
+        primitive(&mut empty);
+        assert_eq!(rt; empty.len(), 0);
+    }
+}

@@ -1,0 +1,135 @@
+ghost use Rattle.std.specs.Prelude.{◌≡◌, ◌≤◌, ◌<◌, ◌+◌, ◌/◌, ◌%◌, ◌^◌, ◌++◌, ℕ, ℤ, IfOk, Ok, OnErr, OnOk, decimal, unsigned_abs};
+ghost use Rattle.pc_num.specs.Put.{decimals_of, fraction_text, minus_text, scaled_text};
+ghost use Rattle.pc_num.specs.Scaled.{scaled_of};
+
+use crate::Memory;
+use std::alloc::Global;
+
+/// Appends a number of units of the last place as decimal text with exactly `scale` decimals: at a scale of 2, -5 is
+/// `-0.05`.
+pub fn put_scaled(alloc: Global, out: &mut Vec<u8>, value: i128, scale: u8) -> Result<(), Memory>
+    requires { scale ≤ 6 }
+    ensures ok { OnOk result (out.new.items ≡ out.old.items ++ scaled_text value scale) }
+    ensures err { OnErr result (out.new.items ≡ out.old.items) }
+{
+    let text = text_of(alloc, value, scale)?;
+    out.extend_from_slice(text.as_slice())?;
+    Ok(())
+}
+
+/// What `put_scaled` writes is what `read_scaled` reads, at every scale.
+#[tactic(auto, using(crate::proofs::ReadBack::reads_back))]
+pub fn reads_back()
+    ensures { (value : ℤ) (scale : ℕ) → unsigned_abs value ≤ 10 ^ 15 → scaled_of scale (scaled_text value scale) ≡ Ok value }
+{}
+
+#[tactic(auto, unfolding(crate::specs::Put::scaled_text))]
+fn text_of(alloc: Global, value: i128, scale: u8) -> Result<Vec<u8>, Memory>
+    requires { scale ≤ 6 }
+    ensures { IfOk result (λ text. text.items ≡ scaled_text value scale) }
+{
+    let size = value.unsigned_abs();
+    let mut text = Vec::new(alloc);
+    put_minus(&mut text, value)?;
+    let whole = (size / power_of_ten(scale)).to_string(alloc)?;
+    text.extend_from_slice(whole.as_bytes())?;
+    put_fraction(&mut text, size, scale)?;
+    Ok(text)
+}
+
+fn put_minus(out: &mut Vec<u8>, value: i128) -> Result<(), Memory>
+    ensures { OnOk result (out.new.items ≡ out.old.items ++ minus_text value) }
+{
+    if value < 0 {
+        out.push(b'-')?;
+    }
+    Ok(())
+}
+
+fn put_fraction(out: &mut Vec<u8>, size: u128, scale: u8) -> Result<(), Memory>
+    requires { scale ≤ 6 }
+    ensures { OnOk result (out.new.items ≡ out.old.items ++ fraction_text scale size) }
+{
+    if scale == 0 {
+        return Ok(());
+    }
+    out.push(b'.')?;
+    put_decimals(out, size, scale)
+}
+
+// Appends the last so many digits of a number.
+#[tactic(auto, using(crate::proofs::Decimals::decimals_steps))]
+fn put_decimals(out: &mut Vec<u8>, size: u128, count: u8) -> Result<(), Memory>
+    requires { count ≤ 6 }
+    ensures { OnOk result (out.new.items ≡ out.old.items ++ decimals_of count size) }
+{
+    let mut left = count;
+    while left > 0 {
+        left -= 1;
+        out.push(digit_at(size, left))?;
+    }
+    Ok(())
+}
+
+// The digit of a number before so many others.
+fn digit_at(size: u128, place: u8) -> u8
+    requires { place ≤ 6 }
+    ensures { result ≡ 48 + size / 10 ^ place % 10 }
+{
+    b'0' + (size / power_of_ten(place) % 10) as u8
+}
+
+#[tactic(auto, using(crate::proofs::Decimals::power_positive))]
+fn power_of_ten(exponent: u8) -> u128
+    requires { exponent ≤ 6 }
+    ensures value { result ≡ 10 ^ exponent }
+    ensures positive { 0 < result }
+{
+    10u128.pow(u32::from(exponent))
+}
+
+#[cfg(test)]
+mod tests {
+    use super::*;
+    use std::test::Fail;
+
+    #[test]
+    fn puts_numbers(rt: HostRuntime) -> Result<(), Fail> {
+        let alloc = rt.alloc();
+        let cases: [(i128, u8, &str); 20] = [
+            (0, 0, "0"),
+            (0, 2, "0.00"),
+            (7, 0, "7"),
+            (-7, 0, "-7"),
+            (-5, 2, "-0.05"),
+            (-100, 2, "-1.00"),
+            (10, 1, "1.0"),
+            (-10, 1, "-1.0"),
+            (123_456, 3, "123.456"),
+            (100_500, 3, "100.500"),
+            (1, 6, "0.000001"),
+            (-1, 6, "-0.000001"),
+            (999_999, 6, "0.999999"),
+            (1_000_000, 6, "1.000000"),
+            (314_159, 5, "3.14159"),
+            (1_000_000_000_000_000, 0, "1000000000000000"),
+            (-1_000_000_000_000_000, 2, "-10000000000000.00"),
+            (i128::MAX, 0, "170141183460469231731687303715884105727"),
+            (i128::MIN, 0, "-170141183460469231731687303715884105728"),
+            (i128::MIN, 6, "-170141183460469231731687303715884.105728"),
+        ];
+        let mut out = Vec::new(alloc);
+        for (value, scale, want) in cases {
+            assert!(rt; scale <= 6);
+            out.clear();
+            out.extend_from_slice(b"in 3..")?;
+            put_scaled(alloc, &mut out, value, scale)?;
+            assert!(rt;
+                out.as_slice().strip_prefix(b"in 3..") == Some(want.as_bytes()),
+                "{want}"
+            );
+        }
+        reads_back();
+        Ok(())
+    }
+}
