@@ -2,8 +2,11 @@ pub mod Aggregate
 pub mod Boxes
 pub mod FaultTexts
 pub mod Membership
+pub mod Numbers
 pub mod Places
 pub mod Possible
 pub mod Refusals
 pub mod Right
 pub mod Runs
+pub mod Texts
+pub mod WellFormed

@@ -1,6 +1,8 @@
 ghost use Rattle.std.specs.Prelude.{◌≡◌};
 ghost use Rattle.pc_model.specs.FaultTexts.{number_of, name_of, file_name_of};
 
+use pc_num::Memory;
+use std::alloc::{AllocError, AllocFailed};
 use thiserror::Error;
 
 /// What is read: one of the files, or the text of a query.
@@ -56,6 +58,79 @@ pub enum Refusal {
     Fault(Fault),
     #[error("out of memory")]
     Memory,
+}
+
+impl From<Memory> for Refusal {
+    ghost use Rattle.std.specs.Prelude.{◌≡◌};
+    ghost use Rattle.pc_model.specs.declared.fault.Refusal.TheVariants.{Memory};
+
+    ghost from_gives = { λ _ refusal. refusal ≡ Memory };
+
+    fn from(_memory: Memory) -> Refusal {
+        Refusal::Memory
+    }
+}
+
+/// Why a part of a file gives no value: a reason, whose place only the reader of the whole file knows, or
+/// want of memory.
+#[derive(Clone, Copy, Debug, PartialEq, Eq, Error)]
+pub enum Stop {
+    #[error("{0:?}")]
+    Reason(Reason),
+    #[error("out of memory")]
+    Memory,
+}
+
+impl Stop {
+    ghost use Rattle.std.specs.Prelude.{◌≡◌};
+    ghost use Rattle.pc_model.specs.Refusals.{refusal_at};
+
+    /// The same for the file, with the place of the part.
+    pub fn at(self, file: FileKind, place: u64) -> Refusal
+        ensures { result ≡ refusal_at file place self }
+    {
+        match self {
+            Stop::Reason(reason) => Refusal::Fault(Fault {
+                file,
+                place,
+                reason,
+            }),
+            Stop::Memory => Refusal::Memory,
+        }
+    }
+}
+
+impl From<Reason> for Stop {
+    ghost use Rattle.std.specs.Prelude.{◌≡◌};
+    ghost use Rattle.pc_model.specs.declared.fault.Stop.TheVariants.{Reason};
+
+    ghost from_gives = { λ reason stop. stop ≡ Reason reason };
+
+    fn from(reason: Reason) -> Stop {
+        Stop::Reason(reason)
+    }
+}
+
+impl From<AllocError> for Stop {
+    ghost use Rattle.std.specs.Prelude.{◌≡◌};
+    ghost use Rattle.pc_model.specs.declared.fault.Stop.TheVariants.{Memory};
+
+    ghost from_gives = { λ _ stop. stop ≡ Memory };
+
+    fn from(_error: AllocError) -> Stop {
+        Stop::Memory
+    }
+}
+
+impl<T: Drop> From<AllocFailed<T>> for Stop {
+    ghost use Rattle.std.specs.Prelude.{◌≡◌};
+    ghost use Rattle.pc_model.specs.declared.fault.Stop.TheVariants.{Memory};
+
+    ghost from_gives = { λ _ stop. stop ≡ Memory };
+
+    fn from(_refused: AllocFailed<T>) -> Stop {
+        Stop::Memory
+    }
 }
 
 impl FileKind {

@@ -3,18 +3,22 @@
 
 mod constraint;
 mod fault;
+mod number;
 mod query;
 mod region;
 mod row;
 mod schema;
 #[cfg(test)]
 mod tests;
+mod text;
 mod tree;
 
 pub use constraint::Constraint;
-pub use fault::{Fault, FileKind, Reason, Refusal};
+pub use fault::{Fault, FileKind, Reason, Refusal, Stop};
+pub use number::read_number;
 pub use query::{Agg, Folded, Query};
 pub use region::{Region, Side};
 pub use row::{Row, Run};
 pub use schema::{Column, Kind, Schema};
+pub use text::{is_name, text_of};
 pub use tree::{Cut, CutNode, CutTree, LeafMark, Mult, Tree, TreeNode};

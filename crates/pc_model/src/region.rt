@@ -1,5 +1,5 @@
 ghost use Rattle.std.specs.Prelude.{◌≡◌};
-ghost use Rattle.pc_model.specs.Membership.{is_between, holds, has};
+ghost use Rattle.pc_model.specs.Membership.{is_between, holds, has, row_from};
 ghost use Rattle.pc_model.specs.Places.{is_place_of};
 
 use crate::row::Row;
@@ -52,12 +52,18 @@ fn is_place_of(bits: u128, number: i64) -> bool
 
 impl Region {
     /// Whether the region holds a row: one number per side, each held by its side.
-    #[tactic(auto, using(crate::proofs::Pairs::steps), unfolding(crate::specs::Membership::has))]
     pub fn has(&self, row: &Row) -> bool
         ensures { result ≡ has self.now row.now }
     {
+        self.has_cells(row.cells.as_slice())
+    }
+
+    /// The same of a row of these numbers.
+    #[tactic(auto, using(crate::proofs::Pairs::steps), unfolding(crate::specs::Membership::has))]
+    pub fn has_cells(&self, cells: &[i64]) -> bool
+        ensures { result ≡ has self.now (row_from cells.now) }
+    {
         let sides = self.sides.as_slice();
-        let cells = row.cells.as_slice();
         if sides.len() != cells.len() {
             return false;
         }

@@ -1,5 +1,9 @@
-use crate::{Column, FileKind, Kind, Reason, Region, Row, Schema, Side};
+use crate::{
+    Column, Fault, FileKind, Kind, Reason, Refusal, Region, Row, Schema, Side, Stop, is_name,
+    read_number, text_of,
+};
 use pc_list::{Seq, Text};
+use pc_num::Memory;
 use std::alloc::{AllocError, Global};
 use std::test::Fail;
 
@@ -121,4 +125,80 @@ fn printed_names(rt: HostRuntime) {
     for (file, name) in files {
         assert!(rt; file.name() == name, "the file {name}");
     }
+}
+
+#[test]
+fn texts_of_files(rt: HostRuntime) {
+    let cases: [(&[u8], Result<&[u8], Reason>); 9] = [
+        (b"", Ok(b"")),
+        (b"a\n", Ok(b"a\n")),
+        (b"\xef\xbb\xbfa", Ok(b"a")),
+        (b"\xef\xbb\xbf", Ok(b"")),
+        (b"\xef\xbb\xbf\xef\xbb\xbf", Ok(b"\xef\xbb\xbf")),
+        (b"a\xef\xbb\xbf", Ok(b"a\xef\xbb\xbf")),
+        (b"\xef\xbb", Err(Reason::NotUtf8)),
+        (b"a\xff", Err(Reason::NotUtf8)),
+        (b"\xc0\x80", Err(Reason::NotUtf8)),
+    ];
+    for (number, (bytes, want)) in cases.into_iter().enumerate() {
+        assert!(rt; text_of(bytes) == want, "case {number}");
+    }
+}
+
+#[test]
+fn names(rt: HostRuntime) {
+    let cases: [(&[u8], bool); 12] = [
+        (b"a", true),
+        (b" ", true),
+        (b"New York", true),
+        ("größe".as_bytes(), true),
+        (b"\"a,b\"", true),
+        (&[b'n'; 64], true),
+        (&[b'n'; 65], false),
+        (b"", false),
+        (b"a\x1f", false),
+        (b"\x7f", false),
+        (b"a\nb", false),
+        (b"\xff", false),
+    ];
+    for (number, (text, want)) in cases.into_iter().enumerate() {
+        assert!(rt; is_name(text) == want, "case {number}");
+    }
+}
+
+#[test]
+fn numbers_of_files(rt: HostRuntime) {
+    let cases: [(&str, u8, Result<i64, Reason>); 6] = [
+        ("-7.5", 2, Ok(-750)),
+        ("1000000000000000", 0, Ok(1_000_000_000_000_000)),
+        ("", 0, Err(Reason::BadNumber)),
+        ("7,5", 1, Err(Reason::BadNumber)),
+        ("7.55", 1, Err(Reason::TooManyDecimals)),
+        ("1000000000000001", 0, Err(Reason::PastLimit)),
+    ];
+    for (text, scale, want) in cases {
+        assert_eq!(rt;
+            read_number(text.as_bytes(), scale),
+            want,
+            "{text} at {scale}"
+        );
+    }
+}
+
+#[test]
+fn stops(rt: HostRuntime) {
+    let fault = Fault {
+        file: FileKind::Rows,
+        place: 7,
+        reason: Reason::BadNumber,
+    };
+    assert_eq!(rt;
+        Stop::from(Reason::BadNumber).at(FileKind::Rows, 7),
+        Refusal::Fault(fault)
+    );
+    assert_eq!(rt;
+        Stop::from(AllocError).at(FileKind::Rows, 7),
+        Refusal::Memory
+    );
+    assert_eq!(rt; Refusal::from(Memory), Refusal::Memory);
 }
