@@ -1,0 +1,8 @@
+//! The records of a text of comma-separated fields, one after the other.
+#![tactic(auto)]
+
+mod table;
+#[cfg(test)]
+mod tests;
+
+pub use table::{Table, field};
