@@ -1,0 +1,3 @@
+pub mod SchemaFile
+pub mod Domain
+pub mod Plain

@@ -1,0 +1,14 @@
+//! The schema file: records of comma-separated fields, one for each column.
+#![tactic(auto)]
+
+mod column;
+mod domain;
+mod kind;
+mod plain;
+mod schema;
+#[cfg(test)]
+mod tests;
+
+pub use domain::whole;
+pub use plain::{reads_plain_fields, reads_plain_text};
+pub use schema::read_schema;
