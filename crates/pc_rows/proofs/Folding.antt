@@ -1,0 +1,122 @@
+-- The fold of the rows up to a place, from the fold of those before it.
+use Rattle.std.proofs.Common.{◌≡◌, ◌∙◌, ℕ, ◌+◌, ◌<◌, ◌≤◌, ◌&&◌, true, false, ℤ, pos, ◌+ℤ◌, List, [], ◌∷◌, ◌++◌, length, map, take, Option, Some, None, refl, ap, sym, arith}
+use Rattle.std.specs.List.{reduce}
+use Rattle.std.specs.Int.{int_min, int_max}
+use Rattle.std.proofs.lemmas.Int.{ints}
+use Rattle.std.proofs.lemmas.List.{length-append, map-append, append-nil, take_more, take_all}
+use Rattle.std.proofs.lemmas.List.Elements.{filter-append}
+use Rattle.std.proofs.lemmas.List.Sums.{fold-append}
+use Rattle.pc_model.specs.declared.row.Row.{Row}
+use Rattle.pc_model.specs.declared.query.Query.{Query}
+use Rattle.pc_model.specs.declared.query.Folded.{Folded}
+use Rattle.pc_model.specs.Aggregate.{int_sum, is_in_group, kept, number_at}
+use Rattle.pc_model.specs.Membership.{has}
+use Rattle.pc_rows.specs.Folds.{sum_at, best_at, better, sum_with, best_with, IsFold, IsWithRow, IsSmall}
+use Rattle.pc_rows.specs.Stored.{row_at}
+use Rattle.pc_model.specs.Membership.{row_from as row}
+
+-- the fold of the rows before a place
+pub record IsFoldedTo (query : Query) (rows : List Row) (place : ℕ) (folded : Folded) : Type 0 where
+  pub few : folded.count ≤ place
+  pub small : IsSmall folded
+  pub before : IsFold query (take place rows) folded
+
+int_sum-push : (xs : List ℤ) (x : ℤ) → int_sum (xs ++ x ∷ []) ≡ int_sum xs +ℤ x
+int_sum-push [] x = omega (arith, ints)
+int_sum-push (y ∷ ys) x = omega (arith, ints, int_sum-push ys x)
+
+reduce-push : (pick : ℤ → ℤ → ℤ) (xs : List ℤ) (x : ℤ) → reduce pick (xs ++ x ∷ []) ≡ Some (better pick (reduce pick xs) x)
+reduce-push pick [] x = refl
+reduce-push pick (y ∷ ys) x = ap Some (fold-append pick y ys (x ∷ []))
+
+sum_at-push : (column : Option ℕ) (rows : List Row) (extra : Row) → sum_at column (rows ++ extra ∷ []) ≡ sum_with column (sum_at column rows) extra
+sum_at-push None rows extra = refl
+sum_at-push (Some column) rows extra =
+    let at = λ (found : Row). number_at found column in
+    rw (map-append at rows (extra ∷ [])) (int_sum-push (map at rows) (at extra))
+
+best_at-push : (pick : ℤ → ℤ → ℤ) (column : Option ℕ) (rows : List Row) (extra : Row) → best_at pick column (rows ++ extra ∷ []) ≡ best_with pick column (best_at pick column rows) extra
+best_at-push pick None rows extra = refl
+best_at-push pick (Some column) rows extra =
+    let at = λ (found : Row). number_at found column in
+    rw (map-append at rows (extra ∷ [])) (reduce-push pick (map at rows) (at extra))
+
+any_group : (group : Option ℕ) (extra : Row) → is_in_group group None extra ≡ true
+any_group None extra = refl
+any_group (Some column) extra = refl
+
+kept_yes : (query : Query) (rows : List Row) (extra : Row) → has query.chosen extra ≡ true → kept query None (rows ++ extra ∷ []) ≡ kept query None rows ++ extra ∷ []
+kept_yes query rows extra chosen = filter-append (λ (found : Row). has query.chosen found && is_in_group query.group None found) rows (extra ∷ []) ∙ rw (chosen, any_group query.group extra) refl
+
+kept_no : (query : Query) (rows : List Row) (extra : Row) → has query.chosen extra ≡ false → kept query None (rows ++ extra ∷ []) ≡ kept query None rows
+kept_no query rows extra other = filter-append (λ (found : Row). has query.chosen found && is_in_group query.group None found) rows (extra ∷ []) ∙ rw other (append-nil (kept query None rows))
+
+no_sum : (column : Option ℕ) → sum_at column [] ≡ pos 0
+no_sum None = refl
+no_sum (Some column) = refl
+
+no_best : (pick : ℤ → ℤ → ℤ) (column : Option ℕ) → best_at pick column [] ≡ None
+no_best pick None = refl
+no_best pick (Some column) = refl
+
+pub fold_none : (query : Query) (rows : List Row) → IsFoldedTo query rows 0 (record { count = 0; sum = pos 0; least = None; greatest = None })
+fold_none query rows = record {
+  few = omega arith;
+  small = record { above = omega (arith, ints); below = omega (arith, ints) };
+  before = record {
+    count = refl;
+    sum = sym (no_sum query.column);
+    least = sym (no_best int_min query.column);
+    greatest = sym (no_best int_max query.column);
+  };
+}
+
+pub fold_yes : (query : Query) (rows : List Row) (place : ℕ) (folded more : Folded) (cells : List ℤ) → place < length rows → IsFoldedTo query rows place folded → cells ≡ (row_at rows place).cells → has query.chosen (row cells) ≡ true → IsWithRow query.column folded (row cells) more → IsSmall more → IsFoldedTo query rows (place + 1) more
+fold_yes query rows place folded more cells below folded_to is its_chosen its_with small =
+    let chosen : has query.chosen (row_at rows place) ≡ true = rw is at its_chosen in
+    let with : IsWithRow query.column folded (row_at rows place) more = rw is at its_with in
+    let before = folded_to.before in
+    let old : List Row = kept query None (take place rows) in
+    let extra : Row = row_at rows place in
+    let longer : kept query None (take (place + 1) rows) ≡ kept query None (take place rows) ++ row_at rows place ∷ [] =
+    ap (kept query None) (take_more rows place (row []) below) ∙ kept_yes query (take place rows) extra chosen in
+    record {
+      few = omega (arith, with.count, folded_to.few);
+      small = small;
+      before = record {
+        count = rw longer (omega (arith, with.count, before.count, length-append old (extra ∷ [])));
+        sum = with.sum ∙ rw (before.sum, longer) (sym (sum_at-push query.column old extra));
+        least = with.least ∙ rw (before.least, longer) (sym (best_at-push int_min query.column old extra));
+        greatest = with.greatest ∙ rw (before.greatest, longer) (sym (best_at-push int_max query.column old extra));
+      };
+    }
+
+pub fold_no : (query : Query) (rows : List Row) (place : ℕ) (folded : Folded) (cells : List ℤ) → place < length rows → IsFoldedTo query rows place folded → cells ≡ (row_at rows place).cells → has query.chosen (row cells) ≡ false → IsFoldedTo query rows (place + 1) folded
+fold_no query rows place folded cells below folded_to is its_other =
+    let other : has query.chosen (row_at rows place) ≡ false = rw is at its_other in
+    let before = folded_to.before in
+    let same : kept query None (take (place + 1) rows) ≡ kept query None (take place rows) =
+    ap (kept query None) (take_more rows place (row []) below) ∙ kept_no query (take place rows) (row_at rows place) other in
+    record {
+      few = omega (arith, folded_to.few);
+      small = folded_to.small;
+      before = record {
+        count = rw same before.count;
+        sum = rw same before.sum;
+        least = rw same before.least;
+        greatest = rw same before.greatest;
+      };
+    }
+
+pub fold_all : (query : Query) (rows : List Row) (place : ℕ) (folded : Folded) → length rows ≤ place → IsFoldedTo query rows place folded → IsFold query rows folded
+fold_all query rows place folded past folded_to =
+    let before = folded_to.before in
+    rw (take_all place rows past) at before
+
+pub with_some : (column : Option ℕ) (at : ℕ) (folded : Folded) (cells : List ℤ) (number sum least greatest : ℤ) → column ≡ Some at → number ≡ number_at (row cells) at → sum ≡ folded.sum +ℤ number → least ≡ better int_min folded.least number → greatest ≡ better int_max folded.greatest number → IsWithRow column folded (row cells) (record { count = folded.count + 1; sum = sum; least = Some least; greatest = Some greatest })
+with_some column at folded cells number sum least greatest is number_is sum_is least_is greatest_is = rw is (record {
+  count = refl;
+  sum = rw (← number_is) sum_is;
+  least = rw (← number_is) (ap Some least_is);
+  greatest = rw (← number_is) (ap Some greatest_is);
+})
