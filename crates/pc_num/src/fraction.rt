@@ -165,7 +165,7 @@ fn differ(n: i128, d: i128) -> bool
     (n < 0) != (d < 0)
 }
 
-// The same, where each size is a product.
+// The fraction of these products of sizes, below 0 where minus is set.
 fn made_product(minus: bool, num: (u128, u128), den: (u128, u128)) -> Option<Frac>
     ensures { SomeIff result ((num.0 * num.1 < 2 ^ 127) × (den.0 * den.1 < 2 ^ 127)) (record { num = signed minus (num.0 * num.1); den = pos (den.0 * den.1) }) }
 {
