@@ -1,8 +1,9 @@
-ghost use Rattle.std.specs.Prelude.{◌≡◌, [], ◌∷◌, length, map, IfOk};
+ghost use Rattle.std.specs.Prelude.{◌≡◌, [], ◌∷◌, length, map, IfOk, All};
+ghost use Rattle.pc_model.specs.WellFormed.{HasFewNames, HaveFewNames};
 
-use crate::Rows;
-use pc_list::Seq;
-use pc_model::{Agg, Folded, Query, Region, Row, Side};
+use crate::{Rows, read_rows};
+use pc_list::{Seq, Text};
+use pc_model::{Agg, Column, Folded, Kind, Query, Reason, Refusal, Region, Row, Schema, Side};
 use std::alloc::{AllocError, Global};
 use std::test::Fail;
 
@@ -100,5 +101,229 @@ fn extreme_numbers(rt: HostRuntime) -> Result<(), Fail> {
     let highest = rows.fold(&query(alloc, Some(1), any, any)?);
     assert!(rt; lowest == folded(2, -18446744073709551616, Some(i64::MIN), Some(i64::MIN)));
     assert!(rt; highest == folded(2, 18446744073709551614, Some(i64::MAX), Some(i64::MAX)));
+    Ok(())
+}
+
+fn column(alloc: Global, name: &str, kind: Kind) -> Result<Column, AllocError>
+    requires { HasFewNames kind }
+    ensures { IfOk result (λ column. HasFewNames column.kind) }
+{
+    Ok(Column {
+        name: Text::from_text(alloc, name)?,
+        kind,
+    })
+}
+
+fn branches(alloc: Global) -> Result<Kind, AllocError>
+    ensures { IfOk result HasFewNames }
+{
+    let mut names = Seq::new(alloc);
+    names.push(Text::from_text(alloc, "Chicago")?)?;
+    names.push(Text::from_text(alloc, "NewYork")?)?;
+    names.push(Text::from_text(alloc, "Trenton")?)?;
+    Ok(Kind::Cat { names })
+}
+
+// A branch, a day of a month, and a price up to 1000.00.
+fn sales(alloc: Global) -> Result<Schema, AllocError>
+    ensures few { IfOk result (λ schema. HaveFewNames schema.columns) }
+    ensures three { IfOk result (λ schema. length schema.columns ≡ 3) }
+{
+    let day = Kind::Int { low: 1, high: 31 };
+    let price = Kind::Dec {
+        scale: 2,
+        low: 0,
+        high: 100_000,
+    };
+    let mut columns = Seq::new(alloc);
+    columns.push(column(alloc, "branch", branches(alloc)?)?)?;
+    columns.push(column(alloc, "day", day)?)?;
+    columns.push(column(alloc, "price", price)?)?;
+    Ok(Schema { columns })
+}
+
+// The numbers of rows of three columns, row by row.
+fn numbers(alloc: Global, rows: &Rows) -> Result<Vec<i64>, AllocError>
+    requires { All (λ row. length row.cells ≡ 3) rows.now }
+{
+    let mut numbers = Vec::new(alloc);
+    for place in 0..rows.count() {
+        numbers.push(rows.cell(place, 0))?;
+        numbers.push(rows.cell(place, 1))?;
+        numbers.push(rows.cell(place, 2))?;
+    }
+    Ok(numbers)
+}
+
+// The numbers of a file of sales, or the place and the reason of its first fault.
+fn outcome(alloc: Global, text: &[u8]) -> Result<Result<Vec<i64>, (u64, Reason)>, Fail> {
+    let schema = sales(alloc)?;
+    match read_rows(alloc, &schema, text) {
+        Ok(rows) => Ok(Ok(numbers(alloc, &rows)?)),
+        Err(Refusal::Fault(fault)) => Ok(Err((fault.place, fault.reason))),
+        Err(Refusal::Memory) => Err(Fail::from(AllocError)),
+    }
+}
+
+#[test]
+fn files_that_are_read(rt: HostRuntime) -> Result<(), Fail> {
+    let alloc = rt.alloc();
+    let two_rows = [0, 3, 10000, 1, 5, 5000];
+    let cases: [(&str, &[i64]); 11] = [
+        (
+            "branch,day,price\nChicago,3,100.00\nNewYork,5,50.00\n",
+            &two_rows,
+        ),
+        (
+            "\u{feff}branch,day,price\nChicago,3,100.00\nNewYork,5,50.00\n",
+            &two_rows,
+        ),
+        (
+            "price,branch,day\n100.00,Chicago,3\n50.00,NewYork,5\n",
+            &two_rows,
+        ),
+        (
+            "branch,note,day,price,note\nChicago,,3,100.00,x\nNewYork,a b,5,50.00,\n",
+            &two_rows,
+        ),
+        (
+            "branch,day,price\r\nChicago,3,100.00\r\nNewYork,5,50.00\r\n",
+            &two_rows,
+        ),
+        (
+            "branch,day,price\n\nChicago,3,100\n\nNewYork,+5,50.0",
+            &two_rows,
+        ),
+        (
+            "\"branch\",day,price\n\"Chicago\",\"3\",100\nNewYork,05,50\n",
+            &two_rows,
+        ),
+        ("branch,day,price\nTrenton, 3 ,  0.5\n", &[2, 3, 50]),
+        (
+            "branch,day,price\nTrenton,1,0\nTrenton,31,1000\n",
+            &[2, 1, 0, 2, 31, 100000],
+        ),
+        ("branch,day,price\n", &[]),
+        ("day,price,branch", &[]),
+    ];
+    for (text, wanted) in cases {
+        match outcome(alloc, text.as_bytes())? {
+            Ok(numbers) => assert!(rt; numbers.as_slice() == wanted, "{text}"),
+            Err(_) => assert!(rt; false, "{text}"),
+        }
+    }
+    Ok(())
+}
+
+#[test]
+fn headers_that_are_refused(rt: HostRuntime) -> Result<(), Fail> {
+    let alloc = rt.alloc();
+    let cases = [
+        ("", Reason::NoHeader),
+        ("\n\r\n", Reason::NoHeader),
+        ("branch,day\n", Reason::MissingColumn),
+        ("branch,day, price\n", Reason::MissingColumn),
+        ("branch,Day,price\n", Reason::MissingColumn),
+        ("branch,day,price,day\n", Reason::RepeatedName),
+        // The columns come in the order of the schema.
+        ("day,day,price\n", Reason::MissingColumn),
+        ("branch,branch,day\nBoston\n", Reason::RepeatedName),
+    ];
+    for (text, reason) in cases {
+        match outcome(alloc, text.as_bytes())? {
+            Ok(_) => assert!(rt; false, "{text}"),
+            Err(fault) => assert_eq!(rt; fault, (1, reason), "{text}"),
+        }
+    }
+    Ok(())
+}
+
+#[test]
+fn records_that_are_refused(rt: HostRuntime) -> Result<(), Fail> {
+    let alloc = rt.alloc();
+    let cases = [
+        ("Chicago,3\n", 2, Reason::FieldCount),
+        ("Chicago,3,1,\n", 2, Reason::FieldCount),
+        ("Chicago,3,100.001\n", 2, Reason::TooManyDecimals),
+        ("Chicago,3.5,1\n", 2, Reason::TooManyDecimals),
+        ("Chicago,3,2000\n", 2, Reason::OutsideDomain),
+        ("Chicago,3,1000.01\n", 2, Reason::OutsideDomain),
+        ("Chicago,3,-0.01\n", 2, Reason::OutsideDomain),
+        ("Chicago,0,1\n", 2, Reason::OutsideDomain),
+        ("Chicago,32,1\n", 2, Reason::OutsideDomain),
+        ("Chicago,3,10000000000000.01\n", 2, Reason::PastLimit),
+        ("Boston,3,1\n", 2, Reason::UnknownName),
+        ("Chicago ,3,1\n", 2, Reason::UnknownName),
+        ("Chicag,3,1\n", 2, Reason::UnknownName),
+        ("Chicagos,3,1\n", 2, Reason::UnknownName),
+        ("chicago,3,1\n", 2, Reason::UnknownName),
+        (",3,1\n", 2, Reason::UnknownName),
+        ("Chicago,,1\n", 2, Reason::BadNumber),
+        ("Chicago,  ,1\n", 2, Reason::BadNumber),
+        ("Chicago,\t3,1\n", 2, Reason::BadNumber),
+        ("Chicago,3\t,1\n", 2, Reason::BadNumber),
+        ("Chicago,1 2,1\n", 2, Reason::BadNumber),
+        // The number of fields comes before the fields, and these come in the order of the schema.
+        ("Boston,x\n", 2, Reason::FieldCount),
+        ("Boston,x,2000\n", 2, Reason::UnknownName),
+        ("Chicago,x,2000\n", 2, Reason::BadNumber),
+        (
+            "Chicago,3,1\n\nChicago,32,1\nBoston\n",
+            3,
+            Reason::OutsideDomain,
+        ),
+    ];
+    for (text, place, reason) in cases {
+        let file = format!(in alloc; "branch,day,price\n{text}")?;
+        match outcome(alloc, file.as_bytes())? {
+            Ok(_) => assert!(rt; false, "{text}"),
+            Err(fault) => assert_eq!(rt; fault, (place, reason), "{text}"),
+        }
+    }
+    Ok(())
+}
+
+#[test]
+fn fields_in_the_order_of_the_schema(rt: HostRuntime) -> Result<(), Fail> {
+    match outcome(rt.alloc(), b"price,day,branch\nx,y,Boston\n")? {
+        Ok(_) => assert!(rt; false, "no rows are wanted"),
+        Err(fault) => assert_eq!(rt; fault, (2, Reason::UnknownName)),
+    }
+    Ok(())
+}
+
+#[test]
+fn bytes_that_are_no_text(rt: HostRuntime) -> Result<(), Fail> {
+    match outcome(rt.alloc(), b"branch\nBoston\xff\n")? {
+        Ok(_) => assert!(rt; false, "no rows are wanted"),
+        Err(fault) => assert_eq!(rt; fault, (0, Reason::NotUtf8)),
+    }
+    Ok(())
+}
+
+#[test]
+fn as_many_rows_as_may_be(rt: HostRuntime) -> Result<(), Fail> {
+    let alloc = rt.alloc();
+    let mut columns = Seq::new(alloc);
+    columns.push(column(alloc, "day", Kind::Int { low: 1, high: 31 })?)?;
+    let schema = Schema { columns };
+    let mut text = String::from_str(alloc, "day\n")?;
+    for _ in 0..1_000_000 {
+        text.push_str("7\n")?;
+    }
+    match read_rows(alloc, &schema, text.as_bytes()) {
+        Ok(rows) => assert_eq!(rt; rows.count(), 1_000_000),
+        Err(_) => assert!(rt; false, "rows are wanted"),
+    }
+
+    // A row more is too many, whatever it is.
+    text.push_str("x,y\n")?;
+    match read_rows(alloc, &schema, text.as_bytes()) {
+        Err(Refusal::Fault(fault)) => {
+            assert_eq!(rt; fault.place, 1_000_002);
+            assert_eq!(rt; fault.reason, Reason::TooMany);
+        }
+        _ => assert!(rt; false, "no rows are wanted"),
+    }
     Ok(())
 }
