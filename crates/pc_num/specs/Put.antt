@@ -1,5 +1,7 @@
 -- The text of a number in units of its last place.
-use Rattle.std.specs.Prelude.{ℕ, zero, suc, ◌+◌, ◌/◌, ◌%◌, ◌^◌, ℤ, pos, negsuc, unsigned_abs, List, [], ◌∷◌, ◌++◌, decimal}
+use Rattle.std.specs.Prelude.{ℕ, zero, suc, ◌+◌, ◌/◌, ◌%◌, ◌^◌, ℤ, pos, negsuc, unsigned_abs, List, [], ◌∷◌, ◌++◌, decimal, if◌then◌else◌}
+use Rattle.std.specs.Ordering.{int_eq}
+use Rattle.pc_num.specs.declared.fraction.Frac.{Frac}
 
 -- `-` before a number below 0
 abbrev pub minus_text : ℤ → List ℕ
@@ -23,3 +25,7 @@ size_text scale size = decimal (size / 10 ^ scale) ++ fraction_text scale size
 -- the number with exactly so many decimals
 unfoldable pub scaled_text : ℤ → ℕ → List ℕ
 scaled_text value scale = minus_text value ++ size_text scale (unsigned_abs value)
+
+-- the numerator, and a denominator that is not 1 after a slash
+unfoldable pub frac_text : Frac → List ℕ
+frac_text f = if int_eq f.den (pos 1) then scaled_text f.num 0 else scaled_text f.num 0 ++ 47 ∷ scaled_text f.den 0

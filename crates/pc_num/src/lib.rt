@@ -10,5 +10,5 @@ mod scaled;
 pub use divisor::{gcd, primitive};
 pub use fraction::Frac;
 pub use memory::Memory;
-pub use put::{put_scaled, reads_back};
+pub use put::{put_frac, put_scaled, reads_back};
 pub use scaled::{NumFault, read_scaled};

@@ -1,8 +1,8 @@
-ghost use Rattle.std.specs.Prelude.{◌≡◌, ◌≤◌, ◌<◌, ◌+◌, ◌/◌, ◌%◌, ◌^◌, ◌++◌, ℕ, ℤ, IfOk, Ok, OnErr, OnOk, decimal, unsigned_abs};
-ghost use Rattle.pc_num.specs.Put.{decimals_of, fraction_text, minus_text, scaled_text};
+ghost use Rattle.std.specs.Prelude.{◌≡◌, ◌≤◌, ◌<◌, ◌+◌, ◌/◌, ◌%◌, ◌^◌, ◌++◌, ◌∷◌, ℕ, ℤ, IfOk, Ok, OnErr, OnOk, decimal, unsigned_abs};
+ghost use Rattle.pc_num.specs.Put.{decimals_of, fraction_text, frac_text, minus_text, scaled_text};
 ghost use Rattle.pc_num.specs.Scaled.{scaled_of};
 
-use crate::Memory;
+use crate::{Frac, Memory};
 use std::alloc::Global;
 
 /// Appends a number of units of the last place as decimal text with exactly `scale` decimals: at a scale of 2, -5 is
@@ -22,6 +22,30 @@ pub fn put_scaled(alloc: Global, out: &mut Vec<u8>, value: i128, scale: u8) -> R
 pub fn reads_back()
     ensures { (value : ℤ) (scale : ℕ) → unsigned_abs value ≤ 10 ^ 15 → scaled_of scale (scaled_text value scale) ≡ Ok value }
 {}
+
+/// Appends a fraction as `num/den`, or its numerator alone where its denominator is 1: 3/2 is `3/2`, and 4/1 is `4`.
+pub fn put_frac(alloc: Global, out: &mut Vec<u8>, value: &Frac) -> Result<(), Memory>
+    ensures ok { OnOk result (out.new.items ≡ out.old.items ++ frac_text value.now) }
+    ensures err { OnErr result (out.new.items ≡ out.old.items) }
+{
+    let fraction = frac_text_of(alloc, value)?;
+    out.extend_from_slice(fraction.as_slice())?;
+    Ok(())
+}
+
+#[tactic(auto, unfolding(crate::specs::Put::frac_text))]
+fn frac_text_of(alloc: Global, value: &Frac) -> Result<Vec<u8>, Memory>
+    ensures { IfOk result (λ text. text.items ≡ frac_text value.now) }
+{
+    let mut text = text_of(alloc, value.num, 0)?;
+    if value.den == 1 {
+        return Ok(text);
+    }
+    text.push(b'/')?;
+    let den = text_of(alloc, value.den, 0)?;
+    text.extend_from_slice(den.as_slice())?;
+    Ok(text)
+}
 
 #[tactic(auto, unfolding(crate::specs::Put::scaled_text))]
 fn text_of(alloc: Global, value: i128, scale: u8) -> Result<Vec<u8>, Memory>
@@ -130,6 +154,37 @@ mod tests {
             );
         }
         reads_back();
+        Ok(())
+    }
+
+    #[test]
+    fn puts_fractions(rt: HostRuntime) -> Result<(), Fail> {
+        let alloc = rt.alloc();
+        let cases: [(i128, i128, &str); 8] = [
+            (6, 4, "3/2"),
+            (8, 2, "4"),
+            (-6, 4, "-3/2"),
+            (6, -4, "-3/2"),
+            (0, 7, "0"),
+            (150, 7, "150/7"),
+            (17_999, 140, "17999/140"),
+            (1, i128::MAX, "1/170141183460469231731687303715884105727"),
+        ];
+        let mut out = Vec::new(alloc);
+        for (n, d, want) in cases {
+            assert!(rt; d != 0);
+            let Some(value) = Frac::new(n, d) else {
+                assert!(rt; false, "{want}");
+                continue;
+            };
+            out.clear();
+            out.extend_from_slice(b"in 3..")?;
+            put_frac(alloc, &mut out, &value)?;
+            assert!(rt;
+                out.as_slice().strip_prefix(b"in 3..") == Some(want.as_bytes()),
+                "{want}"
+            );
+        }
         Ok(())
     }
 }
