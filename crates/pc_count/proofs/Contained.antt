@@ -32,7 +32,7 @@ length-possible schema cs (row ∷ rows) disjoint allowed covered =
 none_under : (schema : Schema) (c : Constraint) (rows : List Row) → IsServable schema c → is_met c ≡ false → Meets c rows → count_of c rows ≡ 0
 none_under schema c rows servable unmet meets =
     count_by_none (is_under c) rows
-    (All-weaker (λ row. is_under c row ≡ true → has c.values row ≡ true) (λ row. is_under c row ≡ false) (λ row in_values. false_from_ne_true (is_under c row) (λ under. true≢false (sym (meet_from_row c.when c.values row servable.when_spans servable.value_spans under (in_values under)) ∙ unmet))) rows meets.in_values)
+    (All-weaker (λ row. is_under c row ≡ true → has c.values row ≡ true) (λ row. is_under c row ≡ false) (λ row in_values. false_from_ne_true (is_under c row) (λ under. true≢false (sym (meet_from_row schema c.when c.values row servable.when_region servable.value_region under (in_values under)) ∙ unmet))) rows meets.in_values)
 
 least_within : (schema : Schema) (c : Constraint) (rows : List Row) → Meets c rows → times_of Least c ≤ count_of c rows
 unfolding times_of

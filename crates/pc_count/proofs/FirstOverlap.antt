@@ -1,4 +1,4 @@
--- What the first overlap of boxes says of their rows.
+-- What the first overlap of constraints says of their rows.
 use Rattle.std.proofs.Common.{◌≡◌, ℕ, zero, suc, ◌+◌, ◌<◌, ◌≤◌, Bool, true, false, List, [], length, get_or, take, drop, All, Option, Some, None, IfSome, IfNone, sym, refl, subst, ◌∙◌, inl, inr, arith, true≢false, get_or-take}
 use Rattle.std.proofs.lemmas.Bool.{cond_both, cases_eq}
 use Rattle.std.proofs.lemmas.List.{length-take}
@@ -9,6 +9,7 @@ use Rattle.pc_model.specs.declared.row.Row.{Row}
 use Rattle.pc_model.specs.declared.constraint.Constraint.{Constraint}
 use Rattle.pc_model.specs.Membership.{is_under, AreDisjoint}
 use Rattle.pc_model.specs.Boxes.{IsServable, ShareRow, Overlaps, IsFirstOverlap}
+use Rattle.pc_model.proofs.Regions.{region_inside}
 use Rattle.pc_count.specs.Sides.{regions_meet}
 use Rattle.pc_count.specs.Plan.{corner_of}
 use Rattle.pc_count.specs.Overlap.{meets_any, overlap_after, first_overlap}
@@ -58,7 +59,7 @@ module _ (schema : Schema) (cs : List Constraint) (servable : All (IsServable sc
   share_row : (a b : Constraint) → IsServable schema a → regions_meet a.when b.when ≡ true → ShareRow schema a b
   share_row a b is_servable meet =
       let both = corner_in_both a.when b.when meet in
-      record { row = corner_of a.when b.when; allowed = is_servable.inside (corner_of a.when b.when) both.0; under_first = both.0; under_second = both.1 }
+      record { row = corner_of a.when b.when; allowed = region_inside schema a.when (corner_of a.when b.when) is_servable.when_region both.0; under_first = both.0; under_second = both.1 }
 
   overlaps_at : (place : ℕ) → place < length cs → is_met_at cs place ≡ true → Overlaps schema cs place
   overlaps_at place in_cs meets =
@@ -84,7 +85,7 @@ module _ (schema : Schema) (cs : List Constraint) (servable : All (IsServable sc
       let in_front : i < length (take j cs) = omega (arith, length-take j cs) in
       let a = get_or cs i nothing in
       let b = get_or cs j nothing in
-      let meet = meet_from_row a.when b.when row (servable i nothing i_in).when_spans (servable j nothing in_cs).when_spans first second in
+      let meet = meet_from_row schema a.when b.when row (servable i nothing i_in).when_region (servable j nothing in_cs).when_region first second in
       list_any_at (λ (other : Constraint). regions_meet other.when b.when) (take j cs) i nothing in_front (subst (λ (x : Constraint). regions_meet x.when b.when ≡ true) (sym (get_or-take j cs i nothing lt)) meet)
 
   no_overlap : (k : ℕ) → is_met_at cs k ≡ false → Overlaps schema cs k → ⊥

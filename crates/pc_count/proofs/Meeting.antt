@@ -1,57 +1,83 @@
--- Boxes that meet have their corner in common, and boxes of number columns with a row in common meet.
-use Rattle.std.proofs.Common.{◌≡◌, ℤ, ◌≤ℤ◌, int_le, Bool, true, false, T, List, [], ◌∷◌, All, sym, refl, subst, true≢false, arith}
-use Rattle.std.specs.Int.{int_min, int_max}
-use Rattle.std.specs.Int.Signed.{le_z_yes}
+-- Regions that meet have their lowest common row, and regions of one schema with a row in common meet.
+use Rattle.std.proofs.Common.{◌≡◌, ℕ, ◌<◌, ◌==◌, ℤ, pos, negsuc, ◌≤ℤ◌, Bool, true, false, not, List, [], ◌∷◌, length, refl, sym, ap, ◌∙◌, true≢false, arith, eqb-true}
+use Rattle.std.specs.Int.{int_min, int_max, bit_at}
+use Rattle.std.specs.Int.Bits.{bit_and}
+use Rattle.std.specs.Int.Count.{count_trailing_zeros}
 use Rattle.std.specs.Cmp.Lexicographic.{pointwise}
 use Rattle.std.proofs.lemmas.Int.{ints, clamps}
+use Rattle.std.proofs.lemmas.Nat.Bits.{bit_at_and, bit_at-zero, bit_at-lt}
 use Rattle.std.proofs.lemmas.Bool.{and_parts, and_from}
-use Rattle.std.proofs.lemmas.List.Elements.{All-head, All-tail}
+use Rattle.std.proofs.lemmas.Bool.Decides.{nat_tests}
+use Rattle.pc_model.specs.declared.schema.Kind.{Kind}
+use Rattle.pc_model.specs.declared.schema.Kind.TheVariants.{Int, Dec, Cat}
+use Rattle.pc_model.specs.declared.schema.Column.{Column}
+use Rattle.pc_model.specs.declared.schema.Schema.{Schema}
 use Rattle.pc_model.specs.declared.row.Row.{Row}
 use Rattle.pc_model.specs.declared.region.Side.{Side}
 use Rattle.pc_model.specs.declared.region.Side.TheVariants.{Span, Names}
 use Rattle.pc_model.specs.declared.region.Region.{Region}
-use Rattle.pc_model.specs.Membership.{is_between, holds, has}
-use Rattle.pc_model.specs.Boxes.{IsSpan}
-use Rattle.pc_count.specs.Sides.{sides_meet, greater_low, regions_meet, greater_lows}
+use Rattle.pc_model.specs.Membership.{holds, has}
+use Rattle.pc_model.specs.Places.{is_place_of}
+use Rattle.pc_model.specs.Regions.{is_span_in, is_set_in, is_side_of, is_region_of}
+use Rattle.pc_model.proofs.Between.{le_from_test, test_from_le, between_parts, between_from}
+use Rattle.pc_count.specs.Sides.{sides_meet, lowest_place, lowest_common, regions_meet, lowest_commons}
 use Rattle.pc_count.specs.Plan.{corner_of}
+use Rattle.pc_count.proofs.Places.{bit_at-lowest_place}
 
-pub le_from_test : (a b : ℤ) → int_le a b ≡ true → a ≤ℤ b
-le_from_test a b h = le_z_yes (subst T (sym h) tt)
+-- the lowest place that two sets share is one of each
+place_in_both : (a b : ℕ) → not (bit_and a b == 0) ≡ true → (is_place_of a (lowest_place (bit_and a b)) ≡ true) × (is_place_of b (lowest_place (bit_and a b)) ≡ true)
+unfolding lowest_place
+place_in_both a b h =
+    let both = bit_and a b in
+    let place = count_trailing_zeros both both in
+    let some : 0 < both = grind (arith, nat_tests, h) in
+    let is_set = bit_at-lowest_place both some in
+    let shared = bit_at_and a b place in
+    let first : bit_at a place ≡ 1 = omega (arith, is_set, shared, bit_at-lt a place, bit_at-lt b place) in
+    let second : bit_at b place ≡ 1 = omega (arith, is_set, shared, bit_at-lt a place, bit_at-lt b place) in
+    (rw first refl, rw second refl)
 
-true_from_T : (b : Bool) → T b → b ≡ true
-true_from_T true h = refl
-true_from_T false h = absurd h
+-- two sets with a place in common share a bit
+share_bit : (a b : ℕ) (n : ℤ) → is_place_of a n ≡ true → is_place_of b n ≡ true → not (bit_and a b == 0) ≡ true
+share_bit a b (negsuc below) p q = absurd (true≢false (sym p))
+share_bit a b (pos place) p q = by_test (bit_and a b == 0) refl
+  where
+    by_test : (test : Bool) → (bit_and a b == 0) ≡ test → not test ≡ true
+    by_test false e = refl
+    by_test true e =
+        let none : bit_at (bit_and a b) place ≡ 0 = ap (λ n. bit_at n place) (eqb-true (bit_and a b) 0 e) ∙ bit_at-zero place in
+        absurd (omega (arith, none, bit_at_and a b place, eqb-true (bit_at a place) 1 p, eqb-true (bit_at b place) 1 q))
 
-pub test_from_le : (a b : ℤ) → a ≤ℤ b → int_le a b ≡ true
-test_from_le a b h = true_from_T (int_le a b) h.le
-
-pub between_parts : (low high n : ℤ) → is_between low high n ≡ true → (low ≤ℤ n) × (n ≤ℤ high)
-between_parts low high n h =
-    let p = and_parts (int_le low n) (int_le n high) h in
-    (le_from_test low n p.0, le_from_test n high p.1)
-
-pub between_from : (low high n : ℤ) → low ≤ℤ n → n ≤ℤ high → is_between low high n ≡ true
-between_from low high n a b = and_from (int_le low n) (int_le n high) (test_from_le low n a) (test_from_le n high b)
-
-both_hold : (s t : Side) → sides_meet s t ≡ true → (holds s (greater_low s t) ≡ true) × (holds t (greater_low s t) ≡ true)
+both_hold : (s t : Side) → sides_meet s t ≡ true → (holds s (lowest_common s t) ≡ true) × (holds t (lowest_common s t) ≡ true)
 unfolding holds
 both_hold (Span a b) (Span c d) h =
     let m : int_max a c ≤ℤ int_min b d = le_from_test (int_max a c) (int_min b d) h in
     (between_from a b (int_max a c) (omega (arith, ints, clamps)) (omega (arith, ints, clamps)), between_from c d (int_max a c) (omega (arith, ints, clamps)) (omega (arith, ints, clamps)))
 both_hold (Span a b) (Names n) h = absurd (true≢false (sym h))
 both_hold (Names n) (Span c d) h = absurd (true≢false (sym h))
-both_hold (Names n) (Names m) h = absurd (true≢false (sym h))
+both_hold (Names n) (Names m) h = place_in_both n m h
 
-meet_where_held : (s t : Side) (n : ℤ) → IsSpan s → IsSpan t → holds s n ≡ true → holds t n ≡ true → sides_meet s t ≡ true
+spans_meet : (low high : ℤ) (s t : Side) (n : ℤ) → is_span_in low high s ≡ true → is_span_in low high t ≡ true → holds s n ≡ true → holds t n ≡ true → sides_meet s t ≡ true
 unfolding holds
-meet_where_held (Span a b) (Span c d) n is_span is_other p q =
+spans_meet low high (Span a b) (Span c d) n is_span is_other p q =
     let first = between_parts a b n p in
     let second = between_parts c d n q in
     test_from_le (int_max a c) (int_min b d) (omega (arith, ints, clamps))
-meet_where_held (Span a b) (Names m) n is_span is_other p q = absurd is_other
-meet_where_held (Names m) t n is_span is_other p q = absurd is_span
+spans_meet low high (Span a b) (Names m) n is_span is_other p q = absurd (true≢false (sym is_other))
+spans_meet low high (Names m) t n is_span is_other p q = absurd (true≢false (sym is_span))
 
-corner_held : (xs ys : List Side) → pointwise sides_meet xs ys ≡ true → (pointwise holds xs (greater_lows xs ys) ≡ true) × (pointwise holds ys (greater_lows xs ys) ≡ true)
+sets_meet : (count : ℕ) (s t : Side) (n : ℤ) → is_set_in count s ≡ true → is_set_in count t ≡ true → holds s n ≡ true → holds t n ≡ true → sides_meet s t ≡ true
+unfolding holds
+sets_meet count (Names a) (Names b) n is_set is_other p q = share_bit a b n p q
+sets_meet count (Names a) (Span c d) n is_set is_other p q = absurd (true≢false (sym is_other))
+sets_meet count (Span a b) t n is_set is_other p q = absurd (true≢false (sym is_set))
+
+meet_where_held : (kind : Kind) (s t : Side) (n : ℤ) → is_side_of kind s ≡ true → is_side_of kind t ≡ true → holds s n ≡ true → holds t n ≡ true → sides_meet s t ≡ true
+meet_where_held (Int low high) s t n first second p q = spans_meet low high s t n first second p q
+meet_where_held (Dec scale low high) s t n first second p q = spans_meet low high s t n first second p q
+meet_where_held (Cat names) s t n first second p q = sets_meet (length names) s t n first second p q
+
+corner_held : (xs ys : List Side) → pointwise sides_meet xs ys ≡ true → (pointwise holds xs (lowest_commons xs ys) ≡ true) × (pointwise holds ys (lowest_commons xs ys) ≡ true)
 corner_held [] [] h = (refl, refl)
 corner_held [] (y ∷ ys) h = absurd (true≢false (sym h))
 corner_held (x ∷ xs) [] h = absurd (true≢false (sym h))
@@ -59,25 +85,31 @@ corner_held (x ∷ xs) (y ∷ ys) h =
     let p = and_parts (sides_meet x y) (pointwise sides_meet xs ys) h in
     let here = both_hold x y p.0 in
     let rest = corner_held xs ys p.1 in
-    (and_from (holds x (greater_low x y)) (pointwise holds xs (greater_lows xs ys)) here.0 rest.0, and_from (holds y (greater_low x y)) (pointwise holds ys (greater_lows xs ys)) here.1 rest.1)
+    (and_from (holds x (lowest_common x y)) (pointwise holds xs (lowest_commons xs ys)) here.0 rest.0, and_from (holds y (lowest_common x y)) (pointwise holds ys (lowest_commons xs ys)) here.1 rest.1)
 
-all_meet : (xs ys : List Side) (cells : List ℤ) → All IsSpan xs → All IsSpan ys → pointwise holds xs cells ≡ true → pointwise holds ys cells ≡ true → pointwise sides_meet xs ys ≡ true
-all_meet [] [] cells a b p q = refl
-all_meet [] (y ∷ ys) [] a b p q = absurd (true≢false (sym q))
-all_meet [] (y ∷ ys) (z ∷ cells) a b p q = absurd (true≢false (sym p))
-all_meet (x ∷ xs) ys [] a b p q = absurd (true≢false (sym p))
-all_meet (x ∷ xs) [] (z ∷ cells) a b p q = absurd (true≢false (sym q))
-all_meet (x ∷ xs) (y ∷ ys) (z ∷ cells) a b p q =
+abbrev are_sides_of : List Column → List Side → Bool
+are_sides_of columns sides = pointwise (λ (column : Column). is_side_of column.kind) columns sides
+
+all_meet : (columns : List Column) (xs ys : List Side) (cells : List ℤ) → are_sides_of columns xs ≡ true → are_sides_of columns ys ≡ true → pointwise holds xs cells ≡ true → pointwise holds ys cells ≡ true → pointwise sides_meet xs ys ≡ true
+all_meet [] [] [] cells a b p q = refl
+all_meet [] (x ∷ xs) ys cells a b p q = absurd (true≢false (sym a))
+all_meet [] [] (y ∷ ys) cells a b p q = absurd (true≢false (sym b))
+all_meet (column ∷ columns) [] ys cells a b p q = absurd (true≢false (sym a))
+all_meet (column ∷ columns) (x ∷ xs) [] cells a b p q = absurd (true≢false (sym b))
+all_meet (column ∷ columns) (x ∷ xs) (y ∷ ys) [] a b p q = absurd (true≢false (sym p))
+all_meet (column ∷ columns) (x ∷ xs) (y ∷ ys) (z ∷ cells) a b p q =
+    let one = and_parts (is_side_of column.kind x) (are_sides_of columns xs) a in
+    let other = and_parts (is_side_of column.kind y) (are_sides_of columns ys) b in
     let first = and_parts (holds x z) (pointwise holds xs cells) p in
     let second = and_parts (holds y z) (pointwise holds ys cells) q in
     and_from (sides_meet x y) (pointwise sides_meet xs ys)
-    (meet_where_held x y z (All-head IsSpan x xs a) (All-head IsSpan y ys b) first.0 second.0)
-    (all_meet xs ys cells (All-tail IsSpan x xs a) (All-tail IsSpan y ys b) first.1 second.1)
+    (meet_where_held column.kind x y z one.0 other.0 first.0 second.0)
+    (all_meet columns xs ys cells one.1 other.1 first.1 second.1)
 
 pub corner_in_both : (a b : Region) → regions_meet a b ≡ true → (has a (corner_of a b) ≡ true) × (has b (corner_of a b) ≡ true)
 unfolding has regions_meet
 corner_in_both a b h = corner_held a.sides b.sides h
 
-pub meet_from_row : (a b : Region) (row : Row) → All IsSpan a.sides → All IsSpan b.sides → has a row ≡ true → has b row ≡ true → regions_meet a b ≡ true
-unfolding has regions_meet
-meet_from_row a b row spans others p q = all_meet a.sides b.sides row.cells spans others p q
+pub meet_from_row : (schema : Schema) (a b : Region) (row : Row) → is_region_of schema a ≡ true → is_region_of schema b ≡ true → has a row ≡ true → has b row ≡ true → regions_meet a b ≡ true
+unfolding has regions_meet is_region_of
+meet_from_row schema a b row first second p q = all_meet schema.columns a.sides b.sides row.cells first second p q

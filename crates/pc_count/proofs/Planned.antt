@@ -14,11 +14,15 @@ use Rattle.pc_model.specs.Membership.{in_domain, has, is_under, AreDisjoint}
 use Rattle.pc_model.specs.Boxes.{IsServable}
 use Rattle.pc_model.specs.Runs.{rows_of, AreRuns}
 use Rattle.pc_model.specs.Possible.{is_covered, Meets, IsPossible}
+use Rattle.pc_model.proofs.Regions.{region_inside, even_sides}
 use Rattle.pc_count.specs.declared.plan.Extreme.{Extreme}
 use Rattle.pc_count.specs.declared.plan.Extreme.TheVariants.{Least, Most}
-use Rattle.pc_count.specs.Plan.{corner_of, is_met, number_of, times_of, is_unmeetable, runs_for, planned}
+use Rattle.pc_count.specs.Plan.{corner_of, is_met, number_of, times_of, is_unmeetable, runs_for, planned, HasEvenSides}
 use Rattle.pc_count.proofs.Meeting.{corner_in_both}
 use Rattle.pc_count.proofs.Counts.{count_by_none, count_by_all}
+
+pub AllEven-from_servable : (schema : Schema) (cs : List Constraint) → All (IsServable schema) cs → All HasEvenSides cs
+AllEven-from_servable schema cs servable = All-weaker (IsServable schema) HasEvenSides (λ c is_servable. even_sides schema c.when c.values is_servable.when_region is_servable.value_region) cs servable
 
 abbrev corner : Constraint → Row
 corner c = corner_of c.when c.values
@@ -95,7 +99,7 @@ module _ (schema : Schema) where
     meetable : is_unmeetable c ≡ false
 
   corner_allowed : (c : Constraint) → IsServable schema c → is_met c ≡ true → in_domain schema (corner c) ≡ true
-  corner_allowed c servable met = servable.inside (corner c) (corner_in_both c.when c.values met).0
+  corner_allowed c servable met = region_inside schema c.when (corner c) servable.when_region (corner_in_both c.when c.values met).0
 
   -- one before the constraint and the constraint, or one after it
   never_both : (before after : List Constraint) (c : Constraint) → AreDisjoint schema (before ++ c ∷ after) → (row : Row) → in_domain schema row ≡ true → is_under c row ≡ true → All (λ b. is_under b row ≡ false) before × All (λ b. is_under b row ≡ false) after

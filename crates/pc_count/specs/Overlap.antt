@@ -1,10 +1,10 @@
--- The first constraint that speaks of a row of which an earlier one speaks, for boxes of number columns.
+-- The first constraint that speaks of a row of which an earlier one speaks.
 use Rattle.std.specs.Prelude.{ℕ, Bool, if◌then◌else◌, List, [], ◌∷◌, ◌++◌, length, Option, Some, None}
 use Rattle.std.specs.List.{list_any}
 use Rattle.pc_model.specs.declared.constraint.Constraint.{Constraint}
 use Rattle.pc_count.specs.Sides.{regions_meet}
 
--- whether the constraint's box meets that of one of these
+-- whether the constraint's region meets that of one of these
 abbrev pub meets_any : List Constraint → Constraint → Bool
 meets_any earlier c = list_any (λ (other : Constraint). regions_meet other.when c.when) earlier
 

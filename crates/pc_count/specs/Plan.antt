@@ -6,11 +6,11 @@ use Rattle.pc_model.specs.declared.region.Region.{Region}
 use Rattle.pc_model.specs.declared.constraint.Constraint.{Constraint}
 use Rattle.pc_count.specs.declared.plan.Extreme.{Extreme}
 use Rattle.pc_count.specs.declared.plan.Extreme.TheVariants.{Least, Most}
-use Rattle.pc_count.specs.Sides.{regions_meet, greater_lows}
+use Rattle.pc_count.specs.Sides.{regions_meet, lowest_commons}
 
--- the lowest corner of what two boxes that meet have in common
+-- the lowest row that two regions which meet have in common
 abbrev pub corner_of : Region → Region → Row
-corner_of a b = record { cells = greater_lows a.sides b.sides }
+corner_of a b = record { cells = lowest_commons a.sides b.sides }
 
 -- whether a row under the constraint can be in its values
 abbrev pub is_met : Constraint → Bool

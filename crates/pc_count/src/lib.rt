@@ -1,4 +1,4 @@
-//! Sure bounds of a count of all rows under constraints that are disjoint boxes of number columns.
+//! Sure bounds of a count of all rows under constraints whose predicates are disjoint regions of the schema.
 #![tactic(auto)]
 
 mod answer;

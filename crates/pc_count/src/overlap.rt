@@ -28,7 +28,7 @@ fn first_overlap(constraints: &[Constraint]) -> Option<u64>
     None
 }
 
-/// Whether the constraint's box meets that of one of the earlier ones.
+/// Whether the constraint's region meets that of one of the earlier ones.
 fn meets_any(earlier: &[Constraint], constraint: &Constraint) -> bool
     ensures { result ≡ meets_any earlier.now constraint.now }
 {

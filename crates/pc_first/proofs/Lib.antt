@@ -1,9 +1,8 @@
 pub mod Cuts
-pub mod Fields
-pub mod Names
+pub mod Found
+pub mod Ordered
+pub mod Orders
 pub mod Reading
-pub mod RowLines
-pub mod SchemaLines
 pub mod Atoms
 pub mod Servable
 pub mod ReadFile

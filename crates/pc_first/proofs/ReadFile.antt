@@ -14,10 +14,12 @@ use Rattle.pc_model.specs.declared.schema.Schema.{Schema}
 use Rattle.pc_model.specs.declared.constraint.Constraint.{Constraint}
 use Rattle.pc_model.specs.Boxes.{IsServable}
 use Rattle.pc_model.specs.Refusals.{Gives}
+use Rattle.pc_model.specs.WellFormed.{IsWellFormed}
 use Rattle.pc_first.specs.Lines.{lines_of, bad_line, read_lines}
 use Rattle.pc_first.specs.ConstraintForm.{constraint_of, most_constraints, has_name, one_more_constraint, with_constraint, constraints_of}
 use Rattle.pc_first.proofs.Reading.{lines_more, lines_bad, lines_end, lines_cut, lines_keep}
-use Rattle.pc_first.proofs.Servable.{found, IsRead, is_read}
+use Rattle.pc_first.proofs.Found.{found}
+use Rattle.pc_first.proofs.Servable.{IsRead, is_read}
 
 -- the constraints are the earlier ones with another after them
 pub record IsLonger (columns : List Column) (before : List Constraint) (line : List ℕ) (more : List Constraint) : Type 0 where
@@ -67,28 +69,28 @@ pub record AreRead (schema : Schema) (constraints : List Constraint) : Type 0 wh
   pub all : All (IsRead schema) constraints
   pub few : length constraints ≤ 20
 
-more_are_read : (schema : Schema) (before : List Constraint) (line : List ℕ) (more : List Constraint) → AreRead schema before → with_constraint schema.columns before line ≡ Some more → AreRead schema more
-more_are_read schema before line more are e =
+more_are_read : (schema : Schema) → IsWellFormed schema → (before : List Constraint) (line : List ℕ) (more : List Constraint) → AreRead schema before → with_constraint schema.columns before line ≡ Some more → AreRead schema more
+more_are_read schema formed before line more are e =
     let longer = is_longer schema.columns before line more e in
     record {
-      all = rw longer.is (All-push (IsRead schema) before longer.constraint are.all (is_read schema line longer.constraint longer.of_line));
+      all = rw longer.is (All-push (IsRead schema) before longer.constraint are.all (is_read schema line longer.constraint formed longer.of_line));
       few = omega arith;
     }
 
-are_read : (schema : Schema) (bytes : List ℕ) (constraints : List Constraint) → constraints_of schema bytes ≡ Ok constraints → AreRead schema constraints
+are_read : (schema : Schema) → IsWellFormed schema → (bytes : List ℕ) (constraints : List Constraint) → constraints_of schema bytes ≡ Ok constraints → AreRead schema constraints
 unfolding constraints_of
-are_read schema bytes constraints e =
-    lines_keep files.Constraints (with_constraint schema.columns) (AreRead schema) (more_are_read schema) (lines_of bytes) [] 1 constraints
+are_read schema formed bytes constraints e =
+    lines_keep files.Constraints (with_constraint schema.columns) (AreRead schema) (more_are_read schema formed) (lines_of bytes) [] 1 constraints
     (record { all = λ k d inside. absurd (omega arith); few = omega arith }) e
 
-pub can_be_served : (schema : Schema) (bytes : List ℕ) (result : Result (List Constraint) Refusal) → Gives result (constraints_of schema bytes) → IfOk result (All (IsServable schema))
-can_be_served schema bytes (Ok list) e = λ k d inside. ((are_read schema bytes list e).all k d inside).servable
-can_be_served schema bytes (Err refusal) e = tt
+pub can_be_served : (schema : Schema) (bytes : List ℕ) (result : Result (List Constraint) Refusal) → IsWellFormed schema → Gives result (constraints_of schema bytes) → IfOk result (All (IsServable schema))
+can_be_served schema bytes (Ok list) formed e = λ k d inside. ((are_read schema formed bytes list e).all k d inside).servable
+can_be_served schema bytes (Err refusal) formed e = tt
 
-pub are_few : (schema : Schema) (bytes : List ℕ) (result : Result (List Constraint) Refusal) → Gives result (constraints_of schema bytes) → IfOk result (λ list. length list ≤ 20)
-are_few schema bytes (Ok list) e = (are_read schema bytes list e).few
-are_few schema bytes (Err refusal) e = tt
+pub are_few : (schema : Schema) (bytes : List ℕ) (result : Result (List Constraint) Refusal) → IsWellFormed schema → Gives result (constraints_of schema bytes) → IfOk result (λ list. length list ≤ 20)
+are_few schema bytes (Ok list) formed e = (are_read schema formed bytes list e).few
+are_few schema bytes (Err refusal) formed e = tt
 
-pub are_small : (schema : Schema) (bytes : List ℕ) (result : Result (List Constraint) Refusal) → Gives result (constraints_of schema bytes) → IfOk result (All (λ (c : Constraint). c.most ≤ 10000000))
-are_small schema bytes (Ok list) e = λ k d inside. ((are_read schema bytes list e).all k d inside).small
-are_small schema bytes (Err refusal) e = tt
+pub are_small : (schema : Schema) (bytes : List ℕ) (result : Result (List Constraint) Refusal) → IsWellFormed schema → Gives result (constraints_of schema bytes) → IfOk result (All (λ (c : Constraint). c.most ≤ 10000000))
+are_small schema bytes (Ok list) formed e = λ k d inside. ((are_read schema formed bytes list e).all k d inside).small
+are_small schema bytes (Err refusal) formed e = tt

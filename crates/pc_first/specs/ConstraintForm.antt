@@ -12,17 +12,22 @@ use Rattle.pc_model.specs.declared.region.Side.{Side}
 use Rattle.pc_model.specs.declared.region.Side.TheVariants.{Span}
 use Rattle.pc_model.specs.declared.region.Region.{Region}
 use Rattle.pc_model.specs.declared.constraint.Constraint.{Constraint}
+use Rattle.pc_model.specs.Regions.{whole_side}
+use Rattle.pc_lang.specs.Spelling.{is_bare}
 use Rattle.pc_first.specs.declared.constraints.Atom.{Atom}
-use Rattle.pc_first.specs.Texts.{cut_at, is_free_name, number_of, digits_of}
+use Rattle.pc_first.specs.Texts.{cut_at, number_of, digits_of}
 use Rattle.pc_first.specs.Lines.{lines_of, read_lines}
 
 infixl 10 ◌>>=◌
 abbrev ◌>>=◌ : {A B : Type 0} → Option A → (A → Option B) → Option B
 o >>= f = option_and_then f o
 
--- the place of the column of this name
-abbrev pub place_of : List Column → List ℕ → Option ℕ
-place_of columns name = position (λ (column : Column). bytes_eq column.name name) columns
+abbrev pub place_named : List Column → List ℕ → Option ℕ
+place_named columns name = position (λ (column : Column). bytes_eq column.name name) columns
+
+-- the place of the column of this name, which is a bare word
+unfoldable pub place_of : List Column → List ℕ → Option ℕ
+place_of columns name = if is_bare name then place_named columns name else None
 
 -- what is said of a column by its name and one number
 unfoldable pub point_of : List Column → List ℕ → List ℕ → Option Atom
@@ -63,12 +68,16 @@ atoms_from columns (suc room) before text =
 unfoldable pub atoms_of : List Column → List ℕ → Option (List Atom)
 atoms_of columns text = if bytes_eq text (codes "true") then Some [] else atoms_from columns (length columns) [] text
 
--- the numbers of a column that its atom leaves, or all where it has none
+-- the numbers that an atom leaves of a column, which is one of whole numbers
+abbrev pub atom_side : Kind → Atom → Option Side
+atom_side (Int low high) atom = if int_le low atom.low && int_le atom.high high then Some (Span atom.low atom.high) else None
+atom_side (Dec scale low high) atom = None
+atom_side (Cat names) atom = None
+
+-- the side of a column by its atom, or its whole side where it has none
 unfoldable pub side_of : Kind → Option Atom → Option Side
-side_of (Int low high) None = Some (Span low high)
-side_of (Int low high) (Some atom) = if int_le low atom.low && int_le atom.high high then Some (Span atom.low atom.high) else None
-side_of (Dec scale low high) atom = None
-side_of (Cat names) atom = None
+side_of kind None = Some (whole_side kind)
+side_of kind (Some atom) = atom_side kind atom
 
 abbrev pub atom_at : List Atom → ℕ → Option Atom
 atom_at atoms column = find (λ (atom : Atom). atom.column == column) atoms
@@ -123,7 +132,7 @@ constraint_named columns name rest =
 -- the constraint of a line
 unfoldable pub constraint_of : List Column → List ℕ → Option Constraint
 constraint_of columns line =
-    option_and_then (λ (cut : List ℕ × List ℕ). if is_free_name cut.0 then constraint_named columns cut.0 cut.1 else None) (cut_at (codes ": ") line)
+    option_and_then (λ (cut : List ℕ × List ℕ). if is_bare cut.0 then constraint_named columns cut.0 cut.1 else None) (cut_at (codes ": ") line)
 
 abbrev pub most_constraints : ℕ
 most_constraints = 20

@@ -1,18 +1,20 @@
 ghost use Rattle.std.specs.Prelude.{◌≡◌, ◌≤◌, true, List, [], All, length, Option, Some, None, IfOk};
 ghost use Rattle.pc_model.specs.Boxes.{IsServable};
 ghost use Rattle.pc_model.specs.Refusals.{Gives};
-ghost use Rattle.pc_first.specs.ConstraintForm.{place_of, has_atom, atom_at, point_of, span_of, atom_of, one_more, atoms_from, atoms_of, side_of, sides_from, region_of, counts_of, constraint_named, constraint_of, has_name, with_constraint, constraints_of};
-ghost use Rattle.pc_first.specs.Texts.{is_free_name};
+ghost use Rattle.pc_model.specs.WellFormed.{IsWellFormed, HasFewNames, HaveFewNames};
+ghost use Rattle.pc_first.specs.ConstraintForm.{place_named, place_of, has_atom, atom_at, point_of, span_of, atom_of, one_more, atoms_from, atoms_of, atom_side, side_of, sides_from, region_of, counts_of, constraint_named, constraint_of, has_name, with_constraint, constraints_of};
+ghost use Rattle.pc_lang.specs.Spelling.{is_bare};
 ghost use Rattle.pc_first.specs.Lines.{bad_line};
 ghost use Rattle.pc_model.specs.declared.fault.FileKind.TheVariants as files;
 ghost use Rattle.pc_model.specs.declared.fault.Refusal.TheVariants as refusals;
 
 use crate::line::bad_line;
-use crate::schema::copy_name;
-use crate::text::{cut_at, first_piece, is_free_name, read_digits, read_number};
-use pc_list::Seq;
+use crate::text::{cut_at, first_piece, read_digits, read_number};
+use pc_lang::is_bare;
+use pc_list::{Seq, Text};
 use pc_model::{Column, Constraint, FileKind, Kind, Refusal, Region, Schema, Side};
 use std::alloc::{AllocError, Global};
+use std::str;
 
 #[cfg(test)]
 mod tests;
@@ -37,6 +39,8 @@ pub fn read_constraints(
     schema: &Schema,
     bytes: &[u8],
 ) -> Result<Seq<Constraint>, Refusal>
+    requires well_formed { IsWellFormed schema.now }
+    requires few_names { HaveFewNames schema.now.columns }
     ensures gives { Gives result (constraints_of schema.now bytes.now) }
     ensures servable { IfOk result (All (IsServable schema.now)) }
     ensures few { IfOk result (λ list. length list ≤ 20) }
@@ -46,6 +50,7 @@ pub fn read_constraints(
 }
 
 fn constraints_of(alloc: Global, schema: &Schema, bytes: &[u8]) -> Result<Seq<Constraint>, Refusal>
+    requires { HaveFewNames schema.now.columns }
     ensures { Gives result (constraints_of schema.now bytes.now) }
 {
     let columns = schema.columns.as_slice();
@@ -80,6 +85,7 @@ fn with_constraint(
     mut constraints: Seq<Constraint>,
     line: &[u8],
 ) -> Result<Option<Seq<Constraint>>, AllocError>
+    requires { HaveFewNames columns.now }
     ensures { IfOk result (λ found. found ≡ with_constraint columns.now constraints line.now) }
 {
     let Some(constraint) = constraint_of(alloc, columns, line)? else {
@@ -108,12 +114,13 @@ fn constraint_of(
     columns: &[Column],
     line: &[u8],
 ) -> Result<Option<Constraint>, AllocError>
+    requires { HaveFewNames columns.now }
     ensures { IfOk result (λ found. found ≡ constraint_of columns.now line.now) }
 {
     let Some((name, rest)) = cut_at(line, b": ".as_slice()) else {
         return Ok(None);
     };
-    if !is_free_name(name) {
+    if !is_bare(name) {
         return Ok(None);
     }
     constraint_named(alloc, columns, name, rest)
@@ -126,7 +133,8 @@ fn constraint_named(
     name: &[u8],
     text: &[u8],
 ) -> Result<Option<Constraint>, AllocError>
-    requires { is_free_name name.now ≡ true }
+    requires bare { is_bare name.now ≡ true }
+    requires few_names { HaveFewNames columns.now }
     ensures { IfOk result (λ found. found ≡ constraint_named columns.now name.now text.now) }
 {
     let Some((when_text, rest)) = cut_at(text, b" => ".as_slice()) else {
@@ -154,6 +162,18 @@ fn constraint_named(
     }))
 }
 
+// A name is text, since its bytes are letters, digits and low lines.
+#[tactic(auto, using(pc_lang::proofs::Words::bare_is_text))]
+fn copy_name(alloc: Global, name: &[u8]) -> Result<Text, AllocError>
+    requires { is_bare name.now ≡ true }
+    ensures { IfOk result (λ text. text ≡ name.now) }
+{
+    match str::from_utf8(name) {
+        Ok(text) => Text::from_text(alloc, text),
+        Err(_) => unreachable!(),
+    }
+}
+
 #[tactic(auto, unfolding(crate::specs::ConstraintForm::counts_of))]
 fn counts_of(text: &[u8]) -> Option<(u64, u64)>
     ensures { result ≡ counts_of text.now }
@@ -170,6 +190,7 @@ fn counts_of(text: &[u8]) -> Option<(u64, u64)>
 
 #[tactic(auto, unfolding(crate::specs::ConstraintForm::region_of, crate::specs::ConstraintForm::box_of))]
 fn region_of(alloc: Global, columns: &[Column], text: &[u8]) -> Result<Option<Region>, AllocError>
+    requires { HaveFewNames columns.now }
     ensures { IfOk result (λ found. found ≡ region_of columns.now text.now) }
 {
     let Some(atoms) = atoms_of(alloc, columns, text)? else {
@@ -188,6 +209,7 @@ fn sides_of(
     atoms: &[Atom],
     columns: &[Column],
 ) -> Result<Option<Seq<Side>>, AllocError>
+    requires { HaveFewNames columns.now }
     ensures { IfOk result (λ found. found ≡ sides_from atoms.now [] columns.now) }
 {
     let mut sides = Seq::new(alloc);
@@ -208,16 +230,21 @@ fn atom_at(atoms: &[Atom], column: usize) -> Option<Atom>
 
 #[tactic(auto, unfolding(crate::specs::ConstraintForm::side_of))]
 fn side_of(kind: &Kind, atom: Option<Atom>) -> Option<Side>
+    requires { HasFewNames kind.now }
     ensures { result ≡ side_of kind.now atom }
+{
+    match atom {
+        Some(atom) => atom_side(kind, atom),
+        None => Some(kind.whole_side()),
+    }
+}
+
+// Only a column of whole numbers has atoms.
+fn atom_side(kind: &Kind, atom: Atom) -> Option<Side>
+    ensures { result ≡ atom_side kind.now atom }
 {
     let Kind::Int { low, high } = kind else {
         return None;
-    };
-    let Some(atom) = atom else {
-        return Some(Side::Span {
-            low: *low,
-            high: *high,
-        });
     };
     if *low <= atom.low && atom.high <= *high {
         Some(Side::Span {
@@ -326,8 +353,20 @@ fn span_of(columns: &[Column], text: &[u8]) -> Option<Atom>
     }
 }
 
+// Only a column whose name is a bare word can be named.
+#[tactic(auto, unfolding(crate::specs::ConstraintForm::place_of))]
 fn place_of(columns: &[Column], name: &[u8]) -> Option<usize>
     ensures { result ≡ place_of columns.now name.now }
+{
+    if is_bare(name) {
+        place_named(columns, name)
+    } else {
+        None
+    }
+}
+
+fn place_named(columns: &[Column], name: &[u8]) -> Option<usize>
+    ensures { result ≡ place_named columns.now name.now }
 {
     columns
         .iter()

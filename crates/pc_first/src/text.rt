@@ -1,12 +1,9 @@
 ghost use Rattle.std.specs.Prelude.{◌≡◌, ◌<◌, ◌≤◌, ◌^◌, ◌∷◌, [], length, Some, None, MatchOption, IfSome, unsigned_abs};
 ghost use Rattle.std.specs.List.{list_all};
 ghost use Rattle.std.specs.Char.{is_ascii_digit};
-ghost use Rattle.pc_first.specs.Texts.{cut_at, pieces_of, starts_word, is_word_byte, begins_as_word, is_word, is_reserved, is_free_name, is_number_byte, number_of, digits_of};
+ghost use Rattle.pc_first.specs.Texts.{cut_at, pieces_of, is_number_byte, number_of, digits_of};
 
 use pc_num::read_scaled;
-
-// The most bytes that a word has.
-const LONGEST_WORD: usize = 64;
 
 /// What stands before the first place of a separator, which is not empty, and what stands after it.
 #[tactic(auto, using(crate::proofs::Cuts::cuts))]
@@ -34,69 +31,6 @@ pub(crate) fn first_piece(text: &[u8], separator: u8) -> Option<(&[u8], &[u8])>
         }
     }
     None
-}
-
-fn starts_word(byte: u8) -> bool
-    ensures { result ≡ starts_word byte }
-{
-    byte.is_ascii_alphabetic() || byte == b'_'
-}
-
-fn is_word_byte(byte: u8) -> bool
-    ensures { result ≡ is_word_byte byte }
-{
-    starts_word(byte) || byte.is_ascii_digit()
-}
-
-fn begins_as_word(text: &[u8]) -> bool
-    ensures { result ≡ begins_as_word text.now }
-{
-    match text {
-        [byte, ..] => starts_word(*byte),
-        [] => false,
-    }
-}
-
-fn has_word_bytes_only(text: &[u8]) -> bool
-    ensures { result ≡ list_all is_word_byte text.now }
-{
-    text.iter().all(|byte| is_word_byte(*byte))
-}
-
-#[tactic(auto, unfolding(crate::specs::Texts::is_word))]
-fn is_word(text: &[u8]) -> bool
-    ensures { result ≡ is_word text.now }
-{
-    begins_as_word(text) && has_word_bytes_only(text) && text.len() <= LONGEST_WORD
-}
-
-// The words of the language, none of which is a name.
-#[tactic(auto, unfolding(crate::specs::Texts::is_reserved))]
-fn is_reserved(text: &[u8]) -> bool
-    ensures { result ≡ is_reserved text.now }
-{
-    text == b"true".as_slice()
-        || text == b"and".as_slice()
-        || text == b"or".as_slice()
-        || text == b"in".as_slice()
-        || text == b"where".as_slice()
-        || text == b"group".as_slice()
-        || text == b"by".as_slice()
-        || text == b"count".as_slice()
-        || text == b"sum".as_slice()
-        || text == b"min".as_slice()
-        || text == b"max".as_slice()
-        || text == b"avg".as_slice()
-        || text == b"outside".as_slice()
-        || text == b"quantile".as_slice()
-}
-
-/// Whether a text may be the name of a column or a constraint.
-#[tactic(auto, unfolding(crate::specs::Texts::is_free_name))]
-pub(crate) fn is_free_name(text: &[u8]) -> bool
-    ensures { result ≡ is_free_name text.now }
-{
-    is_word(text) && !is_reserved(text)
 }
 
 fn is_number_byte(byte: u8) -> bool

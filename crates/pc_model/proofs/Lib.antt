@@ -1,4 +1,6 @@
+pub mod Between
 pub mod Names
 pub mod Pairs
 pub mod PastBits
+pub mod Regions
 pub mod Utf8

@@ -1,34 +1,15 @@
--- Constraints whose regions are boxes of number columns, and rows that two of them share.
-use Rattle.std.specs.Prelude.{◌≡◌, ℕ, ◌<◌, ◌≤◌, ◌≤ℤ◌, true, ⊤, List, length, All, Some, slice_get}
+-- Constraints over regions of a schema, and rows that two of them share.
+use Rattle.std.specs.Prelude.{◌≡◌, ℕ, ◌<◌, ◌≤◌, true, List, Some, slice_get}
 use Rattle.pc_model.specs.declared.schema.Schema.{Schema}
-use Rattle.pc_model.specs.declared.schema.Column.{Column}
-use Rattle.pc_model.specs.declared.schema.Kind.{Kind}
-use Rattle.pc_model.specs.declared.schema.Kind.TheVariants.{Int, Dec, Cat}
 use Rattle.pc_model.specs.declared.row.Row.{Row}
-use Rattle.pc_model.specs.declared.region.Side.{Side}
-use Rattle.pc_model.specs.declared.region.Side.TheVariants.{Span, Names}
 use Rattle.pc_model.specs.declared.constraint.Constraint.{Constraint}
 use Rattle.pc_model.specs.Membership.{in_domain, is_under}
+use Rattle.pc_model.specs.Regions.{is_region_of}
 
-abbrev pub IsSpan : Side → Type 0
-IsSpan (Span low high) = ⊤
-IsSpan (Names bits) = ⊥
-
--- a column of whole numbers, of which there is one at least
-abbrev pub IsWholeKind : Kind → Type 0
-IsWholeKind (Int low high) = low ≤ℤ high
-IsWholeKind (Dec scale low high) = ⊥
-IsWholeKind (Cat names) = ⊥
-
-abbrev pub AreWhole : List Column → Type 0
-AreWhole columns = All (λ (column : Column). IsWholeKind column.kind) columns
-
--- both regions are boxes of number columns, and each row that the constraint speaks of is in the domain
+-- both regions are of the schema, and there is a number that is allowed
 pub record IsServable (schema : Schema) (c : Constraint) : Type 0 where
-  pub same_length : length c.when.sides ≡ length c.values.sides
-  pub when_spans : All IsSpan c.when.sides
-  pub value_spans : All IsSpan c.values.sides
-  pub inside : (row : Row) → is_under c row ≡ true → in_domain schema row ≡ true
+  pub when_region : is_region_of schema c.when ≡ true
+  pub value_region : is_region_of schema c.values ≡ true
   pub ordered : c.least ≤ c.most
 
 -- a row of the domain that both constraints speak of

@@ -6,6 +6,7 @@ pub mod Numbers
 pub mod Places
 pub mod Possible
 pub mod Refusals
+pub mod Regions
 pub mod Right
 pub mod Runs
 pub mod Texts

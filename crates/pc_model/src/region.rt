@@ -31,7 +31,8 @@ impl Side {
     }
 }
 
-pub(crate) fn is_between(low: i64, high: i64, number: i64) -> bool
+/// Whether a number lies from `low` to `high`, both included.
+pub fn is_between(low: i64, high: i64, number: i64) -> bool
     ensures { result ≡ is_between low high number }
 {
     low <= number && number <= high

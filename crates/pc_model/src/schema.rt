@@ -1,8 +1,10 @@
-ghost use Rattle.std.specs.Prelude.{◌≡◌};
+ghost use Rattle.std.specs.Prelude.{◌≡◌, ◌≤◌, ◌-◌, ◌^◌};
 ghost use Rattle.pc_model.specs.Membership.{allows, in_domain};
 ghost use Rattle.pc_model.specs.Places.{is_below};
+ghost use Rattle.pc_model.specs.Regions.{whole_side};
+ghost use Rattle.pc_model.specs.WellFormed.{HasFewNames};
 
-use crate::region::is_between;
+use crate::region::{Side, is_between};
 use crate::row::Row;
 use pc_list::{Seq, Text};
 
@@ -40,6 +42,37 @@ impl Kind {
             Kind::Cat { names } => is_below(names.len(), number),
         }
     }
+
+    /// Every number that a column of this kind may hold.
+    pub fn whole_side(&self) -> Side
+        requires { HasFewNames self.now }
+        ensures { result ≡ whole_side self.now }
+    {
+        match self {
+            Kind::Int { low, high } => Side::Span {
+                low: *low,
+                high: *high,
+            },
+            Kind::Dec { low, high, .. } => Side::Span {
+                low: *low,
+                high: *high,
+            },
+            Kind::Cat { names } => Side::Names {
+                bits: first_bits(names.len()),
+            },
+        }
+    }
+}
+
+// A number with so many bits set, from the last one on.
+fn first_bits(count: usize) -> u128
+    requires { count ≤ 128 }
+    ensures { result ≡ 2 ^ count - 1 }
+{
+    if count == 128 {
+        return u128::MAX;
+    }
+    (1 << count as u32) - 1
 }
 
 fn is_below(count: usize, number: i64) -> bool

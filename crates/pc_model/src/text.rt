@@ -6,8 +6,8 @@ ghost use Rattle.pc_model.specs.Texts.{without_mark, text_of, is_name_byte, is_n
 use crate::fault::Reason;
 use std::str;
 
-// The greatest length of a schema, row or constraint file.
-const FILE_LIMIT: usize = 67_108_864;
+/// The greatest length of a schema, row or constraint file, in bytes.
+pub const FILE_LIMIT: usize = 67_108_864;
 
 const LONGEST_NAME: usize = 64;
 

@@ -27,7 +27,7 @@ use Rattle.pc_rows.specs.Stored.{row_limit}
 use Rattle.pc_rows.specs.RowFile.{field, without_spaces, in_span, place_number, cell_of, cells_from, cells_of, cells_at, places_from, rows_from, rows_under, rows_of}
 
 -- one number per column, each allowed by its kind
-abbrev Allowed : List Column → List ℤ → Type 0
+abbrev pub Allowed : List Column → List ℤ → Type 0
 Allowed columns cells = pointwise (λ (column : Column). allows column.kind) columns cells ≡ true
 
 in_between : (low high cell : ℤ) (number : Result ℤ Reason) → (number >>= in_span low high) ≡ Ok cell → is_between low high cell ≡ true

@@ -1,6 +1,11 @@
 pub mod Cells
+pub mod Finding
 pub mod Folding
 pub mod InDomain
 pub mod Places
+pub mod PlainCells
+pub mod PlainFields
+pub mod PlainHeader
+pub mod PlainText
 pub mod Reading
 pub mod Storing

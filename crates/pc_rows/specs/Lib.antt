@@ -1,3 +1,5 @@
+pub mod Finding
 pub mod Folds
+pub mod Plain
 pub mod RowFile
 pub mod Stored

@@ -1,13 +1,18 @@
 //! The observed rows: how a file spells them, where they stand, and what a query makes of them.
 #![tactic(auto)]
 
+mod case;
 mod cell;
+mod column;
 mod fold;
 mod header;
+mod plain;
 mod read;
 mod rows;
 #[cfg(test)]
 mod tests;
 
+pub use case::Case;
+pub use plain::{reads_plain_fields, reads_plain_text};
 pub use read::read_rows;
 pub use rows::Rows;

@@ -8,7 +8,7 @@ ghost use Rattle.pc_model.specs.WellFormed.{HaveFewNames};
 ghost use Rattle.pc_rows.specs.RowFile.{cells_at, cells_from, cells_of, rows_from, rows_of, rows_under};
 ghost use Rattle.pc_rows.specs.Stored.{row_limit};
 
-use crate::cell::read_cell;
+use crate::column::{ColumnReader, column_readers};
 use crate::header::find_places;
 use crate::rows::Rows;
 use csv::ByteRecord;
@@ -47,7 +47,17 @@ fn read_table(alloc: Global, columns: &[Column], text: &[u8]) -> Result<Rows, Re
     }
     let width = record.len();
     match find_places(alloc, columns, &record) {
-        Ok(places) => read_records(alloc, columns, places.as_slice(), width, table, record),
+        Ok(places) => {
+            let readers = column_readers(alloc, columns)?;
+            read_records(
+                alloc,
+                readers.as_slice(),
+                places.as_slice(),
+                width,
+                table,
+                record,
+            )
+        }
         Err(stop) => Err(stop.at(FileKind::Rows, 1)),
     }
 }
@@ -56,13 +66,12 @@ fn read_table(alloc: Global, columns: &[Column], text: &[u8]) -> Result<Rows, Re
 #[tactic(auto, using(crate::proofs::Reading::steps))]
 fn read_records(
     alloc: Global,
-    columns: &[Column],
+    columns: &[ColumnReader<'_>],
     places: &[usize],
     width: usize,
     mut table: Table<'_>,
     mut fields: ByteRecord,
 ) -> Result<Rows, Refusal>
-    requires few { HaveFewNames columns.now }
     requires count { length places.now ≡ length columns.now }
     ensures gives { Gives result (rows_from columns.now places.now width [] table.entry) }
     ensures wide { IfOk result (λ rows. All (λ row. length row.cells ≡ length columns.now) rows) }
@@ -79,14 +88,13 @@ fn read_records(
 // The numbers of a record after so many rows, in the place of `cells`.
 #[tactic(auto, unfolding(crate::specs::RowFile::cells_at))]
 fn read_row(
-    columns: &[Column],
+    columns: &[ColumnReader<'_>],
     places: &[usize],
     width: usize,
     count: u64,
     fields: &ByteRecord,
     cells: Seq<i64>,
 ) -> Result<Seq<i64>, Refusal>
-    requires few { HaveFewNames columns.now }
     requires count { length places.now ≡ length columns.now }
     requires room { count ≤ row_limit }
     ensures gives { Gives result (cells_at columns.now places.now width count (fields_of fields.now)) }
@@ -104,13 +112,12 @@ fn read_row(
 
 #[tactic(auto, unfolding(crate::specs::RowFile::cells_of))]
 fn read_cells(
-    columns: &[Column],
+    columns: &[ColumnReader<'_>],
     places: &[usize],
     width: usize,
     fields: &ByteRecord,
     cells: Seq<i64>,
 ) -> Result<Seq<i64>, Stop>
-    requires few { HaveFewNames columns.now }
     requires count { length places.now ≡ length columns.now }
     ensures answers { Answers result (cells_of columns.now places.now width (fields_of fields.now)) }
     ensures wide { IfOk result (λ cells. length cells ≡ length columns.now) }
@@ -132,19 +139,18 @@ fn cleared(cells: Seq<i64>) -> Seq<i64>
 
 #[tactic(auto, using(crate::proofs::Cells::steps))]
 fn fill_cells(
-    columns: &[Column],
+    columns: &[ColumnReader<'_>],
     places: &[usize],
     fields: &ByteRecord,
     mut cells: Seq<i64>,
 ) -> Result<Seq<i64>, Stop>
-    requires few { HaveFewNames columns.now }
     requires count { length places.now ≡ length columns.now }
     requires empty { cells ≡ [] }
     ensures answers { Answers result (cells_from [] columns.now places.now (fields_of fields.now)) }
     ensures wide { IfOk result (λ cells. length cells ≡ length columns.now) }
 {
     for (place, column) in columns.iter().enumerate() {
-        let cell = read_cell(&column.kind, field(fields, places[place]))?;
+        let cell = column.read(field(fields, places[place]))?;
         cells.push(cell)?;
     }
     Ok(cells)

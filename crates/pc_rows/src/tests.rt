@@ -1,7 +1,7 @@
 ghost use Rattle.std.specs.Prelude.{◌≡◌, [], ◌∷◌, length, map, IfOk, All};
 ghost use Rattle.pc_model.specs.WellFormed.{HasFewNames, HaveFewNames};
 
-use crate::{Rows, read_rows};
+use crate::{Case, Rows, read_rows, reads_plain_fields, reads_plain_text};
 use pc_list::{Seq, Text};
 use pc_model::{Agg, Column, Folded, Kind, Query, Reason, Refusal, Region, Row, Schema, Side};
 use std::alloc::{AllocError, Global};
@@ -124,8 +124,22 @@ fn branches(alloc: Global) -> Result<Kind, AllocError>
     Ok(Kind::Cat { names })
 }
 
+// Names that want quotes, one with a space before it, and one that comes twice.
+fn odd_names(alloc: Global) -> Result<Kind, AllocError>
+    ensures { IfOk result HasFewNames }
+{
+    let mut names = Seq::new(alloc);
+    names.push(Text::from_text(alloc, "A,B")?)?;
+    names.push(Text::from_text(alloc, "say \"hi\"")?)?;
+    names.push(Text::from_text(alloc, " Paris")?)?;
+    names.push(Text::from_text(alloc, "größe")?)?;
+    names.push(Text::from_text(alloc, "A,B")?)?;
+    Ok(Kind::Cat { names })
+}
+
 // A branch, a day of a month, and a price up to 1000.00.
-fn sales(alloc: Global) -> Result<Schema, AllocError>
+fn sales(alloc: Global, branches: Kind) -> Result<Schema, AllocError>
+    requires { HasFewNames branches }
     ensures few { IfOk result (λ schema. HaveFewNames schema.columns) }
     ensures three { IfOk result (λ schema. length schema.columns ≡ 3) }
 {
@@ -136,7 +150,7 @@ fn sales(alloc: Global) -> Result<Schema, AllocError>
         high: 100_000,
     };
     let mut columns = Seq::new(alloc);
-    columns.push(column(alloc, "branch", branches(alloc)?)?)?;
+    columns.push(column(alloc, "branch", branches)?)?;
     columns.push(column(alloc, "day", day)?)?;
     columns.push(column(alloc, "price", price)?)?;
     Ok(Schema { columns })
@@ -156,9 +170,15 @@ fn numbers(alloc: Global, rows: &Rows) -> Result<Vec<i64>, AllocError>
 }
 
 // The numbers of a file of sales, or the place and the reason of its first fault.
-fn outcome(alloc: Global, text: &[u8]) -> Result<Result<Vec<i64>, (u64, Reason)>, Fail> {
-    let schema = sales(alloc)?;
-    match read_rows(alloc, &schema, text) {
+fn outcome(
+    alloc: Global,
+    schema: &Schema,
+    text: &[u8],
+) -> Result<Result<Vec<i64>, (u64, Reason)>, Fail>
+    requires few { HaveFewNames schema.now.columns }
+    requires three { length schema.now.columns ≡ 3 }
+{
+    match read_rows(alloc, schema, text) {
         Ok(rows) => Ok(Ok(numbers(alloc, &rows)?)),
         Err(Refusal::Fault(fault)) => Ok(Err((fault.place, fault.reason))),
         Err(Refusal::Memory) => Err(Fail::from(AllocError)),
@@ -168,8 +188,9 @@ fn outcome(alloc: Global, text: &[u8]) -> Result<Result<Vec<i64>, (u64, Reason)>
 #[test]
 fn files_that_are_read(rt: HostRuntime) -> Result<(), Fail> {
     let alloc = rt.alloc();
+    let schema = sales(alloc, branches(alloc)?)?;
     let two_rows = [0, 3, 10000, 1, 5, 5000];
-    let cases: [(&str, &[i64]); 11] = [
+    let cases: [(&str, &[i64]); 12] = [
         (
             "branch,day,price\nChicago,3,100.00\nNewYork,5,50.00\n",
             &two_rows,
@@ -203,11 +224,12 @@ fn files_that_are_read(rt: HostRuntime) -> Result<(), Fail> {
             "branch,day,price\nTrenton,1,0\nTrenton,31,1000\n",
             &[2, 1, 0, 2, 31, 100000],
         ),
+        ("branch,day,price\nTrenton,3.0,-0\n", &[2, 3, 0]),
         ("branch,day,price\n", &[]),
         ("day,price,branch", &[]),
     ];
     for (text, wanted) in cases {
-        match outcome(alloc, text.as_bytes())? {
+        match outcome(alloc, &schema, text.as_bytes())? {
             Ok(numbers) => assert!(rt; numbers.as_slice() == wanted, "{text}"),
             Err(_) => assert!(rt; false, "{text}"),
         }
@@ -218,6 +240,7 @@ fn files_that_are_read(rt: HostRuntime) -> Result<(), Fail> {
 #[test]
 fn headers_that_are_refused(rt: HostRuntime) -> Result<(), Fail> {
     let alloc = rt.alloc();
+    let schema = sales(alloc, branches(alloc)?)?;
     let cases = [
         ("", Reason::NoHeader),
         ("\n\r\n", Reason::NoHeader),
@@ -230,7 +253,7 @@ fn headers_that_are_refused(rt: HostRuntime) -> Result<(), Fail> {
         ("branch,branch,day\nBoston\n", Reason::RepeatedName),
     ];
     for (text, reason) in cases {
-        match outcome(alloc, text.as_bytes())? {
+        match outcome(alloc, &schema, text.as_bytes())? {
             Ok(_) => assert!(rt; false, "{text}"),
             Err(fault) => assert_eq!(rt; fault, (1, reason), "{text}"),
         }
@@ -241,6 +264,7 @@ fn headers_that_are_refused(rt: HostRuntime) -> Result<(), Fail> {
 #[test]
 fn records_that_are_refused(rt: HostRuntime) -> Result<(), Fail> {
     let alloc = rt.alloc();
+    let schema = sales(alloc, branches(alloc)?)?;
     let cases = [
         ("Chicago,3\n", 2, Reason::FieldCount),
         ("Chicago,3,1,\n", 2, Reason::FieldCount),
@@ -254,6 +278,7 @@ fn records_that_are_refused(rt: HostRuntime) -> Result<(), Fail> {
         ("Chicago,3,10000000000000.01\n", 2, Reason::PastLimit),
         ("Boston,3,1\n", 2, Reason::UnknownName),
         ("Chicago ,3,1\n", 2, Reason::UnknownName),
+        (" Chicago,3,1\n", 2, Reason::UnknownName),
         ("Chicag,3,1\n", 2, Reason::UnknownName),
         ("Chicagos,3,1\n", 2, Reason::UnknownName),
         ("chicago,3,1\n", 2, Reason::UnknownName),
@@ -263,6 +288,11 @@ fn records_that_are_refused(rt: HostRuntime) -> Result<(), Fail> {
         ("Chicago,\t3,1\n", 2, Reason::BadNumber),
         ("Chicago,3\t,1\n", 2, Reason::BadNumber),
         ("Chicago,1 2,1\n", 2, Reason::BadNumber),
+        ("Chicago,3.,1\n", 2, Reason::BadNumber),
+        ("Chicago,3,.5\n", 2, Reason::BadNumber),
+        ("Chicago,1000000000000000,1\n", 2, Reason::OutsideDomain),
+        ("Chicago,1000000000000001,1\n", 2, Reason::PastLimit),
+        ("Chicago,3,1\nNewYork,3\n", 3, Reason::FieldCount),
         // The number of fields comes before the fields, and these come in the order of the schema.
         ("Boston,x\n", 2, Reason::FieldCount),
         ("Boston,x,2000\n", 2, Reason::UnknownName),
@@ -275,7 +305,7 @@ fn records_that_are_refused(rt: HostRuntime) -> Result<(), Fail> {
     ];
     for (text, place, reason) in cases {
         let file = format!(in alloc; "branch,day,price\n{text}")?;
-        match outcome(alloc, file.as_bytes())? {
+        match outcome(alloc, &schema, file.as_bytes())? {
             Ok(_) => assert!(rt; false, "{text}"),
             Err(fault) => assert_eq!(rt; fault, (place, reason), "{text}"),
         }
@@ -284,8 +314,83 @@ fn records_that_are_refused(rt: HostRuntime) -> Result<(), Fail> {
 }
 
 #[test]
+fn odd_names_that_are_read(rt: HostRuntime) -> Result<(), Fail> {
+    let alloc = rt.alloc();
+    let schema = sales(alloc, odd_names(alloc)?)?;
+    let cases: [(&str, i64); 7] = [
+        // The first place of the name that comes twice.
+        ("branch,day,price\n\"A,B\",3,1\n", 0),
+        ("branch,day,price\n\"say \"\"hi\"\"\",3,1\n", 1),
+        ("branch,day,price\nsay \"hi\",3,1\n", 1),
+        ("branch,day,price\n Paris,3,1\n", 2),
+        ("branch,day,price\ngröße,3,1\n", 3),
+        ("branch,\"day\",price\r\n\"A,B\",\" 3\",\"1.00 \"", 0),
+        (
+            "\"x,\"\"y\"\"\",branch,day,price\n\"a\"\"b,\",\"A,B\",3,1\n",
+            0,
+        ),
+    ];
+    for (text, place) in cases {
+        match outcome(alloc, &schema, text.as_bytes())? {
+            Ok(numbers) => assert!(rt; numbers.as_slice() == [place, 3, 100].as_slice(), "{text}"),
+            Err(_) => assert!(rt; false, "{text}"),
+        }
+    }
+    Ok(())
+}
+
+#[test]
+fn odd_names_that_are_refused(rt: HostRuntime) -> Result<(), Fail> {
+    let alloc = rt.alloc();
+    let schema = sales(alloc, odd_names(alloc)?)?;
+    let cases = [
+        ("A,B,3,1\n", Reason::FieldCount),
+        ("A,3,1\n", Reason::UnknownName),
+        ("\"A,B \",3,1\n", Reason::UnknownName),
+        ("\"A,\"\"B\",3,1\n", Reason::UnknownName),
+        ("say hi,3,1\n", Reason::UnknownName),
+        ("Paris,3,1\n", Reason::UnknownName),
+        ("größ,3,1\n", Reason::UnknownName),
+    ];
+    for (text, reason) in cases {
+        let file = format!(in alloc; "branch,day,price\n{text}")?;
+        match outcome(alloc, &schema, file.as_bytes())? {
+            Ok(_) => assert!(rt; false, "{text}"),
+            Err(fault) => assert_eq!(rt; fault, (2, reason), "{text}"),
+        }
+    }
+    Ok(())
+}
+
+#[test]
+fn as_many_names_as_may_be(rt: HostRuntime) -> Result<(), Fail> {
+    let alloc = rt.alloc();
+    let mut names = Seq::new(alloc);
+    for number in 0..128_i64 {
+        names.push(Text::from_string(format!(in alloc; "n{number}")?))?;
+    }
+    assert!(rt; names.len() <= 128);
+    let schema = sales(alloc, Kind::Cat { names })?;
+    for number in 0..128_i64 {
+        let file = format!(in alloc; "branch,day,price\nn{number},3,1\n")?;
+        match outcome(alloc, &schema, file.as_bytes())? {
+            Ok(numbers) => {
+                assert!(rt;
+                    numbers.as_slice() == [number, 3, 100].as_slice(),
+                    "{number}"
+                )
+            }
+            Err(_) => assert!(rt; false, "{number}"),
+        }
+    }
+    Ok(())
+}
+
+#[test]
 fn fields_in_the_order_of_the_schema(rt: HostRuntime) -> Result<(), Fail> {
-    match outcome(rt.alloc(), b"price,day,branch\nx,y,Boston\n")? {
+    let alloc = rt.alloc();
+    let schema = sales(alloc, branches(alloc)?)?;
+    match outcome(alloc, &schema, b"price,day,branch\nx,y,Boston\n")? {
         Ok(_) => assert!(rt; false, "no rows are wanted"),
         Err(fault) => assert_eq!(rt; fault, (2, Reason::UnknownName)),
     }
@@ -294,7 +399,9 @@ fn fields_in_the_order_of_the_schema(rt: HostRuntime) -> Result<(), Fail> {
 
 #[test]
 fn bytes_that_are_no_text(rt: HostRuntime) -> Result<(), Fail> {
-    match outcome(rt.alloc(), b"branch\nBoston\xff\n")? {
+    let alloc = rt.alloc();
+    let schema = sales(alloc, branches(alloc)?)?;
+    match outcome(alloc, &schema, b"branch\nBoston\xff\n")? {
         Ok(_) => assert!(rt; false, "no rows are wanted"),
         Err(fault) => assert_eq!(rt; fault, (0, Reason::NotUtf8)),
     }
@@ -324,6 +431,45 @@ fn as_many_rows_as_may_be(rt: HostRuntime) -> Result<(), Fail> {
             assert_eq!(rt; fault.reason, Reason::TooMany);
         }
         _ => assert!(rt; false, "no rows are wanted"),
+    }
+    Ok(())
+}
+
+// A case is seen as its three parts.
+fn case_of(schema: Schema, rows: Rows, alloc: Global) -> Case
+    ensures schema { result.schema ≡ schema }
+    ensures rows { result.rows ≡ rows }
+    ensures constraints { result.constraints ≡ [] }
+{
+    Case {
+        schema,
+        rows,
+        constraints: Seq::new(alloc),
+    }
+}
+
+#[test]
+fn a_case_has_its_parts(rt: HostRuntime) -> Result<(), Fail> {
+    let alloc = rt.alloc();
+    let schema = sales(alloc, branches(alloc)?)?;
+    let case = case_of(schema, three_rows(alloc)?, alloc);
+    assert_eq!(rt; case.schema.columns.len(), 3);
+    assert_eq!(rt; case.rows.count(), 3);
+    assert!(rt; case.constraints.is_empty());
+    Ok(())
+}
+
+// The laws say of all rows what this says of two.
+#[test]
+fn plain_rows_are_read(rt: HostRuntime) -> Result<(), Fail> {
+    reads_plain_fields();
+    reads_plain_text();
+    let alloc = rt.alloc();
+    let schema = sales(alloc, odd_names(alloc)?)?;
+    let text = "branch,day,price\n\"A,B\",31,1000.00\n\"say \"\"hi\"\"\",1,0.05\n";
+    match outcome(alloc, &schema, text.as_bytes())? {
+        Ok(numbers) => { assert!(rt; numbers.as_slice() == [0, 31, 100_000, 1, 1, 5].as_slice()) }
+        Err(_) => assert!(rt; false, "rows are wanted"),
     }
     Ok(())
 }

@@ -7,8 +7,9 @@ use Rattle.pc_model.specs.declared.fault.FileKind.TheVariants as kinds
 use Rattle.pc_base.specs.declared.status.Status.{Status}
 use Rattle.pc_base.specs.declared.status.Status.TheVariants as ended
 use Rattle.pc_base.specs.Files.{Files, file_of}
+use Rattle.pc_rows.specs.declared.case.Case.{Case}
 use Rattle.pc_run.specs.Words.{Names, name_of, command_of}
-use Rattle.pc_run.specs.Outcome.{Obstacle, absent, Accepted, and_then, bytes_under, schema_under, observed_under, constraints_under, accepted_under}
+use Rattle.pc_run.specs.Outcome.{Obstacle, absent, and_then, bytes_under, schema_under, rows_under, constraints_under, accepted_under}
 use Rattle.pc_run.specs.Replies.{IsReached}
 use Rattle.pc_run.specs.Meaning.{Call, IsRefused, HasReadFault, Means, IsAnswerable, IsDoneUnlessMemory}
 
@@ -30,8 +31,8 @@ absent_schema : (name : List ℕ) (files : Files) → file_of files name ≡ Non
 unfolding schema_under
 absent_schema name files none = rw (absent_bytes kinds.Schema name files none) refl
 
-absent_rows : (schema : Schema) (name : List ℕ) (files : Files) → file_of files name ≡ None → observed_under schema name files ≡ Err (absent kinds.Rows)
-unfolding observed_under
+absent_rows : (schema : Schema) (name : List ℕ) (files : Files) → file_of files name ≡ None → rows_under schema name files ≡ Err (absent kinds.Rows)
+unfolding rows_under
 absent_rows schema name files none = rw (absent_bytes kinds.Rows name files none) refl
 
 absent_constraints : (schema : Schema) (name : List ℕ) (files : Files) → file_of files name ≡ None → constraints_under schema name files ≡ Err (absent kinds.Constraints)
@@ -43,15 +44,15 @@ record Held (names : Names) (files : Files) : Type 0 where
   schema : Schema
   rows : List Row
   schema_is : schema_under names.schema files ≡ Ok schema
-  rows_are : observed_under schema names.rows files ≡ Ok rows
+  rows_are : rows_under schema names.rows files ≡ Ok rows
   constraints_are : IsOk (constraints_under schema names.constraints files)
 
-held_from : (names : Names) (files : Files) (accepted : Accepted) → accepted_under names files ≡ Ok accepted → Held names files
+held_from : (names : Names) (files : Files) (case : Case) → accepted_under names files ≡ Ok case → Held names files
 unfolding accepted_under
-held_from names files accepted is =
-    let first = step (schema_under names.schema files) _ accepted is in
-    let second = step (observed_under first.value names.rows files) _ accepted first.next_is in
-    let third = step (constraints_under first.value names.constraints files) _ accepted second.next_is in
+held_from names files case is =
+    let first = step (schema_under names.schema files) _ case is in
+    let second = step (rows_under first.value names.rows files) _ case first.next_is in
+    let third = step (constraints_under first.value names.constraints files) _ case second.next_is in
     record { schema = first.value; rows = second.value; schema_is = first.first_is; rows_are = second.first_is; constraints_are = rw third.first_is refl }
 
 -- no file that is reached is absent
@@ -79,7 +80,7 @@ unread_no call can fault =
     let names = same_names call.words fault.names can.names fault.command can.command in
     let none = rw (can.told, names) at is_absent in
     let reached = rw names at fault.unread.reached in
-    held_file can.names can.files (held_from can.names can.files can.accepted can.is_accepted) call.files can.told fault.file reached none)
+    held_file can.names can.files (held_from can.names can.files can.case can.is_accepted) call.files can.told fault.file reached none)
     fault.unread.cause
 
 pub answers : (call : Call) (status : Status) → Means call status → IsAnswerable call → IsDoneUnlessMemory status

@@ -9,13 +9,14 @@ use Rattle.pc_model.specs.declared.fault.FileKind.{FileKind}
 use Rattle.pc_model.specs.declared.fault.FileKind.TheVariants as kinds
 use Rattle.pc_base.specs.Counts.{Rose}
 use Rattle.pc_base.specs.Files.{Files, IsAbsent}
+use Rattle.pc_rows.specs.declared.case.Case.{Case}
 use Rattle.pc_first.specs.QueryForm.{query_of}
 use Rattle.pc_count.specs.Overlap.{first_overlap}
 use Rattle.pc_run.specs.declared.stop.Stop.{Stop}
 use Rattle.pc_run.specs.declared.stop.Stop.TheVariants as stops
 use Rattle.pc_run.specs.Words.{Names}
-use Rattle.pc_run.specs.Outcome.{Obstacle, Accepted, or_refused, overlap_at, schema_under, observed_under, constraints_under, accepted_under}
-use Rattle.pc_run.specs.Loading.{Agrees, AgreesOnRows, HasCause}
+use Rattle.pc_run.specs.Outcome.{Obstacle, or_refused, overlap_at, schema_under, rows_under, constraints_under, accepted_under}
+use Rattle.pc_run.specs.Loading.{Agrees, HasCause}
 use Rattle.pc_run.specs.Replies.{CaseAgrees, IsReached, IsUnread}
 
 rises : (before middle now : ℕ) → before ≤ middle → Rose middle now → Rose before now
@@ -26,9 +27,6 @@ later_cause : (told : Option Files) (name : List ℕ) (before middle now : ℕ) 
 later_cause told name before middle now earlier cause = ⊎_elim (λ rose. inl (rises before middle now earlier rose)) (λ is_absent. inr is_absent) cause
 
 -- what one part of the call says of the shelf after it, said of the shelf before it
-pub moved_rows : (schema : Schema) (name : List ℕ) (stop : Stop) (later told : Option Files) → later ≡ told → AgreesOnRows later schema name (Err stop) → AgreesOnRows told schema name (Err stop)
-moved_rows schema name stop later told same agrees = subst (λ (t : Option Files). AgreesOnRows t schema name (Err stop)) same agrees
-
 pub moved : {X : Type 0} (file : FileKind) (wanted : Files → Result X Obstacle) (stop : Stop) (later told : Option Files) → later ≡ told → Agrees file later wanted (Err stop) → Agrees file told wanted (Err stop)
 moved file wanted stop later told same agrees = subst (λ (t : Option Files). Agrees file t wanted (Err stop)) same agrees
 
@@ -51,7 +49,7 @@ reached_rows None names schema has_schema = tt
 reached_rows (Some files) names schema has_schema = rw has_schema refl
 
 -- the schema is read
-pub at_rows : (told : Option Files) (names : Names) (before middle now : ℕ) (schema : Schema) → IfSome told (λ files. schema_under names.schema files ≡ Ok schema) → before ≤ middle → (stop : Stop) → AgreesOnRows told schema names.rows (Err stop) → HasCause {X = ℕ} told names.rows middle now (Err stop) → CaseAgrees told names before now (Err stop)
+pub at_rows : (told : Option Files) (names : Names) (before middle now : ℕ) (schema : Schema) → IfSome told (λ files. schema_under names.schema files ≡ Ok schema) → before ≤ middle → (stop : Stop) → Agrees {X = List Row} kinds.Rows told (rows_under schema names.rows) (Err stop) → HasCause {X = List Row} told names.rows middle now (Err stop) → CaseAgrees told names before now (Err stop)
 unfolding accepted_under
 at_rows told names before middle now schema has_schema earlier stops.Memory agrees cause = tt
 at_rows told names before middle now schema has_schema earlier (stops.Unread kind) agrees cause =
@@ -62,7 +60,7 @@ at_rows (Some files) names before middle now schema has_schema earlier (stops.Re
 -- the schema and the rows are read
 pub record HasRows (told : Option Files) (names : Names) (schema : Schema) (rows : List Row) : Type 0 where
   pub has_schema : IfSome told (λ files. schema_under names.schema files ≡ Ok schema)
-  pub has_rows : IfSome told (λ files. observed_under schema names.rows files ≡ Ok rows)
+  pub has_rows : IfSome told (λ files. rows_under schema names.rows files ≡ Ok rows)
 
 reached_constraints : (told : Option Files) (names : Names) (schema : Schema) (rows : List Row) → HasRows told names schema rows → IsReached told names kinds.Constraints
 reached_constraints None names schema rows read = tt
@@ -77,25 +75,25 @@ at_constraints None names before middle now schema rows read earlier (stops.Refu
 at_constraints (Some files) names before middle now schema rows read earlier (stops.Refused fault) agrees cause = rw (read.has_schema, read.has_rows, agrees) refl
 
 -- all files are read
-pub record HasFiles (told : Option Files) (names : Names) (accepted : Accepted) : Type 0 where
-  pub rows : HasRows told names accepted.schema accepted.observed
-  pub has_constraints : IfSome told (λ files. constraints_under accepted.schema names.constraints files ≡ Ok accepted.constraints)
+pub record HasFiles (told : Option Files) (names : Names) (case : Case) : Type 0 where
+  pub rows : HasRows told names case.schema case.rows
+  pub has_constraints : IfSome told (λ files. constraints_under case.schema names.constraints files ≡ Ok case.constraints)
 
-pub at_overlap : (told : Option Files) (names : Names) (before now : ℕ) (accepted : Accepted) → HasFiles told names accepted → (fault : Fault) → or_refused {X = Unit {0}} (Err fault) ≡ overlap_at (first_overlap accepted.constraints) → CaseAgrees told names before now (Err (stops.Refused fault))
+pub at_overlap : (told : Option Files) (names : Names) (before now : ℕ) (case : Case) → HasFiles told names case → (fault : Fault) → or_refused {X = Unit {0}} (Err fault) ≡ overlap_at (first_overlap case.constraints) → CaseAgrees told names before now (Err (stops.Refused fault))
 unfolding accepted_under
-at_overlap None names before now accepted read fault overlaps = tt
-at_overlap (Some files) names before now accepted read fault overlaps = rw (read.rows.has_schema, read.rows.has_rows, read.has_constraints, ← overlaps) refl
+at_overlap None names before now case read fault overlaps = tt
+at_overlap (Some files) names before now case read fault overlaps = rw (read.rows.has_schema, read.rows.has_rows, read.has_constraints, ← overlaps) refl
 
-pub at_query : (told : Option Files) (names : Names) (before now : ℕ) (accepted : Accepted) → HasFiles told names accepted → (fault : Fault) → or_refused (Ok tt) ≡ overlap_at (first_overlap accepted.constraints) → query_of names.query ≡ Err fault → CaseAgrees told names before now (Err (stops.Refused fault))
+pub at_query : (told : Option Files) (names : Names) (before now : ℕ) (case : Case) → HasFiles told names case → (fault : Fault) → or_refused (Ok tt) ≡ overlap_at (first_overlap case.constraints) → query_of names.query ≡ Err fault → CaseAgrees told names before now (Err (stops.Refused fault))
 unfolding accepted_under
-at_query None names before now accepted read fault apart refuses = tt
-at_query (Some files) names before now accepted read fault apart refuses = rw (read.rows.has_schema, read.rows.has_rows, read.has_constraints, ← apart, refuses) refl
+at_query None names before now case read fault apart refuses = tt
+at_query (Some files) names before now case read fault apart refuses = rw (read.rows.has_schema, read.rows.has_rows, read.has_constraints, ← apart, refuses) refl
 
 -- and the query is accepted
-pub at_end : (told : Option Files) (names : Names) (accepted : Accepted) → HasFiles told names accepted → or_refused (Ok tt) ≡ overlap_at (first_overlap accepted.constraints) → query_of names.query ≡ Ok tt → IfSome told (λ files. accepted_under names files ≡ Ok accepted)
+pub at_end : (told : Option Files) (names : Names) (case : Case) → HasFiles told names case → or_refused (Ok tt) ≡ overlap_at (first_overlap case.constraints) → query_of names.query ≡ Ok tt → IfSome told (λ files. accepted_under names files ≡ Ok case)
 unfolding accepted_under
-at_end None names accepted read apart accepts = tt
-at_end (Some files) names accepted read apart accepts = rw (read.rows.has_schema, read.rows.has_rows, read.has_constraints, ← apart, accepts) refl
+at_end None names case read apart accepts = tt
+at_end (Some files) names case read apart accepts = rw (read.rows.has_schema, read.rows.has_rows, read.has_constraints, ← apart, accepts) refl
 
 -- the numbers of rows that the limits allow fit
 pub fits : (observed : ℕ) (constraints : List Constraint) → observed ≤ 1000000 → length constraints ≤ 20 → All (λ (c : Constraint). c.most ≤ 10000000) constraints → observed + sum_by (λ (c : Constraint). c.most) constraints < 2 ^ 64

@@ -1,23 +1,18 @@
 -- What is read of files that the shelf tells.
-use Rattle.std.specs.List.{AllPass}
-use Rattle.pc_model.specs.Membership.{in_domain}
 use Rattle.std.proofs.Common.{◌≡◌, ℕ, ◌+◌, ◌<◌, ◌≤◌, List, length, take, Option, Some, None, Result, Ok, Err, IfSome, IsSomeAnd, ap, refl}
 use Rattle.std.proofs.lemmas.Bool.{le-ltb, lt-ltb}
-use Rattle.pc_model.specs.declared.schema.Schema.{Schema}
-use Rattle.pc_model.specs.declared.row.Row.{Row}
 use Rattle.pc_model.specs.declared.fault.Fault.{Fault}
 use Rattle.pc_model.specs.declared.fault.FileKind.{FileKind}
-use Rattle.pc_model.specs.declared.fault.FileKind.TheVariants as kinds
 use Rattle.pc_model.specs.declared.fault.Reason.TheVariants as reasons
 use Rattle.pc_model.specs.declared.fault.Refusal.{Refusal}
 use Rattle.pc_model.specs.declared.fault.Refusal.TheVariants as refusals
 use Rattle.pc_model.specs.Refusals.{fault_at, Gives}
+use Rattle.pc_model.specs.Texts.{file_limit}
 use Rattle.pc_base.specs.Files.{Files, file_of}
-use Rattle.pc_first.specs.RowForm.{observed_of, Counts}
 use Rattle.pc_run.specs.declared.stop.Stop.{Stop}
 use Rattle.pc_run.specs.declared.stop.Stop.TheVariants as stops
-use Rattle.pc_run.specs.Outcome.{Obstacle, refused, file_limit, bytes_in, bytes_under, and_then, or_refused, observed_under}
-use Rattle.pc_run.specs.Loading.{Agrees, AgreesOnRows, AreCounted}
+use Rattle.pc_run.specs.Outcome.{Obstacle, refused, bytes_in, bytes_under, and_then, or_refused}
+use Rattle.pc_run.specs.Loading.{Agrees}
 use Rattle.pc_run.specs.Stops.{stop_of}
 
 -- a file that is not too long gives its bytes
@@ -68,24 +63,3 @@ module _ {X : Type 0} (value_of : List ℕ → Result X Fault) where
   agrees_stopped file told wanted (stops.Unread kind) is = is
   agrees_stopped file None wanted (stops.Refused fault) is = tt
   agrees_stopped file (Some files) wanted (stops.Refused fault) is = rw is refl
-
--- rows that are counted and not kept
-module _ (told : Option Files) (schema : Schema) (name : List ℕ) where
-  pub rows_counted : (bytes : List ℕ) (count : ℕ) → Agrees kinds.Rows told (bytes_under kinds.Rows name) (Ok bytes) → Counts (Ok count) (observed_of schema bytes) → ((rows : List Row) → observed_of schema bytes ≡ Ok rows → AllPass (in_domain schema) rows) → AreCounted told schema name count
-  unfolding observed_under
-  rows_counted bytes count held counts seen = record {
-    rows = counts.0;
-    counted = counts.2;
-    seen = seen counts.0 counts.1;
-    agrees = agrees_read (observed_of schema) kinds.Rows told (bytes_under kinds.Rows name) bytes counts.0 held counts.1;
-  }
-
-  pub rows_stopped : (stop : Stop) → Agrees kinds.Rows told (bytes_under kinds.Rows name) (Err stop) → AgreesOnRows told schema name (Err stop)
-  unfolding observed_under
-  rows_stopped stops.Memory is = tt
-  rows_stopped (stops.Unread kind) is = is
-  rows_stopped (stops.Refused fault) is = agrees_stopped (observed_of schema) kinds.Rows told (bytes_under kinds.Rows name) (stops.Refused fault) is
-
-  pub rows_refused : (bytes : List ℕ) (fault : Fault) → Agrees kinds.Rows told (bytes_under kinds.Rows name) (Ok bytes) → observed_of schema bytes ≡ Err fault → AgreesOnRows told schema name (Err (stops.Refused fault))
-  unfolding observed_under
-  rows_refused bytes fault held is = agrees_refused (observed_of schema) kinds.Rows told (bytes_under kinds.Rows name) bytes (refusals.Fault fault) held is

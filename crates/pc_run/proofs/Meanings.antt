@@ -4,8 +4,9 @@ use Rattle.pc_base.specs.declared.status.Status.{Status}
 use Rattle.pc_base.specs.declared.status.Status.TheVariants as ended
 use Rattle.pc_base.specs.declared.outside.Put.TheVariants.{All, Failed}
 use Rattle.pc_base.specs.Puts.{Leaves}
+use Rattle.pc_rows.specs.declared.case.Case.{Case}
 use Rattle.pc_run.specs.Words.{Names, command_of}
-use Rattle.pc_run.specs.Outcome.{Obstacle, refused, absent, Accepted, accepted_under}
+use Rattle.pc_run.specs.Outcome.{Obstacle, refused, absent, accepted_under}
 use Rattle.pc_model.specs.declared.fault.Fault.{Fault}
 use Rattle.pc_run.specs.Reports.{usage_line, malformed_line}
 use Rattle.pc_run.specs.Replies.{SaysCount, Says, SaysOutcome, SaysFault, RepliesToCommand, Responds}
@@ -40,8 +41,8 @@ told_fault call names status text command says told = record {
   told = subst (λ (t : List ℕ). IsTold call t) says.line told;
 }
 
-answered : (call : Call) (names : Names) (text : List ℕ) (accepted : Accepted) → command_of call.words ≡ Some names → IfSome call.files (λ files. accepted_under names files ≡ Ok accepted) → SaysCount accepted text → IsAnswered call text
-answered call names text accepted command agrees says = record { names = names; command = command; accepted = accepted; agrees = agrees; says = says }
+answered : (call : Call) (names : Names) (text : List ℕ) (case : Case) → command_of call.words ≡ Some names → IfSome call.files (λ files. accepted_under names files ≡ Ok case) → SaysCount case text → IsAnswered call text
+answered call names text case command agrees says = record { names = names; command = command; case = case; agrees = agrees; says = says }
 
 told_refusal : (call : Call) (names : Names) (text : List ℕ) (fault : Fault) → command_of call.words ≡ Some names → IfSome call.files (λ files. accepted_under names files ≡ Err (refused fault)) → text ≡ malformed_line fault → IsTold call text → IsRefused call
 told_refusal call names text fault command agrees is told = record {
@@ -53,9 +54,9 @@ told_refusal call names text fault command agrees is told = record {
 }
 
 -- the whole text was put
-outcome_whole : (call : Call) (names : Names) (status : Status) (text : List ℕ) → command_of call.words ≡ Some names → (outcome : Result Accepted Obstacle) → Says outcome status text → IfSome call.files (λ files. accepted_under names files ≡ outcome) → IsWritten call text → Means call status
-outcome_whole call names status text command (Ok accepted) says agrees written =
-    rw says.0 (let done : IsDone call = record { text = text; answered = answered call names text accepted command agrees says.1; written = written } in done)
+outcome_whole : (call : Call) (names : Names) (status : Status) (text : List ℕ) → command_of call.words ≡ Some names → (outcome : Result Case Obstacle) → Says outcome status text → IfSome call.files (λ files. accepted_under names files ≡ outcome) → IsWritten call text → Means call status
+outcome_whole call names status text command (Ok case) says agrees written =
+    rw says.0 (let done : IsDone call = record { text = text; answered = answered call names text case command agrees says.1; written = written } in done)
 outcome_whole call names status text command (Err (refused fault)) says agrees written =
     rw says.0 (told_refusal call names text fault command agrees says.1 (inl written))
 outcome_whole call names status text command (Err (absent file)) says agrees written = absurd says
@@ -75,9 +76,9 @@ means_whole call status text responds written =
     responds
 
 -- a front of it was put
-outcome_cut_off : (call : Call) (names : Names) (status : Status) (text : List ℕ) → command_of call.words ≡ Some names → (outcome : Result Accepted Obstacle) → Says outcome status text → IfSome call.files (λ files. accepted_under names files ≡ outcome) → IsCutOff call text → Means call (after_failed_put status)
-outcome_cut_off call names status text command (Ok accepted) says agrees cut =
-    rw says.0 (let fault : HasWriteFault call = record { text = text; answered = answered call names text accepted command agrees says.1; cut_off = cut } in fault)
+outcome_cut_off : (call : Call) (names : Names) (status : Status) (text : List ℕ) → command_of call.words ≡ Some names → (outcome : Result Case Obstacle) → Says outcome status text → IfSome call.files (λ files. accepted_under names files ≡ outcome) → IsCutOff call text → Means call (after_failed_put status)
+outcome_cut_off call names status text command (Ok case) says agrees cut =
+    rw says.0 (let fault : HasWriteFault call = record { text = text; answered = answered call names text case command agrees says.1; cut_off = cut } in fault)
 outcome_cut_off call names status text command (Err (refused fault)) says agrees cut =
     rw says.0 (told_refusal call names text fault command agrees says.1 (inr cut))
 outcome_cut_off call names status text command (Err (absent file)) says agrees cut = absurd says

@@ -7,7 +7,8 @@ use Rattle.pc_base.specs.declared.status.Status.TheVariants as ended
 use Rattle.pc_base.specs.Counts.{Rose}
 use Rattle.pc_base.specs.Files.{Files}
 use Rattle.pc_run.specs.Words.{Names, command_of}
-use Rattle.pc_run.specs.Outcome.{Accepted, refused, accepted_under}
+use Rattle.pc_rows.specs.declared.case.Case.{Case}
+use Rattle.pc_run.specs.Outcome.{refused, accepted_under}
 use Rattle.pc_run.specs.Replies.{SaysCount, IsUnread}
 use Rattle.pc_run.specs.Reports.{usage_line, fault_line, malformed_line}
 
@@ -52,9 +53,9 @@ IsTold call line = IsWritten call line ⊎ IsCutOff call line
 pub record IsAnswered (call : Call) (text : List ℕ) : Type 0 where
   pub names : Names
   pub command : command_of call.words ≡ Some names
-  pub accepted : Accepted
-  pub agrees : IfSome call.files (λ files. accepted_under names files ≡ Ok accepted)
-  pub says : SaysCount accepted text
+  pub case : Case
+  pub agrees : IfSome call.files (λ files. accepted_under names files ≡ Ok case)
+  pub says : SaysCount case text
 
 pub record IsDone (call : Call) : Type 0 where
   pub text : List ℕ
@@ -101,8 +102,8 @@ pub record IsAnswerable (call : Call) : Type 0 where
   pub command : command_of call.words ≡ Some names
   pub files : Files
   pub told : call.files ≡ Some files
-  pub accepted : Accepted
-  pub is_accepted : accepted_under names files ≡ Ok accepted
+  pub case : Case
+  pub is_accepted : accepted_under names files ≡ Ok case
   pub loads : ¬ Rose call.loads_before call.loads_after
   pub puts : ¬ Rose call.puts_before call.puts_after
 

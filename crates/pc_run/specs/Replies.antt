@@ -1,48 +1,39 @@
 -- With which status and text a run replies to the files of a command.
-use Rattle.std.specs.Prelude.{◌≡◌, ℕ, ◌+◌, ◌<◌, ◌^◌, ◌⊎◌, ⊤, List, length, All, sum_by, Option, Some, None, Result, Ok, Err, IsOk, IsOkAnd, IfSome}
+use Rattle.std.specs.Prelude.{◌≡◌, ℕ, ◌≤◌, ◌⊎◌, ⊤, List, length, All, Option, Some, None, Result, Ok, Err, IsOk, IsOkAnd, IfSome}
 use Rattle.std.specs.List.{AllPass}
 use Rattle.pc_model.specs.declared.constraint.Constraint.{Constraint}
 use Rattle.pc_model.specs.declared.fault.FileKind.{FileKind}
 use Rattle.pc_model.specs.declared.fault.FileKind.TheVariants as kinds
 use Rattle.pc_model.specs.Membership.{in_domain, AreDisjoint}
 use Rattle.pc_model.specs.Boxes.{IsServable}
+use Rattle.pc_model.specs.WellFormed.{IsWellFormed}
 use Rattle.pc_base.specs.declared.status.Status.{Status}
 use Rattle.pc_base.specs.declared.status.Status.TheVariants as ended
 use Rattle.pc_base.specs.Counts.{Rose}
 use Rattle.pc_base.specs.Files.{Files, IsAbsent}
 use Rattle.pc_count.specs.declared.answer.CountAnswer.{CountAnswer}
 use Rattle.pc_count.specs.Counting.{IsRightCount}
-use Rattle.pc_run.specs.declared.case.Case.{Case}
+use Rattle.pc_rows.specs.declared.case.Case.{Case}
 use Rattle.pc_run.specs.declared.stop.Stop.{Stop}
 use Rattle.pc_run.specs.declared.stop.Stop.TheVariants as stops
 use Rattle.pc_run.specs.Words.{Names, name_of, command_of}
-use Rattle.pc_run.specs.Outcome.{Obstacle, refused, absent, Accepted, schema_under, observed_under, accepted_under}
+use Rattle.pc_run.specs.Outcome.{Obstacle, refused, absent, schema_under, rows_under, accepted_under}
 use Rattle.pc_run.specs.Reports.{usage_line, fault_line, malformed_line, report_of}
 
--- what is kept of accepted files
-pub record StandsFor (case : Case) (accepted : Accepted) : Type 0 where
-  pub schema : case.schema ≡ accepted.schema
-  pub counted : length accepted.observed ≡ case.observed
-  pub seen : AllPass (in_domain case.schema) accepted.observed
-  pub constraints : case.constraints ≡ accepted.constraints
-
--- what was read stands for accepted files, which are those under the names where the shelf tells its files
-pub record IsRead (told : Option Files) (names : Names) (case : Case) : Type 0 where
-  pub accepted : Accepted
-  pub stands : StandsFor case accepted
-  pub agrees : IfSome told (λ files. accepted_under names files ≡ Ok accepted)
-
--- what the count needs of what was read
+-- what the count and its report need of what was read
 pub record IsSound (case : Case) : Type 0 where
+  pub well_formed : IsWellFormed case.schema
+  pub seen : AllPass (in_domain case.schema) case.rows
   pub disjoint : AreDisjoint case.schema case.constraints
   pub servable : All (IsServable case.schema) case.constraints
-  pub small : case.observed + sum_by (λ (c : Constraint). c.most) case.constraints < 2 ^ 64
+  pub few : length case.constraints ≤ 20
+  pub small : All (λ (c : Constraint). c.most ≤ 10000000) case.constraints
 
 -- this is a file, and those before it are accepted where the shelf tells its files
 abbrev pub IsReached : Option Files → Names → FileKind → Type 0
 IsReached told names kinds.Schema = ⊤
 IsReached told names kinds.Rows = IfSome told (λ files. IsOk (schema_under names.schema files))
-IsReached told names kinds.Constraints = IfSome told (λ files. IsOkAnd (schema_under names.schema files) (λ schema. IsOk (observed_under schema names.rows files)))
+IsReached told names kinds.Constraints = IfSome told (λ files. IsOkAnd (schema_under names.schema files) (λ schema. IsOk (rows_under schema names.rows files)))
 IsReached told names kinds.Query = ⊥
 IsReached told names kinds.Document = ⊥
 
@@ -53,31 +44,27 @@ pub record IsUnread (told : Option Files) (names : Names) (before now : ℕ) (fi
 
 -- what reading the files of a command answers
 abbrev pub CaseAgrees : Option Files → Names → ℕ → ℕ → Result Case Stop → Type 0
-CaseAgrees told names before now (Ok case) = IsRead told names case
+CaseAgrees told names before now (Ok case) = IfSome told (λ files. accepted_under names files ≡ Ok case)
 CaseAgrees told names before now (Err (stops.Refused fault)) = IfSome told (λ files. accepted_under names files ≡ Err (refused fault))
 CaseAgrees told names before now (Err (stops.Unread file)) = IsUnread told names before now file
 CaseAgrees told names before now (Err stops.Memory) = ⊤
 
 -- the text is the report of a right answer, over disjoint predicates
-pub record SaysCount (accepted : Accepted) (text : List ℕ) : Type 0 where
-  pub disjoint : AreDisjoint accepted.schema accepted.constraints
+pub record SaysCount (case : Case) (text : List ℕ) : Type 0 where
+  pub disjoint : AreDisjoint case.schema case.constraints
   pub answer : CountAnswer
-  pub right : IsRightCount accepted.schema accepted.observed accepted.constraints answer
-  pub reported : text ≡ report_of answer
-
--- the text is the report of a right answer to whatever files the case stands for
-abbrev pub SaysCase : Case → List ℕ → Type 0
-SaysCase case text = (accepted : Accepted) → StandsFor case accepted → SaysCount accepted text
+  pub right : IsRightCount case.schema case.rows case.constraints answer
+  pub reported : text ≡ report_of case.schema answer
 
 -- the reply to files that are accepted, or refused
-abbrev pub Says : Result Accepted Obstacle → Status → List ℕ → Type 0
-Says (Ok accepted) status text = (status ≡ ended.Done) × SaysCount accepted text
+abbrev pub Says : Result Case Obstacle → Status → List ℕ → Type 0
+Says (Ok case) status text = (status ≡ ended.Done) × SaysCount case text
 Says (Err (refused fault)) status text = (status ≡ ended.Malformed) × (text ≡ malformed_line fault)
 Says (Err (absent file)) status text = ⊥
 
 -- the reply to an outcome, which is that of the files where the shelf tells them
 pub record SaysOutcome (told : Option Files) (names : Names) (status : Status) (text : List ℕ) : Type 0 where
-  pub outcome : Result Accepted Obstacle
+  pub outcome : Result Case Obstacle
   pub says : Says outcome status text
   pub agrees : IfSome told (λ files. accepted_under names files ≡ outcome)
 

@@ -12,17 +12,9 @@ use crate::stop::Stop;
 use pc_base::Shelf;
 use pc_count::find_overlap;
 use pc_first::read_query;
-use pc_list::Seq;
 use pc_model::{Constraint, Fault, FileKind, Reason, Schema};
+use pc_rows::Case;
 use std::alloc::Global;
-
-/// What is kept of the files of a command: of the observed rows their number.
-#[derive(Debug, Drop)]
-pub(crate) struct Case {
-    pub schema: Schema,
-    pub observed: u64,
-    pub constraints: Seq<Constraint>,
-}
 
 /// Reads the files of a command in their order, and then its query.
 pub(crate) fn read_case<F: Shelf>(
@@ -37,13 +29,13 @@ pub(crate) fn read_case<F: Shelf>(
     ensures calls { F.calls files.new ≤ F.calls files.old + 3 }
 {
     let schema = load_schema(alloc, files, command.schema)?;
-    let observed = load_rows(alloc, files, command.rows, &schema)?;
+    let rows = load_rows(alloc, files, command.rows, &schema)?;
     let constraints = load_constraints(alloc, files, command.constraints, &schema)?;
     check_apart(&schema, constraints.as_slice())?;
     read_query(command.query.as_bytes())?;
     Ok(Case {
         schema,
-        observed,
+        rows,
         constraints,
     })
 }

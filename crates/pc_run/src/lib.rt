@@ -6,6 +6,7 @@ ghost use Rattle.pc_run.specs.Meaning.{Call, Means, IsAnswerable, IsDoneUnlessMe
 
 mod case;
 mod command;
+mod line;
 mod loading;
 mod reply;
 mod report;
@@ -29,7 +30,7 @@ pub fn run<F: Shelf, K: Sink>(alloc: Global, words: &[String], files: &mut F, ou
     let Ok(reply) = respond(alloc, words, files) else {
         return Status::Memory;
     };
-    match out.put(reply.text.as_bytes()) {
+    match out.put(reply.text.as_slice()) {
         Put::All => reply.status,
         Put::Failed => after_failed_put(reply.status),
         Put::Memory => Status::Memory,

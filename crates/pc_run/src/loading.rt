@@ -1,22 +1,24 @@
 ghost use Rattle.std.specs.Prelude.{◌≡◌, ◌≤◌, List, IfOk, All, length};
 ghost use Rattle.pc_model.specs.declared.constraint.Constraint.{Constraint as ConstraintData};
 ghost use Rattle.pc_model.specs.declared.fault.FileKind.TheVariants as kinds;
+ghost use Rattle.std.specs.List.{AllPass};
 ghost use Rattle.pc_model.specs.Boxes.{IsServable};
+ghost use Rattle.pc_model.specs.Membership.{in_domain};
+ghost use Rattle.pc_model.specs.WellFormed.{IsWellFormed, HaveFewNames};
 ghost use Rattle.pc_model.specs.declared.fault.Reason.TheVariants as reasons;
 ghost use Rattle.pc_model.specs.Refusals.{fault_at};
 ghost use Rattle.pc_base.specs.Counts.{RoseByOne};
-ghost use Rattle.pc_run.specs.Outcome.{bytes_under, schema_under, constraints_under};
-ghost use Rattle.pc_run.specs.Loading.{Agrees, AgreesOnRows, HasCause};
+ghost use Rattle.pc_run.specs.Outcome.{bytes_under, schema_under, rows_under, constraints_under};
+ghost use Rattle.pc_run.specs.Loading.{Agrees, HasCause};
 
 use crate::stop::Stop;
 use pc_base::{Loaded, Shelf};
-use pc_first::{count_rows, read_constraints, read_schema};
+use pc_first::read_constraints;
 use pc_list::Seq;
-use pc_model::{Constraint, Fault, FileKind, Reason, Schema};
+use pc_model::{Constraint, FILE_LIMIT, Fault, FileKind, Reason, Schema};
+use pc_rows::{Rows, read_rows};
+use pc_schema::read_schema;
 use std::alloc::Global;
-
-/// The greatest length of a file.
-const FILE_LIMIT: usize = 67_108_864;
 
 /// Loads the bytes of a file.
 fn load_bytes<F: Shelf>(
@@ -61,27 +63,30 @@ pub(crate) fn load_schema<F: Shelf>(
     ensures files_stay { F.files files.new ≡ F.files files.old }
     ensures faults_stay { F.faults files.old ≤ F.faults files.new }
     ensures one_call { RoseByOne (F.calls files.old) (F.calls files.new) }
+    ensures well_formed { IfOk result IsWellFormed }
+    ensures few_names { IfOk result (λ schema. HaveFewNames schema.columns) }
 {
     let bytes = load_bytes(alloc, files, FileKind::Schema, name)?;
     Ok(read_schema(alloc, bytes.as_slice())?)
 }
 
-/// Loads the observed rows and counts them.
+/// Loads and reads the observed rows.
 pub(crate) fn load_rows<F: Shelf>(
     alloc: Global,
     files: &mut F,
     name: &str,
     schema: &Schema,
-) -> Result<u64, Stop>
-    ensures agrees { AgreesOnRows (F.files files.old) schema.now name.now result }
+) -> Result<Rows, Stop>
+    requires { HaveFewNames schema.now.columns }
+    ensures agrees { Agrees kinds.Rows (F.files files.old) (rows_under schema.now name.now) result }
     ensures cause { HasCause (F.files files.old) name.now (F.faults files.old) (F.faults files.new) result }
     ensures files_stay { F.files files.new ≡ F.files files.old }
     ensures faults_stay { F.faults files.old ≤ F.faults files.new }
     ensures one_call { RoseByOne (F.calls files.old) (F.calls files.new) }
-    ensures few { IfOk result (λ count. count ≤ 1000000) }
+    ensures seen { IfOk result (AllPass (in_domain schema.now)) }
 {
     let bytes = load_bytes(alloc, files, FileKind::Rows, name)?;
-    Ok(count_rows(schema, bytes.as_slice())?)
+    Ok(read_rows(alloc, schema, bytes.as_slice())?)
 }
 
 /// Loads and reads the constraints.
@@ -91,6 +96,8 @@ pub(crate) fn load_constraints<F: Shelf>(
     name: &str,
     schema: &Schema,
 ) -> Result<Seq<Constraint>, Stop>
+    requires well_formed { IsWellFormed schema.now }
+    requires few_names { HaveFewNames schema.now.columns }
     ensures agrees { Agrees kinds.Constraints (F.files files.old) (constraints_under schema.now name.now) result }
     ensures cause { HasCause (F.files files.old) name.now (F.faults files.old) (F.faults files.new) result }
     ensures files_stay { F.files files.new ≡ F.files files.old }

@@ -1,20 +1,23 @@
 ghost use Rattle.std.specs.Prelude.{◌≡◌, ◌≤◌, ◌+◌, map, IfOk, string_bytes};
 ghost use Rattle.pc_run.specs.Commands.{names_in};
-ghost use Rattle.pc_run.specs.Replies.{IsSound, RepliesTo, Responds, SaysCase};
+ghost use Rattle.pc_run.specs.Replies.{IsSound, RepliesTo, Responds, SaysCount};
 
-use crate::case::{Case, read_case};
+use crate::case::read_case;
 use crate::command::{Command, read_command};
-use crate::report::{fault_line, malformed_line, report, usage_line};
+use crate::line::{fault_line, malformed_line, usage_line};
+use crate::report::report;
 use crate::stop::Stop;
 use pc_base::{Shelf, Status};
 use pc_count::bound_count;
-use std::alloc::{AllocError, Global};
+use pc_num::Memory;
+use pc_rows::Case;
+use std::alloc::Global;
 
 /// The status with which a run ends, and the text that it writes.
 #[derive(Debug, Drop)]
 pub(crate) struct Reply {
     pub status: Status,
-    pub text: String,
+    pub text: Vec<u8>,
 }
 
 /// The reply to any words.
@@ -22,8 +25,8 @@ pub(crate) fn respond<F: Shelf>(
     alloc: Global,
     words: &[String],
     files: &mut F,
-) -> Result<Reply, AllocError>
-    ensures responds { IfOk result (λ reply. Responds (F.files files.old) (map string_bytes words.now) (F.faults files.old) (F.faults files.new) reply.status (string_bytes reply.text)) }
+) -> Result<Reply, Memory>
+    ensures responds { IfOk result (λ reply. Responds (F.files files.old) (map string_bytes words.now) (F.faults files.old) (F.faults files.new) reply.status reply.text.items) }
     ensures files_stay { F.files files.new ≡ F.files files.old }
     ensures faults_stay { F.faults files.old ≤ F.faults files.new }
     ensures calls { F.calls files.new ≤ F.calls files.old + 3 }
@@ -32,14 +35,14 @@ pub(crate) fn respond<F: Shelf>(
         Some(command) => reply_to(alloc, files, &command),
         None => Ok(Reply {
             status: Status::Usage,
-            text: usage_line(alloc)?,
+            text: usage_line(alloc)?.into_bytes(),
         }),
     }
 }
 
 /// The reply to a command.
-fn reply_to<F: Shelf>(alloc: Global, files: &mut F, command: &Command) -> Result<Reply, AllocError>
-    ensures replies { IfOk result (λ reply. RepliesTo (F.files files.old) (names_in command.now) (F.faults files.old) (F.faults files.new) reply.status (string_bytes reply.text)) }
+fn reply_to<F: Shelf>(alloc: Global, files: &mut F, command: &Command) -> Result<Reply, Memory>
+    ensures replies { IfOk result (λ reply. RepliesTo (F.files files.old) (names_in command.now) (F.faults files.old) (F.faults files.new) reply.status reply.text.items) }
     ensures files_stay { F.files files.new ≡ F.files files.old }
     ensures faults_stay { F.faults files.old ≤ F.faults files.new }
     ensures calls { F.calls files.new ≤ F.calls files.old + 3 }
@@ -51,26 +54,22 @@ fn reply_to<F: Shelf>(alloc: Global, files: &mut F, command: &Command) -> Result
         }),
         Err(Stop::Refused(fault)) => Ok(Reply {
             status: Status::Malformed,
-            text: malformed_line(alloc, fault)?,
+            text: malformed_line(alloc, fault)?.into_bytes(),
         }),
         Err(Stop::Unread(file)) => Ok(Reply {
             status: Status::ReadFault,
-            text: fault_line(alloc, file)?,
+            text: fault_line(alloc, file)?.into_bytes(),
         }),
-        Err(Stop::Memory) => Err(AllocError),
+        Err(Stop::Memory) => Err(Memory),
     }
 }
 
 /// The report of the count over the files.
-fn report_case(alloc: Global, case: &Case) -> Result<String, AllocError>
+fn report_case(alloc: Global, case: &Case) -> Result<Vec<u8>, Memory>
     requires { IsSound case.now }
-    ensures { IfOk result (λ text. SaysCase case.now (string_bytes text)) }
+    ensures { IfOk result (λ text. SaysCount case.now text.items) }
 {
-    let answer = bound_count(
-        alloc,
-        &case.schema,
-        case.observed,
-        case.constraints.as_slice(),
-    )?;
-    report(alloc, &answer)
+    let observed = case.rows.count();
+    let answer = bound_count(alloc, &case.schema, observed, case.constraints.as_slice())?;
+    report(alloc, &case.schema, &answer)
 }

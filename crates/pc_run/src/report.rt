@@ -1,42 +1,22 @@
-ghost use Rattle.std.specs.Prelude.{◌≡◌, ◌++◌, List, IfOk, OnOk, string_bytes};
-ghost use Rattle.pc_run.specs.Reports.{usage_line, fault_line, malformed_line, cells_text, next_cells_text, possible_report, run_line, run_lines, report_of};
+ghost use Rattle.std.specs.Prelude.{◌≡◌, ◌++◌, IfOk, OnOk};
+ghost use Rattle.pc_model.specs.WellFormed.{IsWellFormed};
+ghost use Rattle.pc_run.specs.Reports.{end_lines, impossible_report, possible_report, report_of};
 
 use pc_count::CountAnswer;
-use pc_model::{Fault, FileKind, Run};
-use std::alloc::{AllocError, Global};
-
-/// The line that tells which words are a command.
-pub(crate) fn usage_line(alloc: Global) -> Result<String, AllocError>
-    ensures { IfOk result (λ text. string_bytes text ≡ usage_line) }
-{
-    String::from_str(
-        alloc,
-        "usage: pc bound|prove [--nodes N] SCHEMA ROWS CONSTRAINTS QUERY... | pc check SCHEMA ROWS CONSTRAINTS DOCUMENT | pc show SCHEMA CONSTRAINTS | pc gen SEED SIZE\n",
-    )
-}
-
-/// The line for a file that could not be read.
-pub(crate) fn fault_line(alloc: Global, file: FileKind) -> Result<String, AllocError>
-    ensures { IfOk result (λ text. string_bytes text ≡ fault_line file) }
-{
-    let name = file.name();
-    format!(in alloc; "read fault: {name}\n")
-}
-
-/// The line for a file or a query that is refused.
-pub(crate) fn malformed_line(alloc: Global, fault: Fault) -> Result<String, AllocError>
-    ensures { IfOk result (λ text. string_bytes text ≡ malformed_line fault) }
-{
-    let file = fault.file.name();
-    let place = fault.place;
-    let number = fault.reason.number();
-    let reason = fault.reason.name();
-    format!(in alloc; "malformed {file} at {place}: reason {number} {reason}\n")
-}
+use pc_model::Schema;
+use pc_num::Memory;
+use pc_proof::put_runs;
+use std::alloc::Global;
 
 /// The report of a count.
-pub(crate) fn report(alloc: Global, answer: &CountAnswer) -> Result<String, AllocError>
-    ensures { IfOk result (λ text. string_bytes text ≡ report_of answer.now) }
+#[tactic(auto, using(pc_proof::proofs::Scales::scales))]
+pub(crate) fn report(
+    alloc: Global,
+    schema: &Schema,
+    answer: &CountAnswer,
+) -> Result<Vec<u8>, Memory>
+    requires { IsWellFormed schema.now }
+    ensures { IfOk result (λ text. text.items ≡ report_of schema.now answer.now) }
 {
     match answer {
         CountAnswer::Possible {
@@ -45,69 +25,61 @@ pub(crate) fn report(alloc: Global, answer: &CountAnswer) -> Result<String, Allo
             high,
             high_runs,
         } => {
-            let low_lines = run_lines(alloc, low_runs.as_slice())?;
-            let high_lines = run_lines(alloc, high_runs.as_slice())?;
-            possible_report(alloc, *low, low_lines.as_str(), *high, high_lines.as_str())
+            let mut low_lines = Vec::new(alloc);
+            put_runs(alloc, schema, &mut low_lines, low_runs.as_slice())?;
+            let mut high_lines = Vec::new(alloc);
+            put_runs(alloc, schema, &mut high_lines, high_runs.as_slice())?;
+            possible_report(
+                alloc,
+                *low,
+                low_lines.as_slice(),
+                *high,
+                high_lines.as_slice(),
+            )
         }
-        CountAnswer::Impossible => { String::from_str(alloc, "query count\nrelation impossible\n") }
+        CountAnswer::Impossible => impossible_report(alloc),
     }
+}
+
+fn impossible_report(alloc: Global) -> Result<Vec<u8>, Memory>
+    ensures { IfOk result (λ text. text.items ≡ impossible_report) }
+{
+    let mut text = Vec::new(alloc);
+    text.extend_from_slice(b"query count\nrelation impossible\n")?;
+    Ok(text)
 }
 
 #[tactic(auto, unfolding(crate::specs::Reports::possible_report))]
 fn possible_report(
     alloc: Global,
     low: u64,
-    low_lines: &str,
+    low_lines: &[u8],
     high: u64,
-    high_lines: &str,
-) -> Result<String, AllocError>
-    ensures { IfOk result (λ text. string_bytes text ≡ possible_report low low_lines.now high high_lines.now) }
+    high_lines: &[u8],
+) -> Result<Vec<u8>, Memory>
+    ensures { IfOk result (λ text. text.items ≡ possible_report low low_lines.now high high_lines.now) }
 {
-    format!(in alloc;
-        "query count\nrelation possible\n{low_lines}low {low} exact\n{low_lines}high {high} exact\n{high_lines}"
-    )
-}
-
-/// A line for each run.
-#[tactic(auto, using(std::proofs::lemmas::List::flat_map_more), unfolding(crate::specs::Reports::run_lines))]
-fn run_lines(alloc: Global, runs: &[Run]) -> Result<String, AllocError>
-    ensures { IfOk result (λ text. string_bytes text ≡ run_lines runs.now) }
-{
-    let mut lines = String::new(alloc);
-    for run in runs {
-        lines.push_str(run_line(alloc, run)?.as_str())?;
-    }
-    Ok(lines)
-}
-
-fn run_line(alloc: Global, run: &Run) -> Result<String, AllocError>
-    ensures { IfOk result (λ text. string_bytes text ≡ run_line run.now) }
-{
-    let times = run.times;
-    let cells = cells_text(alloc, run.row.cells.as_slice())?;
-    format!(in alloc; "run {times}: {cells}\n")
-}
-
-fn cells_text(alloc: Global, cells: &[i64]) -> Result<String, AllocError>
-    ensures { IfOk result (λ text. string_bytes text ≡ cells_text cells.now) }
-{
-    match cells {
-        [] => Ok(String::new(alloc)),
-        [first, rest @ ..] => {
-            let after = next_cells_text(alloc, rest)?;
-            format!(in alloc; "{first}{after}")
-        }
-    }
-}
-
-/// The numbers, each with a comma and a space before it.
-#[tactic(auto, using(std::proofs::lemmas::List::flat_map_more), unfolding(crate::specs::Reports::next_cells_text))]
-fn next_cells_text(alloc: Global, cells: &[i64]) -> Result<String, AllocError>
-    ensures { IfOk result (λ text. string_bytes text ≡ next_cells_text cells.now) }
-{
-    let mut text = String::new(alloc);
-    for cell in cells {
-        write!(text, ", {cell}")?;
-    }
+    let mut text = Vec::new(alloc);
+    text.extend_from_slice(b"query count\nrelation possible\n")?;
+    text.extend_from_slice(low_lines)?;
+    put_end(alloc, &mut text, "low", low, low_lines)?;
+    put_end(alloc, &mut text, "high", high, high_lines)?;
     Ok(text)
+}
+
+/// Appends the line of an end, and those of the runs that reach it.
+#[tactic(auto, unfolding(crate::specs::Reports::end_lines))]
+fn put_end(
+    alloc: Global,
+    out: &mut Vec<u8>,
+    name: &str,
+    value: u64,
+    lines: &[u8],
+) -> Result<(), Memory>
+    ensures { OnOk result (out.new.items ≡ out.old.items ++ end_lines name.now value lines.now) }
+{
+    let line = format!(in alloc; "{name} {value} exact\n")?;
+    out.extend_from_slice(line.as_bytes())?;
+    out.extend_from_slice(lines)?;
+    Ok(())
 }

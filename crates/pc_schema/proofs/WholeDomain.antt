@@ -12,7 +12,8 @@ use Rattle.pc_model.specs.declared.region.Region.{Region}
 use Rattle.pc_model.specs.declared.region.Side.{Side}
 use Rattle.pc_model.specs.Membership.{allows, has, holds, in_domain}
 use Rattle.pc_model.specs.Places.{is_below, is_place_of}
-use Rattle.pc_schema.specs.Domain.{HoldsDomain, side_of}
+use Rattle.pc_model.specs.Regions.{whole_side}
+use Rattle.pc_schema.specs.Domain.{HoldsDomain}
 
 first_places : (count : ℕ) (number : ℤ) → is_place_of (2 ^ count - 1) number ≡ is_below count number
 first_places count (pos place) = by_test (nat_lt place count) refl
@@ -22,14 +23,14 @@ first_places count (pos place) = by_test (nat_lt place count) refl
     by_test false e = let past : count ≤ place = grind (arith, nat_tests, e) in rw (bit_at_ones_above count place past) refl
 first_places count (negsuc below) = refl
 
-holds_kind : (kind : Kind) (number : ℤ) → holds (side_of kind) number ≡ allows kind number
+holds_kind : (kind : Kind) (number : ℤ) → holds (whole_side kind) number ≡ allows kind number
 unfolding holds allows
 holds_kind (Int low high) number = refl
 holds_kind (Dec scale low high) number = refl
 holds_kind (Cat names) number = first_places (length names) number
 
 abbrev pub side_of_column : Column → Side
-side_of_column column = side_of column.kind
+side_of_column column = whole_side column.kind
 
 same_pairs : (columns : List Column) (cells : List ℤ) → pointwise holds (map side_of_column columns) cells ≡ pointwise (λ (column : Column). allows column.kind) columns cells
 same_pairs [] [] = refl

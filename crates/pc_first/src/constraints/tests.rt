@@ -1,37 +1,63 @@
+ghost use Rattle.std.specs.Prelude.{◌≡◌, [], ◌∷◌, codes, IfOk};
+ghost use Rattle.pc_model.specs.WellFormed.{IsWellFormed, HaveFewNames};
+
 use crate::read_constraints;
 use pc_list::{Seq, Text};
 use pc_model::{Column, Constraint, Fault, FileKind, Kind, Reason, Refusal, Region, Schema, Side};
 use std::alloc::{AllocError, Global};
 use std::test::Fail;
 
-// A column `item` from 1 to 9, and a column `week` from 1 to 4.
-fn orders(alloc: Global) -> Result<Schema, AllocError> {
-    let mut columns = Seq::new(alloc);
-    for (name, high) in [("item", 9), ("week", 4)] {
-        let name = Text::from_text(alloc, name)?;
-        columns.push(Column {
-            name,
-            kind: Kind::Int { low: 1, high },
-        })?;
-    }
-    Ok(Schema { columns })
+fn column(alloc: Global, name: &str, kind: Kind) -> Result<Column, AllocError>
+    ensures { IfOk result (λ column. column ≡ record { name = name.now; kind = kind }) }
+{
+    Ok(Column {
+        name: Text::from_text(alloc, name)?,
+        kind,
+    })
 }
 
+fn places(alloc: Global) -> Result<Seq<Text>, AllocError>
+    ensures { IfOk result (λ names. names ≡ codes "north" ∷ codes "south" ∷ codes "west" ∷ []) }
+{
+    let names = vec![in alloc;
+        Text::from_text(alloc, "north")?,
+        Text::from_text(alloc, "south")?,
+        Text::from_text(alloc, "west")?,
+    ]?;
+    Ok(Seq::from_vec(names))
+}
+
+// Whole numbers, hundredths, three names, and whole numbers of a column whose name is no bare word.
+fn orders(alloc: Global) -> Result<Schema, AllocError>
+    ensures well_formed { IfOk result IsWellFormed }
+    ensures few_names { IfOk result (λ schema. HaveFewNames schema.columns) }
+{
+    let price = Kind::Dec {
+        scale: 2,
+        low: 0,
+        high: 150,
+    };
+    let place = Kind::Cat {
+        names: places(alloc)?,
+    };
+    let columns = vec![in alloc;
+        column(alloc, "item", Kind::Int { low: 1, high: 9 })?,
+        column(alloc, "week", Kind::Int { low: 1, high: 4 })?,
+        column(alloc, "price", price)?,
+        column(alloc, "place", place)?,
+        column(alloc, "unit size", Kind::Int { low: 1, high: 3 })?,
+    ]?;
+    Ok(Schema {
+        columns: Seq::from_vec(columns),
+    })
+}
+
+// Whether a region has these spans of items and weeks, and all of the other columns.
 fn is_box(region: &Region, item: (i64, i64), week: (i64, i64)) -> bool {
-    match region.sides.as_slice() {
-        [first, second] => {
-            let items = Side::Span {
-                low: item.0,
-                high: item.1,
-            };
-            let weeks = Side::Span {
-                low: week.0,
-                high: week.1,
-            };
-            *first == items && *second == weeks
-        }
-        _ => false,
-    }
+    let spans = [item, week, (0, 150), (1, 3)];
+    let [items, weeks, prices, sizes] = spans.map(|(low, high)| Side::Span { low, high });
+    let places = Side::Names { bits: 0b111 };
+    region.sides.as_slice() == [items, weeks, prices, places, sizes].as_slice()
 }
 
 fn has_counts(constraint: &Constraint, name: &[u8], least: u64, most: u64) -> bool {
@@ -64,9 +90,26 @@ fn reads_constraints(rt: HostRuntime) -> Result<(), Fail> {
 }
 
 #[test]
+fn reads_without_atoms(rt: HostRuntime) -> Result<(), Fail> {
+    let schema = orders(rt.alloc())?;
+    match read_constraints(rt.alloc(), &schema, b"all: true => true, 0..5\n") {
+        Ok(list) => match list.as_slice() {
+            [all] => {
+                assert!(rt; has_counts(all, b"all", 0, 5));
+                assert!(rt; is_box(&all.when, (1, 9), (1, 4)));
+                assert!(rt; is_box(&all.values, (1, 9), (1, 4)));
+            }
+            _ => assert!(rt; false, "another number of constraints"),
+        },
+        Err(_) => assert!(rt; false, "a file without atoms is refused"),
+    }
+    Ok(())
+}
+
+#[test]
 fn tells_the_first_bad_line(rt: HostRuntime) -> Result<(), Fail> {
     let schema = orders(rt.alloc())?;
-    let cases: [(&[u8], u64); 16] = [
+    let cases: [(&[u8], u64); 25] = [
         (b"a: week = 1 => true, 1..3\nb: week = 2 => true, 1..3", 2),
         (
             b"a: week = 1 => true, 1..3\nb:  week = 2 => true, 1..3\n",
@@ -92,6 +135,20 @@ fn tells_the_first_bad_line(rt: HostRuntime) -> Result<(), Fail> {
         (b"a: true and week = 1 => true, 0..1\n", 1),
         (b"a: true => true, 0..1\n\n", 2),
         (b"a: true => week = , 0..1\n", 1),
+        // Only columns of whole numbers are spoken of,
+        (b"a: price = 1 => true, 0..1\n", 1),
+        (
+            b"a: true => true, 0..1\nb: true => price in 0..150, 0..1\n",
+            2,
+        ),
+        (b"a: price = 1.00 => true, 0..1\n", 1),
+        (b"a: place = 1 => true, 0..1\n", 1),
+        (b"a: place = north => true, 0..1\n", 1),
+        (b"a: true => place in 0..2, 0..1\n", 1),
+        // and only by bare words.
+        (b"a: unit size = 1 => true, 0..1\n", 1),
+        (b"a: \"unit size\" = 1 => true, 0..1\n", 1),
+        (b"a: \"week\" = 1 => true, 0..1\n", 1),
     ];
     for (text, line) in cases {
         let fault = Fault {

@@ -6,11 +6,11 @@ use Rattle.pc_run.proofs.run.Goals as goal
 
 pub returns-in-All-clause-means : goal.returns-in-All-clause-means
 returns-in-All-clause-means g c =
-    let leaves = rw c.as_bytes.ensures.value at c.in-All.ensures.leaves in
+    let leaves = rw c.as_slice.ensures.value at c.in-All.ensures.leaves in
     means_whole
     (call_of (g.F.Shelf.files c.args.files.now) (g.K.Sink.kept c.args.out.now) (g.K.Sink.kept c.put.new.self) (map string_bytes c.args.words.now) (g.F.Shelf.faults c.args.files.now) (g.F.Shelf.faults c.respond.new.files) (g.K.Sink.faults c.args.out.now) (g.K.Sink.faults c.put.new.self))
-    c.in-Ok.reply.status (string_bytes c.in-Ok.reply.text) c.in-Ok.ensures.responds
-    (written_from (g.K.Sink.kept c.args.out.now) (g.K.Sink.kept c.put.new.self) (string_bytes c.in-Ok.reply.text) leaves)
+    c.in-Ok.reply.status c.in-Ok.reply.text.items c.in-Ok.ensures.responds
+    (written_from (g.K.Sink.kept c.args.out.now) (g.K.Sink.kept c.put.new.self) c.in-Ok.reply.text.items leaves)
 
 pub returns-in-All-clause-answers : goal.returns-in-All-clause-answers
 returns-in-All-clause-answers g c =
@@ -20,8 +20,8 @@ returns-in-All-clause-answers g c =
 
 pub returns-in-Failed-clause-means : goal.returns-in-Failed-clause-means
 returns-in-Failed-clause-means g c =
-    let leaves = rw c.as_bytes.ensures.value at c.in-Failed.ensures.leaves in
+    let leaves = rw c.as_slice.ensures.value at c.in-Failed.ensures.leaves in
     rw c.after_failed_put.ensures (means_cut_off
     (call_of (g.F.Shelf.files c.args.files.now) (g.K.Sink.kept c.args.out.now) (g.K.Sink.kept c.put.new.self) (map string_bytes c.args.words.now) (g.F.Shelf.faults c.args.files.now) (g.F.Shelf.faults c.respond.new.files) (g.K.Sink.faults c.args.out.now) (g.K.Sink.faults c.put.new.self))
-    c.in-Ok.reply.status (string_bytes c.in-Ok.reply.text) c.in-Ok.ensures.responds
-    (record { rose = c.in-Failed.ensures.cause; front = front_from (g.K.Sink.kept c.args.out.now) (g.K.Sink.kept c.put.new.self) (string_bytes c.in-Ok.reply.text) leaves }))
+    c.in-Ok.reply.status c.in-Ok.reply.text.items c.in-Ok.ensures.responds
+    (record { rose = c.in-Failed.ensures.cause; front = front_from (g.K.Sink.kept c.args.out.now) (g.K.Sink.kept c.put.new.self) c.in-Ok.reply.text.items leaves }))

@@ -1,0 +1,36 @@
+-- Regions of a schema: one side per column, not empty and inside the column's domain.
+use Rattle.std.specs.Prelude.{ℕ, ◌-◌, ◌^◌, ◌&&◌, ℤ, int_le, nat_lt, Bool, false, length}
+use Rattle.std.specs.Cmp.Lexicographic.{pointwise}
+use Rattle.pc_model.specs.declared.schema.Kind.{Kind}
+use Rattle.pc_model.specs.declared.schema.Kind.TheVariants.{Int, Dec, Cat}
+use Rattle.pc_model.specs.declared.schema.Column.{Column}
+use Rattle.pc_model.specs.declared.schema.Schema.{Schema}
+use Rattle.pc_model.specs.declared.region.Side.{Side}
+use Rattle.pc_model.specs.declared.region.Side.TheVariants.{Span, Names}
+use Rattle.pc_model.specs.declared.region.Region.{Region}
+
+-- every number of a column
+abbrev pub whole_side : Kind → Side
+whole_side (Int low high) = Span low high
+whole_side (Dec scale low high) = Span low high
+whole_side (Cat names) = Names (2 ^ length names - 1)
+
+-- some numbers from low to high
+abbrev pub is_span_in : ℤ → ℤ → Side → Bool
+is_span_in low high (Span from to) = int_le low from && (int_le from to && int_le to high)
+is_span_in low high (Names bits) = false
+
+-- some places of so many
+abbrev pub is_set_in : ℕ → Side → Bool
+is_set_in count (Span from to) = false
+is_set_in count (Names bits) = nat_lt 0 bits && nat_lt bits (2 ^ count)
+
+-- some of the numbers of a column
+abbrev pub is_side_of : Kind → Side → Bool
+is_side_of (Int low high) side = is_span_in low high side
+is_side_of (Dec scale low high) side = is_span_in low high side
+is_side_of (Cat names) side = is_set_in (length names) side
+
+-- such a side for each column
+unfoldable pub is_region_of : Schema → Region → Bool
+is_region_of schema region = pointwise (λ (column : Column). is_side_of column.kind) schema.columns region.sides
