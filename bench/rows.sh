@@ -1,6 +1,7 @@
 #!/usr/bin/env bash
-# Times `pc bound` on 1,000,000 rows of 12 columns, and prints time and peak memory as ratios to sqlite3's
-# import of the same file in the same run. Run ./build first. Usage: bench/rows.sh [RUNS]
+# Times `pc bound` on 1,000,000 rows of 12 columns, once of whole numbers and once of 128 names each, and prints time
+# and peak memory as ratios to sqlite3's import of the same file in the same run. Run ./build first.
+# Usage: bench/rows.sh [RUNS]
 set -eu
 top=$(cd "$(dirname "$0")/.." && pwd)
 runs=${1:-3}
@@ -9,22 +10,23 @@ work=$(mktemp -d)
 trap 'rm -rf "$work"' EXIT
 cd "$work"
 
-names=a,b,c,d,e,f,g,h,i,j,k,l
-for name in ${names//,/ }; do echo "$name,int,0,99999"; done > schema.csv
-awk -v names="$names" 'BEGIN {
-  print names
-  seed = 12345
-  for (row = 0; row < 1000000; row++) {
-    line = ""
-    for (column = 0; column < 12; column++) {
-      seed = (seed * 1103515245 + 12345) % 2147483648
-      line = line (column ? "," : "") (seed % 10000)
+columns=a,b,c,d,e,f,g,h,i,j,k,l
+
+# rows FORMAT LIMIT: the same random numbers for each file, written by a format
+rows() {
+  awk -v names="$columns" -v format="$1" -v limit="$2" 'BEGIN {
+    print names
+    seed = 12345
+    for (row = 0; row < 1000000; row++) {
+      line = ""
+      for (column = 0; column < 12; column++) {
+        seed = (seed * 1103515245 + 12345) % 2147483648
+        line = line (column ? "," : "") sprintf(format, int(seed / 65536) % limit)
+      }
+      print line
     }
-    print line
-  }
-}' > rows.csv
-printf 'p: a in 0..49999 => b in 0..9, 1..3\nq: a in 50000..99999 => true, 0..2\n' > constraints.txt
-echo "rows.csv: $(wc -c < rows.csv) bytes, $(($(wc -l < rows.csv) - 1)) rows"
+  }'
+}
 
 # measure COMMAND..: seconds and peak kilobytes of one run
 measure() {
@@ -38,17 +40,31 @@ sys.exit(done.returncode)
 PY
 }
 
-for run in $(seq "$runs"); do
-  ours=$(measure "$top/pc" bound schema.csv rows.csv constraints.txt count)
-  line="run $run: pc ${ours% *} s, ${ours#* } kB"
-  if command -v sqlite3 >/dev/null; then
-    rm -f rows.db
-    theirs=$(measure sqlite3 rows.db ".import --csv rows.csv t")
-    line="$line; sqlite3 ${theirs% *} s, ${theirs#* } kB"
-    line="$line; time $(awk "BEGIN { printf \"%.2f\", ${ours% *} / ${theirs% *} }"), memory $(awk "BEGIN { printf \"%.2f\", ${ours#* } / ${theirs#* } }")"
-  else
-    line="$line; sqlite3 is missing, so there is no ratio"
-  fi
-  echo "$line"
-done
-echo "memory over the file: $(awk "BEGIN { printf \"%.2f\", ${ours#* } * 1024 / $(wc -c < rows.csv) }")"
+# compare KIND: the runs over KIND.csv under KIND.schema and KIND.constraints
+compare() {
+  echo "$1: $(wc -c < "$1.csv") bytes, $(($(wc -l < "$1.csv") - 1)) rows of 12 columns"
+  for run in $(seq "$runs"); do
+    ours=$(measure "$top/pc" bound "$1.schema" "$1.csv" "$1.constraints" count)
+    line="  run $run: pc ${ours% *} s, ${ours#* } kB"
+    if command -v sqlite3 >/dev/null; then
+      rm -f rows.db
+      theirs=$(measure sqlite3 rows.db ".import --csv $1.csv t")
+      line="$line; sqlite3 ${theirs% *} s, ${theirs#* } kB"
+      line="$line; time $(awk "BEGIN { printf \"%.2f\", ${ours% *} / ${theirs% *} }"), memory $(awk "BEGIN { printf \"%.2f\", ${ours#* } / ${theirs#* } }")"
+    else
+      line="$line; sqlite3 is missing, so there is no ratio"
+    fi
+    echo "$line; memory over the file $(awk "BEGIN { printf \"%.2f\", ${ours#* } * 1024 / $(wc -c < "$1.csv") }")"
+  done
+}
+
+for column in ${columns//,/ }; do echo "$column,int,0,99999"; done > numbers.schema
+rows %d 10000 > numbers.csv
+printf 'p: a in 0..49999 => b in 0..9, 1..3\nq: a in 50000..99999 => true, 0..2\n' > numbers.constraints
+compare numbers
+
+names=$(for name in $(seq 0 127); do printf ',n%d' "$name"; done)
+for column in ${columns//,/ }; do echo "$column,cat$names"; done > names.schema
+rows n%d 128 > names.csv
+printf 'p: true => true, 1..3\n' > names.constraints
+compare names
