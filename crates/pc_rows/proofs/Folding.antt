@@ -71,10 +71,8 @@ fold_none query rows = record {
   };
 }
 
-pub fold_yes : (query : Query) (rows : List Row) (place : ℕ) (folded more : Folded) (cells : List ℤ) → place < length rows → IsFoldedTo query rows place folded → cells ≡ (row_at rows place).cells → has query.chosen (row cells) ≡ true → IsWithRow query.column folded (row cells) more → IsSmall more → IsFoldedTo query rows (place + 1) more
-fold_yes query rows place folded more cells below folded_to is its_chosen its_with small =
-    let chosen : has query.chosen (row_at rows place) ≡ true = rw is at its_chosen in
-    let with : IsWithRow query.column folded (row_at rows place) more = rw is at its_with in
+pub fold_yes : (query : Query) (rows : List Row) (place : ℕ) (folded more : Folded) → place < length rows → IsFoldedTo query rows place folded → has query.chosen (row_at rows place) ≡ true → IsWithRow query.column folded (row_at rows place) more → IsSmall more → IsFoldedTo query rows (place + 1) more
+fold_yes query rows place folded more below folded_to chosen with small =
     let before = folded_to.before in
     let old : List Row = kept query None (take place rows) in
     let extra : Row = row_at rows place in
@@ -91,9 +89,8 @@ fold_yes query rows place folded more cells below folded_to is its_chosen its_wi
       };
     }
 
-pub fold_no : (query : Query) (rows : List Row) (place : ℕ) (folded : Folded) (cells : List ℤ) → place < length rows → IsFoldedTo query rows place folded → cells ≡ (row_at rows place).cells → has query.chosen (row cells) ≡ false → IsFoldedTo query rows (place + 1) folded
-fold_no query rows place folded cells below folded_to is its_other =
-    let other : has query.chosen (row_at rows place) ≡ false = rw is at its_other in
+pub fold_no : (query : Query) (rows : List Row) (place : ℕ) (folded : Folded) → place < length rows → IsFoldedTo query rows place folded → has query.chosen (row_at rows place) ≡ false → IsFoldedTo query rows (place + 1) folded
+fold_no query rows place folded below folded_to other =
     let before = folded_to.before in
     let same : kept query None (take (place + 1) rows) ≡ kept query None (take place rows) =
     ap (kept query None) (take_more rows place (row []) below) ∙ kept_no query (take place rows) (row_at rows place) other in
@@ -113,8 +110,8 @@ fold_all query rows place folded past folded_to =
     let before = folded_to.before in
     rw (take_all place rows past) at before
 
-pub with_some : (column : Option ℕ) (at : ℕ) (folded : Folded) (cells : List ℤ) (number sum least greatest : ℤ) → column ≡ Some at → number ≡ number_at (row cells) at → sum ≡ folded.sum +ℤ number → least ≡ better int_min folded.least number → greatest ≡ better int_max folded.greatest number → IsWithRow column folded (row cells) (record { count = folded.count + 1; sum = sum; least = Some least; greatest = Some greatest })
-with_some column at folded cells number sum least greatest is number_is sum_is least_is greatest_is = rw is (record {
+pub with_some : (column : Option ℕ) (at : ℕ) (folded : Folded) (extra : Row) (number sum least greatest : ℤ) → column ≡ Some at → number ≡ number_at extra at → sum ≡ folded.sum +ℤ number → least ≡ better int_min folded.least number → greatest ≡ better int_max folded.greatest number → IsWithRow column folded extra (record { count = folded.count + 1; sum = sum; least = Some least; greatest = Some greatest })
+with_some column at folded extra number sum least greatest is number_is sum_is least_is greatest_is = rw is (record {
   count = refl;
   sum = rw (← number_is) sum_is;
   least = rw (← number_is) (ap Some least_is);

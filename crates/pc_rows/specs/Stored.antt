@@ -1,5 +1,5 @@
 -- The rows that stand in one list of numbers.
-use Rattle.std.specs.Prelude.{◌≡◌, ◌≤◌, ◌*◌, ℕ, zero, suc, ℤ, List, [], ◌∷◌, length, take, drop, slice_index_or}
+use Rattle.std.specs.Prelude.{◌≡◌, ◌<◌, ◌≤◌, ◌*◌, ◌^◌, ℕ, zero, suc, ℤ, List, [], ◌∷◌, length, take, drop, slice_index_or}
 use Rattle.pc_model.specs.declared.row.Row.{Row}
 use Rattle.pc_model.specs.Membership.{row_from as row}
 
@@ -19,3 +19,4 @@ row_limit = 1000000
 pub record AreStored (width count : ℕ) (cells : List ℤ) : Type 0 where
   pub full : length cells ≡ count * width
   pub few : count ≤ row_limit
+  pub short : length cells < 2 ^ 64

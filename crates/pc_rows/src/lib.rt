@@ -6,6 +6,7 @@ mod cell;
 mod column;
 mod fold;
 mod header;
+mod numbers;
 mod plain;
 mod read;
 mod rows;

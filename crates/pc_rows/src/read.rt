@@ -54,6 +54,7 @@ fn read_table(alloc: Global, columns: &[Column], text: &[u8]) -> Result<Rows, Re
                 readers.as_slice(),
                 places.as_slice(),
                 width,
+                Rows::for_columns(alloc, columns),
                 table,
                 record,
             )
@@ -69,14 +70,15 @@ fn read_records(
     columns: &[ColumnReader<'_>],
     places: &[usize],
     width: usize,
+    mut rows: Rows,
     mut table: Table<'_>,
     mut fields: ByteRecord,
 ) -> Result<Rows, Refusal>
     requires count { length places.now ≡ length columns.now }
+    requires empty { rows ≡ [] }
     ensures gives { Gives result (rows_from columns.now places.now width [] table.entry) }
     ensures wide { IfOk result (λ rows. All (λ row. length row.cells ≡ length columns.now) rows) }
 {
-    let mut rows = Rows::new(alloc);
     let mut cells = Seq::new(alloc);
     while table.next(&mut fields)? {
         cells = read_row(columns, places, width, rows.count(), &fields, cells)?;

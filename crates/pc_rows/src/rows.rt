@@ -1,11 +1,12 @@
 ghost use Rattle.std.specs.Prelude.{◌≡◌, ◌<◌, ◌≤◌, List, [], ◌∷◌, ◌++◌, length, OnOk, OnErr, All};
 ghost use Rattle.pc_model.specs.Aggregate.{number_at};
-ghost use Rattle.pc_model.specs.Membership.{row_from as row};
+ghost use Rattle.pc_model.specs.Membership.{has, row_from as row};
 ghost use Rattle.pc_rows.specs.Folds.{IsFold};
 ghost use Rattle.pc_rows.specs.Stored.{row_at, row_limit};
 
 use crate::fold::with_row;
-use pc_model::{Folded, Query, Row};
+use crate::numbers::Numbers;
+use pc_model::{Column, Folded, Kind, Query, Region, Row};
 use pc_num::Memory;
 use std::alloc::Global;
 use std::marker::Model;
@@ -15,7 +16,7 @@ use std::marker::Model;
 pub struct Rows {
     width: usize,
     count: usize,
-    numbers: Vec<i64>,
+    numbers: Numbers,
 }
 
 impl Model for Rows {
@@ -25,9 +26,9 @@ impl Model for Rows {
 
     ghost Value = { List Row };
 
-    ghost view = { λ s. rows_in s.width s.count s.numbers.items };
+    ghost view = { λ s. rows_in s.width s.count s.numbers };
 
-    ghost invariant = { λ s. AreStored s.width s.count s.numbers.items };
+    ghost invariant = { λ s. AreStored s.width s.count s.numbers };
 }
 
 impl Rows {
@@ -38,7 +39,18 @@ impl Rows {
         Rows {
             width: 0,
             count: 0,
-            numbers: Vec::new(alloc),
+            numbers: Numbers::wide(alloc),
+        }
+    }
+
+    /// The empty list, for rows of these columns: where no number of theirs takes more, four bytes serve each.
+    pub(crate) fn for_columns(alloc: Global, columns: &[Column]) -> Self
+        ensures { result ≡ [] }
+    {
+        Rows {
+            width: 0,
+            count: 0,
+            numbers: numbers_for(alloc, columns),
         }
     }
 
@@ -59,7 +71,7 @@ impl Rows {
         ensures ok { OnOk result (self.new ≡ self.old ++ row cells.now ∷ []) }
         ensures err { OnErr result (self.new ≡ self.old) }
     {
-        self.numbers.extend_from_slice(cells)?;
+        self.numbers.extend(cells)?;
         self.width = cells.len();
         self.count += 1;
         Ok(())
@@ -78,7 +90,7 @@ impl Rows {
         requires column_in { column < length (row_at self.now row).cells }
         ensures { result ≡ number_at (row_at self.now row) column }
     {
-        self.cells(row as usize)[column as usize]
+        self.number(row as usize, column as usize)
     }
 
     /// What the rows in the query's region come to. Where the query has no column, the sum is 0.
@@ -92,20 +104,72 @@ impl Rows {
             greatest: None,
         };
         for place in 0..self.count {
-            let cells = self.cells(place);
-            if query.chosen.has_cells(cells) {
-                folded = with_row(folded, query.column, cells);
+            if self.has_row(&query.chosen, place) {
+                folded = with_row(folded, query.column, self, place);
             }
         }
         folded
     }
 
-    // The numbers of the row at a place.
-    fn cells(&self, place: usize) -> &[i64]
+    /// The number of the row at a place in a column, and 0 past its numbers.
+    pub(crate) fn number(&self, place: usize, column: usize) -> i64
         requires { place < length self.now }
-        ensures { result.now ≡ (row_at self.now place).cells }
+        ensures { result ≡ number_at (row_at self.now place) column }
     {
-        let start = place * self.width;
-        &self.numbers[start..start + self.width]
+        if self.width <= column {
+            return 0;
+        }
+        self.numbers.get(place * self.width + column)
+    }
+
+    // How many numbers the row at a place has.
+    fn row_len(&self, place: usize) -> usize
+        requires { place < length self.now }
+        ensures { result ≡ length (row_at self.now place).cells }
+    {
+        self.width
+    }
+
+    // Whether the region holds the row at a place.
+    #[tactic(auto, using(pc_model::proofs::Pairs::steps), unfolding(pc_model::specs::Membership::has))]
+    fn has_row(&self, region: &Region, place: usize) -> bool
+        requires { place < length self.now }
+        ensures { result ≡ has region.now (row_at self.now place) }
+    {
+        let sides = region.sides.as_slice();
+        if sides.len() != self.row_len(place) {
+            return false;
+        }
+        for (column, side) in sides.iter().enumerate() {
+            if !side.holds(self.number(place, column)) {
+                return false;
+            }
+        }
+        true
     }
 }
+
+fn numbers_for(alloc: Global, columns: &[Column]) -> Numbers
+    ensures { result ≡ [] }
+{
+    if columns.iter().all(|column| is_narrow(&column.kind)) {
+        return Numbers::narrow(alloc);
+    }
+    Numbers::wide(alloc)
+}
+
+// Whether each number of the kind fits four bytes. The place of a name does.
+fn is_narrow(kind: &Kind) -> bool {
+    match kind {
+        Kind::Int { low, high } => are_narrow(*low, *high),
+        Kind::Dec { low, high, .. } => are_narrow(*low, *high),
+        Kind::Cat { .. } => true,
+    }
+}
+
+fn are_narrow(low: i64, high: i64) -> bool {
+    i64::from(i32::MIN) <= low && high <= i64::from(i32::MAX)
+}
+
+#[cfg(test)]
+mod tests;

@@ -20,7 +20,7 @@ fn three_rows(alloc: Global) -> Result<Rows, Fail>
     Ok(rows)
 }
 
-fn query(
+pub(crate) fn query(
     alloc: Global,
     column: Option<u8>,
     first: (i64, i64),
@@ -46,7 +46,7 @@ fn query(
     })
 }
 
-fn folded(count: u64, sum: i128, least: Option<i64>, greatest: Option<i64>) -> Folded {
+pub(crate) fn folded(count: u64, sum: i128, least: Option<i64>, greatest: Option<i64>) -> Folded {
     Folded {
         count,
         sum,
@@ -104,7 +104,7 @@ fn extreme_numbers(rt: HostRuntime) -> Result<(), Fail> {
     Ok(())
 }
 
-fn column(alloc: Global, name: &str, kind: Kind) -> Result<Column, AllocError>
+pub(crate) fn column(alloc: Global, name: &str, kind: Kind) -> Result<Column, AllocError>
     requires { HasFewNames kind }
     ensures { IfOk result (λ column. HasFewNames column.kind) }
 {

@@ -1,0 +1,156 @@
+ghost use Rattle.std.specs.Prelude.{◌≡◌, ◌<◌, ◌^◌, pos, [], ◌++◌, length, slice_index_or, if◌then◌else◌, OnOk, OnErr, IfOk};
+
+use pc_num::Memory;
+use std::alloc::Global;
+use std::marker::Model;
+
+/// A list of numbers. Those up to the first that does not fit four bytes may stand in four bytes each.
+#[derive(Debug, Drop)]
+pub(crate) struct Numbers {
+    starts_narrow: bool,
+    narrow: Vec<i32>,
+    wide: Vec<i64>,
+}
+
+impl Model for Numbers {
+    ghost use Rattle.std.specs.Prelude.{ℤ, List, ◌++◌};
+
+    ghost Value = { List ℤ };
+
+    ghost view = { λ s. s.narrow.items ++ s.wide.items };
+}
+
+impl Numbers {
+    /// The empty list, whose numbers take eight bytes each.
+    pub(crate) fn wide(alloc: Global) -> Self
+        ensures { result ≡ [] }
+    {
+        Numbers {
+            starts_narrow: false,
+            narrow: Vec::new(alloc),
+            wide: Vec::new(alloc),
+        }
+    }
+
+    /// The empty list, whose numbers take four bytes each as long as they fit.
+    pub(crate) fn narrow(alloc: Global) -> Self
+        ensures { result ≡ [] }
+    {
+        Numbers {
+            starts_narrow: true,
+            narrow: Vec::new(alloc),
+            wide: Vec::new(alloc),
+        }
+    }
+
+    /// Adds these numbers at the end; where there is no memory for them, the list stays.
+    #[tactic(auto, using(crate::proofs::Storing::short_together))]
+    pub(crate) fn extend(&mut self, cells: &[i64]) -> Result<(), Memory>
+        ensures ok { OnOk result (self.new ≡ self.old ++ cells.now) }
+        ensures err { OnErr result (self.new ≡ self.old) }
+        ensures short { length self.new < 2 ^ 64 }
+    {
+        if self.starts_narrow && self.wide.is_empty() {
+            if extend_narrow(&mut self.narrow, cells)? {
+                return Ok(());
+            }
+        }
+        self.wide.extend_from_slice(cells)?;
+        Ok(())
+    }
+
+    pub(crate) fn get(&self, place: usize) -> i64
+        requires { place < length self.now }
+        ensures { result ≡ slice_index_or self.now place (pos 0) }
+    {
+        let narrow = self.narrow.len();
+        if place < narrow {
+            return i64::from(self.narrow[place]);
+        }
+        self.wide[place - narrow]
+    }
+}
+
+// Adds the numbers at the end and answers that they are there, if all of them fit.
+fn extend_narrow(narrow: &mut Vec<i32>, cells: &[i64]) -> Result<bool, Memory>
+    ensures ok { OnOk result (IfOk result (λ added. narrow.new.items ≡ (if added then narrow.old.items ++ cells.now else narrow.old.items))) }
+    ensures err { OnErr result (narrow.new.items ≡ narrow.old.items) }
+{
+    narrow.reserve(cells.len())?;
+    let before = narrow.len();
+    for cell in cells {
+        let Ok(number) = i32::try_from(*cell) else {
+            narrow.truncate(before);
+            return Ok(false);
+        };
+        if narrow.push(number).is_err() {
+            narrow.truncate(before);
+            return Err(Memory);
+        }
+    }
+    Ok(true)
+}
+
+#[cfg(test)]
+mod tests {
+    use super::*;
+    use std::test::Fail;
+
+    const LEAST: i64 = -2_147_483_648;
+
+    const GREATEST: i64 = 2_147_483_647;
+
+    // Each with how many of its numbers stand in four bytes, where two are added at a time.
+    const CASES: [([i64; 6], usize); 6] = [
+        ([0, 1, -1, 7, LEAST, GREATEST], 6),
+        ([LEAST, GREATEST, GREATEST + 1, 5, 3, 4], 2),
+        ([1, 2, 3, LEAST - 1, 4, 5], 2),
+        ([1, 2, 3, 4, 5, 4_294_967_296], 4),
+        ([1, 2, i64::MIN, i64::MAX, 3, 4], 2),
+        ([i64::MAX, 0, i64::MIN, 1, 2, 3], 0),
+    ];
+
+    fn extended(mut numbers: Numbers, cells: &[i64; 6]) -> Result<Numbers, Fail>
+        requires { numbers ≡ [] }
+        ensures { IfOk result (λ numbers. length numbers ≡ 6) }
+    {
+        numbers.extend(&cells[..2])?;
+        numbers.extend(&cells[2..4])?;
+        numbers.extend(&cells[4..])?;
+        Ok(numbers)
+    }
+
+    fn first_six(numbers: &Numbers) -> [i64; 6]
+        requires { length numbers.now ≡ 6 }
+    {
+        [
+            numbers.get(0),
+            numbers.get(1),
+            numbers.get(2),
+            numbers.get(3),
+            numbers.get(4),
+            numbers.get(5),
+        ]
+    }
+
+    #[test]
+    fn four_bytes_up_to_the_first_that_does_not_fit(rt: HostRuntime) -> Result<(), Fail> {
+        for (cells, narrow) in CASES {
+            let numbers = extended(Numbers::narrow(rt.alloc()), &cells)?;
+            assert_eq!(rt; first_six(&numbers), cells);
+            assert_eq!(rt; numbers.narrow.len(), narrow);
+            assert_eq!(rt; numbers.wide.len(), 6_usize.saturating_sub(narrow));
+        }
+        Ok(())
+    }
+
+    #[test]
+    fn eight_bytes_from_the_start(rt: HostRuntime) -> Result<(), Fail> {
+        for (cells, _) in CASES {
+            let numbers = extended(Numbers::wide(rt.alloc()), &cells)?;
+            assert_eq!(rt; first_six(&numbers), cells);
+            assert_eq!(rt; numbers.narrow.len(), 0);
+        }
+        Ok(())
+    }
+}
