@@ -1,2 +1,4 @@
 pub mod Doubling
 pub mod Words
+pub mod Reading
+pub mod Quotes

@@ -23,6 +23,9 @@ word_is_ascii text word =
     let front = and_parts (begins_as_word text && list_all is_word_byte text) (leb (length text) 64) word in
     words_are_ascii text (and_parts (begins_as_word text) (list_all is_word_byte text) front.0).1
 
+pub word_is_text : (text : List ℕ) → is_word text ≡ true → IsUtf8 text
+word_is_text text word = IsUtf8-from_ascii text (word_is_ascii text word)
+
 pub bare_is_text : (text : List ℕ) → is_bare text ≡ true → IsUtf8 text
 unfolding is_bare
-bare_is_text text bare = IsUtf8-from_ascii text (word_is_ascii text (and_parts (is_word text) (not (is_reserved text)) bare).0)
+bare_is_text text bare = word_is_text text (and_parts (is_word text) (not (is_reserved text)) bare).0

@@ -1,7 +1,9 @@
 -- How names are written in the text of the language.
-use Rattle.std.specs.Prelude.{ℕ, ◌==◌, ◌&&◌, ◌||◌, not, Bool, false, List, [], ◌∷◌, ◌++◌, length, codes, bytes_eq, nat_le, if◌then◌else◌}
+use Rattle.std.specs.Prelude.{ℕ, ◌==◌, ◌&&◌, ◌||◌, not, Bool, false, List, [], ◌∷◌, ◌++◌, length, codes, bytes_eq, nat_le, Option, Some, None, is_some, if◌then◌else◌}
 use Rattle.std.specs.List.{list_all}
 use Rattle.std.specs.Char.{is_ascii_digit}
+use Rattle.pc_lang.specs.declared.token.Word.{Word}
+use Rattle.pc_lang.specs.declared.token.Word.TheVariants as words
 
 -- a letter or a low line
 abbrev pub starts_word : ℕ → Bool
@@ -18,12 +20,27 @@ begins_as_word (byte ∷ rest) = starts_word byte
 unfoldable pub is_word : List ℕ → Bool
 is_word text = begins_as_word text && list_all is_word_byte text && nat_le (length text) 64
 
+-- the reserved word that the bytes are
+unfoldable pub reserved : List ℕ → Option Word
+reserved text =
+    if bytes_eq text (codes "true") then Some words.True
+    else if bytes_eq text (codes "and") then Some words.And
+    else if bytes_eq text (codes "or") then Some words.Or
+    else if bytes_eq text (codes "in") then Some words.In
+    else if bytes_eq text (codes "where") then Some words.Where
+    else if bytes_eq text (codes "group") then Some words.Group
+    else if bytes_eq text (codes "by") then Some words.By
+    else if bytes_eq text (codes "count") then Some words.Count
+    else if bytes_eq text (codes "sum") then Some words.Sum
+    else if bytes_eq text (codes "min") then Some words.Min
+    else if bytes_eq text (codes "max") then Some words.Max
+    else if bytes_eq text (codes "avg") then Some words.Avg
+    else if bytes_eq text (codes "outside") then Some words.Outside
+    else if bytes_eq text (codes "quantile") then Some words.Quantile
+    else None
+
 unfoldable pub is_reserved : List ℕ → Bool
-is_reserved text =
-    bytes_eq text (codes "true") || bytes_eq text (codes "and") || bytes_eq text (codes "or") || bytes_eq text (codes "in")
-    || bytes_eq text (codes "where") || bytes_eq text (codes "group") || bytes_eq text (codes "by") || bytes_eq text (codes "count")
-    || bytes_eq text (codes "sum") || bytes_eq text (codes "min") || bytes_eq text (codes "max") || bytes_eq text (codes "avg")
-    || bytes_eq text (codes "outside") || bytes_eq text (codes "quantile")
+is_reserved text = is_some (reserved text)
 
 -- a word that is not reserved
 unfoldable pub is_bare : List ℕ → Bool

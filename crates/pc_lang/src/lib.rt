@@ -1,10 +1,14 @@
-//! The text of the constraint language: how names are written.
+//! The text of the constraint language: its tokens, and how names are written.
 #![tactic(auto)]
 
+mod lexer;
 mod put;
 #[cfg(test)]
 mod tests;
+mod token;
 mod word;
 
+pub use lexer::read_tokens;
 pub use put::put_name;
+pub use token::{Symbol, Token, Word};
 pub use word::is_bare;
