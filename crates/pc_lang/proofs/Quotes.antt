@@ -30,3 +30,15 @@ quote_left true len name text i past = rw (drop_all i text past) refl
 quote_left false len name text i past = rw (drop_all i text past) refl
 
 pub ruleset steps = (quote_ends, quote_left)
+
+pub quote_last : (len : ℕ) (name : List ℕ) → quoted_from true len name [] ≡ Some (name, len)
+unfolding quoted_from
+quote_last len name = refl
+
+pub nothing_quoted : (len : ℕ) (name : List ℕ) → quoted_from false len name [] ≡ None
+unfolding quoted_from
+nothing_quoted len name = refl
+
+pub quote_stops : (len : ℕ) (name : List ℕ) (byte : ℕ) (rest : List ℕ) → (byte == 34) ≡ false → quoted_from true len name (byte ∷ rest) ≡ Some (name, len)
+unfolding quoted_from
+quote_stops len name byte rest past = rw past refl

@@ -29,3 +29,7 @@ word_is_text text word = IsUtf8-from_ascii text (word_is_ascii text word)
 pub bare_is_text : (text : List ℕ) → is_bare text ≡ true → IsUtf8 text
 unfolding is_bare
 bare_is_text text bare = word_is_text text (and_parts (is_word text) (not (is_reserved text)) bare).0
+
+pub bare_is_word : (text : List ℕ) → is_bare text ≡ true → is_word text ≡ true
+unfolding is_bare
+bare_is_word text bare = (and_parts (is_word text) (not (is_reserved text)) bare).0

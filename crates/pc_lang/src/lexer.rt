@@ -1,6 +1,7 @@
 ghost use Rattle.std.specs.Prelude.{◌≡◌, ◌<◌, ◌≤◌, ◌==◌, ◌&&◌, not, [], ◌∷◌, ◌+◌, length, drop, get_or, false, true, ℕ, List, IfOk, MatchResult};
 ghost use Rattle.pc_num.specs.Scaled.{digits_len};
 ghost use Rattle.pc_model.specs.Refusals.{Answers, StopsAs};
+ghost use Rattle.pc_model.specs.Texts.{IsName};
 ghost use Rattle.pc_lang.specs.Lexing.{fraction_len, letters_len, number_len, other_token, quoted_from, quoted_token, sign_len, starts_blank, symbol_token, token_at, tokens_from, tokens_of, unsigned_len, word_len, word_token};
 ghost use Rattle.pc_lang.specs.Spelling.{is_word};
 
@@ -224,7 +225,7 @@ fn word_token(alloc: Global, text: &[u8]) -> Result<(Token, usize), Stop>
 
 // A word is text, since its bytes are letters, digits and low lines.
 #[tactic(auto, using(crate::proofs::Words::word_is_text))]
-fn copy_word(alloc: Global, word: &[u8]) -> Result<Text, AllocError>
+pub(crate) fn copy_word(alloc: Global, word: &[u8]) -> Result<Text, AllocError>
     requires { is_word word.now ≡ true }
     ensures { IfOk result (λ text. text ≡ word.now) }
 {
@@ -244,8 +245,15 @@ fn quoted_token(alloc: Global, text: &[u8]) -> Result<(Token, usize), Stop>
     if !is_name(name.as_slice()) {
         return Err(Stop::Reason(Reason::BadToken));
     }
-    match str::from_utf8(name.as_slice()) {
-        Ok(name) => Ok((Token::Name(Text::from_text(alloc, name)?), len)),
+    Ok((Token::Name(copy_name(alloc, name.as_slice())?), len))
+}
+
+pub(crate) fn copy_name(alloc: Global, name: &[u8]) -> Result<Text, AllocError>
+    requires { IsName name.now }
+    ensures { IfOk result (λ text. text ≡ name.now) }
+{
+    match str::from_utf8(name) {
+        Ok(text) => Text::from_text(alloc, text),
         Err(_) => unreachable!(),
     }
 }

@@ -1,6 +1,7 @@
 //! The text of the constraint language: its tokens, and how names are written.
 #![tactic(auto)]
 
+mod front;
 mod lexer;
 mod put;
 #[cfg(test)]
@@ -8,6 +9,7 @@ mod tests;
 mod token;
 mod word;
 
+pub use front::front_name;
 pub use lexer::read_tokens;
 pub use put::put_name;
 pub use token::{Symbol, Token, Word};
