@@ -4,3 +4,4 @@ pub mod Reading
 pub mod Quotes
 pub mod Doubled
 pub mod Fronts
+pub mod ReadingBack

@@ -1,5 +1,6 @@
 -- The tokens of a line: the longest one at each place, between blanks or with nothing between them.
 use Rattle.std.specs.Prelude.{ℕ, zero, suc, ◌+◌, ◌-◌, ◌==◌, ◌&&◌, ◌||◌, Bool, true, false, List, [], ◌∷◌, ◌++◌, length, take, drop, get_or, Option, Some, None, Result, Ok, Err, nat_lt, if◌then◌else◌}
+use Rattle.std.specs.Char.{is_ascii_digit}
 use Rattle.pc_num.specs.Scaled.{digits_len}
 use Rattle.pc_model.specs.declared.fault.Reason.{Reason}
 use Rattle.pc_model.specs.declared.fault.Reason.TheVariants as reasons
@@ -113,3 +114,13 @@ tokens_from before zero (byte ∷ rest) =
 -- all tokens of a line, or the fault of the first place at which none stands
 abbrev pub tokens_of : List ℕ → Result (List Token) Reason
 tokens_of text = tokens_from [] 0 text
+
+-- would these bytes belong to a name that stands before them?
+abbrev pub goes_on_name : List ℕ → Bool
+goes_on_name [] = false
+goes_on_name (byte ∷ rest) = is_word_byte byte || (byte == 34)
+
+-- would these bytes belong to a number that stands before them?
+abbrev pub goes_on_number : List ℕ → Bool
+goes_on_number [] = false
+goes_on_number (byte ∷ rest) = is_ascii_digit byte || ((byte == 46) && nat_lt 0 (digits_len rest))

@@ -1,6 +1,7 @@
 //! The text of the constraint language: its tokens, and how names are written.
 #![tactic(auto)]
 
+mod again;
 mod front;
 mod lexer;
 mod put;
@@ -9,6 +10,7 @@ mod tests;
 mod token;
 mod word;
 
+pub use again::names_read_back;
 pub use front::front_name;
 pub use lexer::read_tokens;
 pub use put::put_name;
