@@ -1,5 +1,5 @@
 -- The tokens of a text, as far as a loop has come.
-use Rattle.std.proofs.Common.{◌≡◌, ℕ, zero, suc, ◌+◌, ◌-◌, ◌<◌, ◌≤◌, true, false, List, [], ◌∷◌, ◌++◌, length, drop, Ok, Err, refl, arith}
+use Rattle.std.proofs.Common.{◌≡◌, ℕ, zero, suc, ◌-◌, ◌<◌, ◌≤◌, true, false, List, [], ◌∷◌, ◌++◌, length, drop, Ok, Err, refl, arith}
 use Rattle.std.proofs.lemmas.List.{drop_all}
 use Rattle.pc_model.specs.declared.fault.Reason.{Reason}
 use Rattle.pc_model.specs.declared.fault.Stop.{Stop}

@@ -1,5 +1,5 @@
 -- What is written for a name is read back as that name.
-use Rattle.std.proofs.Common.{◌≡◌, ℕ, zero, suc, ◌+◌, ◌-◌, ◌<◌, ◌==◌, ◌&&◌, ◌||◌, not, leb, Bool, true, false, List, [], ◌∷◌, ◌++◌, length, take, Option, Some, None, Ok, Err, refl, sym, ◌∙◌, arith}
+use Rattle.std.proofs.Common.{◌≡◌, ℕ, ◌+◌, ◌-◌, ◌<◌, ◌==◌, ◌&&◌, ◌||◌, not, leb, Bool, true, false, List, [], ◌∷◌, ◌++◌, length, take, Option, Some, None, Ok, refl, sym, ◌∙◌, arith}
 use Rattle.std.specs.Prelude.{is_some}
 use Rattle.std.specs.Char.{is_ascii_digit}
 use Rattle.std.specs.List.{list_all}
@@ -12,7 +12,7 @@ use Rattle.pc_model.specs.Texts.{is_name}
 use Rattle.pc_lang.specs.declared.token.Token.{Token}
 use Rattle.pc_lang.specs.declared.token.Token.TheVariants as tokens
 use Rattle.pc_lang.specs.declared.token.Word.{Word}
-use Rattle.pc_lang.specs.Lexing.{goes_on_name, letters_len, number_len, other_token, quoted_from, quoted_token, starts_blank, token_at, tokens_from, unsigned_len, word_len, word_token}
+use Rattle.pc_lang.specs.Lexing.{goes_on_name, letters_len, number_len, other_token, quoted_from, starts_blank, token_at, tokens_from, unsigned_len, word_len, word_token}
 use Rattle.pc_lang.specs.Spelling.{begins_as_word, doubled, is_bare, is_reserved, is_word, is_word_byte, name_text, reserved, starts_word}
 use Rattle.pc_lang.proofs.Doubled.{quoted_again}
 use Rattle.pc_lang.proofs.Fronts.{text_bare, text_quoted}

@@ -1,4 +1,4 @@
-use Rattle.std.proofs.Common.{◌≡◌, [], drop}
+use Rattle.std.proofs.Common.{◌≡◌, drop}
 use Rattle.pc_lang.specs.Lexing.{tokens_from, tokens_of}
 use Rattle.pc_lang.proofs.lexer.read_tokens.Given as goal
 

@@ -1,4 +1,4 @@
-use Rattle.std.proofs.Common.{rules, ◌≡◌, ◌<◌, arith, false}
+use Rattle.std.proofs.Common.{rules, ◌≡◌, arith, false}
 use Rattle.std.proofs.lemmas.Result.{err_from_is_err_and}
 use Rattle.pc_lang.specs.Lexing.{starts_blank}
 use Rattle.pc_lang.proofs.Reading.{byte_stops}
