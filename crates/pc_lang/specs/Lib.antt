@@ -1,3 +1,6 @@
-pub mod Spelling
-pub mod Lexing
-pub mod Front
+pub mod Claims
+pub mod Parts
+pub mod Meaning
+pub mod Files
+pub mod Canonical
+pub mod Holding

@@ -1,18 +1,19 @@
-//! The text of the constraint language: its tokens, and how names are written.
+//! The constraint language: what constraint files and queries stand for, and their canonical text.
 #![tactic(auto)]
 
-mod again;
-mod front;
-mod lexer;
+mod canonical;
+mod canonical_part;
+mod claim;
+mod files;
+mod law;
+mod meaning;
+mod part;
 mod put;
-#[cfg(test)]
-mod tests;
-mod token;
-mod word;
+mod query;
+mod whole;
 
-pub use again::names_read_back;
-pub use front::front_name;
-pub use lexer::read_tokens;
-pub use put::put_name;
-pub use token::{Symbol, Token, Word};
-pub use word::is_bare;
+pub use files::{line_number, read_constraints, read_query};
+pub use law::parts_hold;
+pub use pc_token::{front_name, put_name};
+pub use put::{put_constraints, put_query};
+pub use whole::is_whole;

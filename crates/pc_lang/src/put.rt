@@ -1,55 +1,102 @@
-ghost use Rattle.std.specs.Prelude.{◌≡◌, ◌++◌, IfOk, OnErr, OnOk};
-ghost use Rattle.pc_lang.specs.Spelling.{byte_text, doubled, name_text};
+ghost use Rattle.std.specs.Prelude.{◌≡◌, ◌++◌, IfOk, OnErr, OnOk, Ok};
+ghost use Rattle.pc_model.specs.Accepted.{AreConstraints, IsQuery};
+ghost use Rattle.pc_model.specs.WellFormed.{IsWellFormed};
+ghost use Rattle.pc_syntax.specs.Grammar.{line_tokens, question_tokens};
+ghost use Rattle.pc_lang.specs.Canonical.{constraint_text, constraints_text, line_for, query_text, question_for};
+ghost use Rattle.pc_lang.specs.Files.{constraints_of, query_from};
 
-use crate::word::is_bare;
+use crate::canonical::{line_for, question_for};
+use pc_list::Seq;
+use pc_model::{Constraint, Query, Schema};
 use pc_num::Memory;
+use pc_syntax::{spell_line, spell_question};
+use pc_token::{Token, put_tokens};
 use std::alloc::Global;
 
-/// Appends a name as it is written in the language: itself where it is bare, else between quotes, with each quote
-/// in it twice.
-pub fn put_name(alloc: Global, out: &mut Vec<u8>, name: &str) -> Result<(), Memory>
-    ensures ok { OnOk result (out.new.items ≡ out.old.items ++ name_text name.now) }
+#[cfg(test)]
+mod tests;
+
+/// Appends the canonical text of constraints, one line for each.
+#[tactic(auto, using(crate::proofs::ReadBack::constraints_read_back))]
+pub fn put_constraints(
+    alloc: Global,
+    schema: &Schema,
+    out: &mut Vec<u8>,
+    constraints: &[Constraint],
+) -> Result<(), Memory>
+    requires well_formed { IsWellFormed schema.now }
+    requires accepted { AreConstraints schema.now constraints.now }
+    ensures ok { OnOk result (out.new.items ≡ out.old.items ++ constraints_text schema.now constraints.now) }
     ensures err { OnErr result (out.new.items ≡ out.old.items) }
+    ensures reads_back { constraints_of schema.now (constraints_text schema.now constraints.now) ≡ Ok constraints.now }
 {
-    let text = text_of(alloc, name.as_bytes())?;
+    let text = text_of(alloc, schema, constraints)?;
     out.extend_from_slice(text.as_slice())?;
     Ok(())
 }
 
-#[tactic(auto, unfolding(crate::specs::Spelling::name_text))]
-fn text_of(alloc: Global, name: &[u8]) -> Result<Vec<u8>, Memory>
-    ensures { IfOk result (λ text. text.items ≡ name_text name.now) }
+/// Appends the canonical text of a query.
+#[tactic(auto, using(crate::proofs::ReadBack::query_reads_back), unfolding(crate::specs::Canonical::query_text))]
+pub fn put_query(
+    alloc: Global,
+    schema: &Schema,
+    out: &mut Vec<u8>,
+    query: &Query,
+) -> Result<(), Memory>
+    requires well_formed { IsWellFormed schema.now }
+    requires accepted { IsQuery schema.now query.now }
+    ensures ok { OnOk result (out.new.items ≡ out.old.items ++ query_text schema.now query.now) }
+    ensures err { OnErr result (out.new.items ≡ out.old.items) }
+    ensures reads_back { query_from schema.now (query_text schema.now query.now) ≡ Ok query.now }
+{
+    let tokens = query_tokens(alloc, schema, query)?;
+    put_tokens(alloc, out, tokens.as_slice())
+}
+
+fn query_tokens(alloc: Global, schema: &Schema, query: &Query) -> Result<Seq<Token>, Memory>
+    requires { IsWellFormed schema.now }
+    ensures { IfOk result (λ tokens. tokens ≡ question_tokens (question_for schema.now query.now)) }
+{
+    let question = question_for(alloc, schema, query)?;
+    spell_question(alloc, &question)
+}
+
+#[tactic(auto, using(crate::proofs::Appending::text_steps))]
+fn text_of(alloc: Global, schema: &Schema, constraints: &[Constraint]) -> Result<Vec<u8>, Memory>
+    requires { IsWellFormed schema.now }
+    ensures { IfOk result (λ text. text.items ≡ constraints_text schema.now constraints.now) }
 {
     let mut text = Vec::new(alloc);
-    if is_bare(name) {
-        text.extend_from_slice(name)?;
-        return Ok(text);
+    for constraint in constraints {
+        put_constraint(alloc, schema, &mut text, constraint)?;
     }
-    text.push(b'"')?;
-    put_doubled(&mut text, name)?;
-    text.push(b'"')?;
     Ok(text)
 }
 
-// Appends each byte of a name, and each quote twice.
-#[tactic(auto, using(crate::proofs::Doubling::doubled_steps))]
-fn put_doubled(out: &mut Vec<u8>, name: &[u8]) -> Result<(), Memory>
-    ensures { OnOk result (out.new.items ≡ out.old.items ++ doubled name.now) }
+#[tactic(auto, unfolding(crate::specs::Canonical::constraint_text))]
+fn put_constraint(
+    alloc: Global,
+    schema: &Schema,
+    out: &mut Vec<u8>,
+    constraint: &Constraint,
+) -> Result<(), Memory>
+    requires { IsWellFormed schema.now }
+    ensures { OnOk result (out.new.items ≡ out.old.items ++ constraint_text schema.now constraint.now) }
 {
-    for byte in name {
-        put_byte(out, *byte)?;
-    }
+    let tokens = constraint_tokens(alloc, schema, constraint)?;
+    put_tokens(alloc, out, tokens.as_slice())?;
+    out.push(b'\n')?;
     Ok(())
 }
 
-#[tactic(auto, unfolding(crate::specs::Spelling::byte_text))]
-fn put_byte(out: &mut Vec<u8>, byte: u8) -> Result<(), Memory>
-    ensures { OnOk result (out.new.items ≡ out.old.items ++ byte_text byte) }
+fn constraint_tokens(
+    alloc: Global,
+    schema: &Schema,
+    constraint: &Constraint,
+) -> Result<Seq<Token>, Memory>
+    requires { IsWellFormed schema.now }
+    ensures { IfOk result (λ tokens. tokens ≡ line_tokens (line_for schema.now constraint.now)) }
 {
-    if byte == b'"' {
-        out.extend_from_slice(b"\"\"")?;
-        return Ok(());
-    }
-    out.push(byte)?;
-    Ok(())
+    let line = line_for(alloc, schema, constraint)?;
+    spell_line(alloc, &line)
 }

@@ -4,3 +4,4 @@ pub mod Pairs
 pub mod PastBits
 pub mod Regions
 pub mod Utf8
+pub mod Whole

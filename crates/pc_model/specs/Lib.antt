@@ -11,3 +11,4 @@ pub mod Right
 pub mod Runs
 pub mod Texts
 pub mod WellFormed
+pub mod Accepted

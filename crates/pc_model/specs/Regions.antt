@@ -1,5 +1,7 @@
 -- Regions of a schema: one side per column, not empty and inside the column's domain.
-use Rattle.std.specs.Prelude.{ℕ, ◌-◌, ◌^◌, ◌&&◌, ℤ, int_le, nat_lt, Bool, false, length}
+use Rattle.std.specs.Prelude.{ℕ, ◌-◌, ◌^◌, ◌==◌, ◌&&◌, ℤ, int_le, int_lt, nat_lt, if◌then◌else◌, Bool, false, length, map, Option, Some, None}
+use Rattle.std.specs.Int.{int_min, int_max}
+use Rattle.std.specs.Int.Bits.{bit_and}
 use Rattle.std.specs.Cmp.Lexicographic.{pointwise}
 use Rattle.pc_model.specs.declared.schema.Kind.{Kind}
 use Rattle.pc_model.specs.declared.schema.Kind.TheVariants.{Int, Dec, Cat}
@@ -34,3 +36,20 @@ is_side_of (Cat names) side = is_set_in (length names) side
 -- such a side for each column
 unfoldable pub is_region_of : Schema → Region → Bool
 is_region_of schema region = pointwise (λ (column : Column). is_side_of column.kind) schema.columns region.sides
+
+-- the region of the whole domain
+abbrev pub whole_region : Schema → Region
+whole_region schema = record { sides = map (λ (column : Column). whole_side column.kind) schema.columns }
+
+abbrev pub span_unless_empty : ℤ → ℤ → Option Side
+span_unless_empty low high = if int_lt high low then None else Some (Span low high)
+
+abbrev pub set_unless_empty : ℕ → Option Side
+set_unless_empty bits = if bits == 0 then None else Some (Names bits)
+
+-- what two sides have in common, if there is anything
+unfoldable pub meet_sides : Side → Side → Option Side
+meet_sides (Span low high) (Span other_low other_high) = span_unless_empty (int_max low other_low) (int_min high other_high)
+meet_sides (Span low high) (Names bits) = None
+meet_sides (Names bits) (Span low high) = None
+meet_sides (Names bits) (Names other_bits) = set_unless_empty (bit_and bits other_bits)

@@ -1,6 +1,7 @@
 ghost use Rattle.std.specs.Prelude.{◌≡◌};
 ghost use Rattle.pc_model.specs.Membership.{is_between, holds, has, row_from};
 ghost use Rattle.pc_model.specs.Places.{is_place_of};
+ghost use Rattle.pc_model.specs.Regions.{meet_sides, set_unless_empty, span_unless_empty};
 
 use crate::row::Row;
 use pc_list::Seq;
@@ -29,6 +30,44 @@ impl Side {
             Side::Names { bits } => is_place_of(*bits, number),
         }
     }
+
+    /// What two sides of one column have in common, if there is anything.
+    #[tactic(auto, unfolding(crate::specs::Regions::meet_sides))]
+    pub fn meet(self, other: Side) -> Option<Side>
+        ensures { result ≡ meet_sides self other }
+    {
+        match (self, other) {
+            (
+                Side::Span { low, high },
+                Side::Span {
+                    low: other_low,
+                    high: other_high,
+                },
+            ) => span_unless_empty(low.max(other_low), high.min(other_high)),
+            (Side::Names { bits }, Side::Names { bits: other_bits }) => {
+                set_unless_empty(bits & other_bits)
+            }
+            _ => None,
+        }
+    }
+}
+
+fn span_unless_empty(low: i64, high: i64) -> Option<Side>
+    ensures { result ≡ span_unless_empty low high }
+{
+    if high < low {
+        return None;
+    }
+    Some(Side::Span { low, high })
+}
+
+fn set_unless_empty(bits: u128) -> Option<Side>
+    ensures { result ≡ set_unless_empty bits }
+{
+    if bits == 0 {
+        return None;
+    }
+    Some(Side::Names { bits })
 }
 
 /// Whether a number lies from `low` to `high`, both included.

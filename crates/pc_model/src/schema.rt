@@ -1,12 +1,14 @@
-ghost use Rattle.std.specs.Prelude.{◌≡◌, ◌≤◌, ◌-◌, ◌^◌};
+ghost use Rattle.std.specs.Prelude.{◌≡◌, ◌≤◌, ◌-◌, ◌^◌, IfOk};
 ghost use Rattle.pc_model.specs.Membership.{allows, in_domain};
 ghost use Rattle.pc_model.specs.Places.{is_below};
-ghost use Rattle.pc_model.specs.Regions.{whole_side};
-ghost use Rattle.pc_model.specs.WellFormed.{HasFewNames};
+ghost use Rattle.pc_model.specs.Regions.{whole_side, whole_region};
+ghost use Rattle.pc_model.specs.WellFormed.{HasFewNames, HaveFewNames};
 
-use crate::region::{Side, is_between};
+use crate::region::{Region, Side, is_between};
 use crate::row::Row;
 use pc_list::{Seq, Text};
+use pc_num::Memory;
+use std::alloc::Global;
 
 /// What the numbers of a column are. Numbers of a decimal column are in units of its last place, and
 /// those of a column of names are places in its list, from 0.
@@ -85,6 +87,19 @@ fn is_below(count: usize, number: i64) -> bool
 }
 
 impl Schema {
+    /// The region of the whole domain.
+    #[tactic(auto, using(crate::proofs::Whole::steps))]
+    pub fn whole(&self, alloc: Global) -> Result<Region, Memory>
+        requires { HaveFewNames self.now.columns }
+        ensures { IfOk result (λ region. region ≡ whole_region self.now) }
+    {
+        let mut sides = Seq::new(alloc);
+        for column in self.columns.as_slice() {
+            sides.push(column.kind.whole_side())?;
+        }
+        Ok(Region { sides })
+    }
+
     /// Whether a row is in the domain: one number per column, each allowed by its kind.
     #[tactic(auto, using(crate::proofs::Pairs::steps), unfolding(crate::specs::Membership::in_domain))]
     pub fn allows_row(&self, row: &Row) -> bool

@@ -202,3 +202,24 @@ fn stops(rt: HostRuntime) {
     );
     assert_eq!(rt; Refusal::from(Memory), Refusal::Memory);
 }
+
+// Touching and separate spans, sets with and without a place in common, and sides of two kinds.
+#[test]
+fn sides_in_common(rt: HostRuntime) {
+    let span = |low: i64, high: i64| Side::Span { low, high };
+    let set = |bits: u128| Side::Names { bits };
+    let cases = [
+        (span(1, 5), span(3, 9), Some(span(3, 5))),
+        (span(1, 5), span(5, 9), Some(span(5, 5))),
+        (span(1, 5), span(6, 9), None),
+        (span(-9, 9), span(-2, 3), Some(span(-2, 3))),
+        (set(0b0110), set(0b0011), Some(set(0b0010))),
+        (set(0b0110), set(0b1001), None),
+        (set(u128::MAX), set(1 << 127), Some(set(1 << 127))),
+        (set(1), span(0, 0), None),
+        (span(0, 0), set(1), None),
+    ];
+    for (side, other, want) in cases {
+        assert!(rt; side.meet(other) == want, "{side:?}");
+    }
+}

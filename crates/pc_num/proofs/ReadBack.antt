@@ -15,7 +15,7 @@ use Rattle.pc_num.specs.Scaled.{are_digits, decimals_at, digits_len, greatest_si
 use Rattle.pc_num.proofs.Decimals.{power_positive}
 use Rattle.pc_num.proofs.Numbers.{number_after-append}
 
-digit_is : (byte : ℕ) → 48 ≤ byte → byte ≤ 57 → is_ascii_digit byte ≡ true
+pub digit_is : (byte : ℕ) → 48 ≤ byte → byte ≤ 57 → is_ascii_digit byte ≡ true
 digit_is byte low high = rw (le-leb 48 byte low, le-leb byte 57 high) refl
 
 digit_low : (byte : ℕ) → is_ascii_digit byte ≡ true → 48 ≤ byte
@@ -24,7 +24,7 @@ digit_low byte h =
     leb-true 48 byte p.0
 
 -- digits and what follows them
-digits_len-append : (digits rest : List ℕ) → digits_len digits ≡ length digits → digits_len (digits ++ rest) ≡ length digits + digits_len rest
+pub digits_len-append : (digits rest : List ℕ) → digits_len digits ≡ length digits → digits_len (digits ++ rest) ≡ length digits + digits_len rest
 unfolding digits_len
 digits_len-append [] rest h = omega arith
 digits_len-append (digit ∷ digits) rest h =
@@ -64,12 +64,12 @@ more_digits n text large before =
 digits_of_decimal : (n : ℕ) → n < 10 ^ 64 → AreDigitsOf n (decimal n)
 digits_of_decimal n small = decimal_by_steps_wide AreDigitsOf one_digit more_digits n small
 
-decimals_length : (k n : ℕ) → length (decimals_of k n) ≡ k
+pub decimals_length : (k n : ℕ) → length (decimals_of k n) ≡ k
 unfolding decimals_of
 decimals_length zero n = refl
 decimals_length (suc k) n = omega (arith, decimals_length k n)
 
-decimals_digits : (k n : ℕ) → digits_len (decimals_of k n) ≡ k
+pub decimals_digits : (k n : ℕ) → digits_len (decimals_of k n) ≡ k
 unfolding decimals_of digits_len
 decimals_digits zero n = refl
 decimals_digits (suc k) n =
@@ -124,7 +124,7 @@ unfolding digits_len
 fraction_digits zero n = refl
 fraction_digits (suc k) n = refl
 
-first_digit : (digit : ℕ) (digits : List ℕ) → digits_len (digit ∷ digits) ≡ length (digit ∷ digits) → 48 ≤ digit
+pub first_digit : (digit : ℕ) (digits : List ℕ) → digits_len (digit ∷ digits) ≡ length (digit ∷ digits) → 48 ≤ digit
 unfolding digits_len
 first_digit digit digits h =
     elim (cases_Bool (is_ascii_digit digit)) [ inl is ↦ digit_low digit is | inr other ↦ absurd (omega (arith, rw other at h)) ]

@@ -1,11 +1,12 @@
 use crate::rows::Rows;
 use pc_list::Seq;
-use pc_model::{Constraint, Schema};
+use pc_model::{Constraint, Query, Schema};
 
-/// What the files of a question say: the schema, the observed rows, and the constraints on the missing ones.
+/// What is asked, and of what: the schema, the observed rows, the constraints on the missing ones, and the queries.
 #[derive(Debug, Drop)]
 pub struct Case {
     pub schema: Schema,
     pub rows: Rows,
     pub constraints: Seq<Constraint>,
+    pub queries: Seq<Query>,
 }

@@ -435,16 +435,18 @@ fn as_many_rows_as_may_be(rt: HostRuntime) -> Result<(), Fail> {
     Ok(())
 }
 
-// A case is seen as its three parts.
+// A case is seen as its parts.
 fn case_of(schema: Schema, rows: Rows, alloc: Global) -> Case
     ensures schema { result.schema ≡ schema }
     ensures rows { result.rows ≡ rows }
     ensures constraints { result.constraints ≡ [] }
+    ensures queries { result.queries ≡ [] }
 {
     Case {
         schema,
         rows,
         constraints: Seq::new(alloc),
+        queries: Seq::new(alloc),
     }
 }
 
@@ -456,6 +458,7 @@ fn a_case_has_its_parts(rt: HostRuntime) -> Result<(), Fail> {
     assert_eq!(rt; case.schema.columns.len(), 3);
     assert_eq!(rt; case.rows.count(), 3);
     assert!(rt; case.constraints.is_empty());
+    assert!(rt; case.queries.is_empty());
     Ok(())
 }
 

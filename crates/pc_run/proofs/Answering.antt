@@ -8,8 +8,10 @@ use Rattle.pc_base.specs.declared.status.Status.{Status}
 use Rattle.pc_base.specs.declared.status.Status.TheVariants as ended
 use Rattle.pc_base.specs.Files.{Files, file_of}
 use Rattle.pc_rows.specs.declared.case.Case.{Case}
-use Rattle.pc_run.specs.Words.{Names, name_of, command_of}
-use Rattle.pc_run.specs.Outcome.{Obstacle, absent, and_then, bytes_under, schema_under, rows_under, constraints_under, accepted_under}
+use Rattle.pc_run.specs.Words.{BoundNames, ShowNames, Asked, bound, show, name_of, command_of}
+use Rattle.pc_run.specs.Outcome.{Obstacle, absent, and_then, Input, asking, showing, bytes_under, schema_under, rows_under, constraints_under, apart_under, case_under, listing_under, accepted_under}
+use Rattle.pc_run.specs.declared.listing.Listing.{Listing}
+use Rattle.std.proofs.lemmas.Bool.{false≢true}
 use Rattle.pc_run.specs.Replies.{IsReached}
 use Rattle.pc_run.specs.Meaning.{Call, IsRefused, HasReadFault, Means, IsAnswerable, IsDoneUnlessMemory}
 
@@ -39,36 +41,81 @@ absent_constraints : (schema : Schema) (name : List ℕ) (files : Files) → fil
 unfolding constraints_under
 absent_constraints schema name files none = rw (absent_bytes kinds.Constraints name files none) refl
 
--- the steps of accepted files
-record Held (names : Names) (files : Files) : Type 0 where
+absent_apart : (schema : Schema) (name : List ℕ) (files : Files) → file_of files name ≡ None → apart_under schema name files ≡ Err (absent kinds.Constraints)
+unfolding apart_under
+absent_apart schema name files none = rw (absent_bytes kinds.Constraints name files none) refl
+
+-- what comes of a case or a listing
+asked_from : (read : Result Case Obstacle) (input : Input) → asking read ≡ Ok input → IsOk read
+asked_from (Ok case) input is = refl
+asked_from (Err obstacle) input is = let no : ⊥ = cc in absurd no
+
+shown_from : (read : Result Listing Obstacle) (input : Input) → showing read ≡ Ok input → IsOk read
+shown_from (Ok listing) input is = refl
+shown_from (Err obstacle) input is = let no : ⊥ = cc in absurd no
+
+is_ok_value : {X : Type 0} (read : Result X Obstacle) → IsOk read → (x : X) × (read ≡ Ok x)
+is_ok_value (Ok x) is = (x, refl)
+is_ok_value {X} (Err obstacle) is = absurd (false≢true is)
+
+-- the steps of files that `bound` accepts
+record BoundHeld (names : BoundNames) (files : Files) : Type 0 where
   schema : Schema
   rows : List Row
   schema_is : schema_under names.schema files ≡ Ok schema
   rows_are : rows_under schema names.rows files ≡ Ok rows
-  constraints_are : IsOk (constraints_under schema names.constraints files)
+  constraints_are : IsOk (apart_under schema names.constraints files)
 
-held_from : (names : Names) (files : Files) (case : Case) → accepted_under names files ≡ Ok case → Held names files
-unfolding accepted_under
-held_from names files case is =
+bound_held : (names : BoundNames) (files : Files) (case : Case) → case_under names files ≡ Ok case → BoundHeld names files
+unfolding case_under
+bound_held names files case is =
     let first = step (schema_under names.schema files) _ case is in
     let second = step (rows_under first.value names.rows files) _ case first.next_is in
-    let third = step (constraints_under first.value names.constraints files) _ case second.next_is in
+    let third = step (apart_under first.value names.constraints files) _ case second.next_is in
     record { schema = first.value; rows = second.value; schema_is = first.first_is; rows_are = second.first_is; constraints_are = rw third.first_is refl }
 
--- no file that is reached is absent
-held_file : (names : Names) (files : Files) → Held names files → (told : Option Files) → told ≡ Some files → (file : FileKind) → IsReached told names file → file_of files (name_of names file) ≡ None → ⊥
-held_file names files held told is kinds.Schema reached none = let both = sym held.schema_is ∙ absent_schema names.schema files none in cc
-held_file names files held told is kinds.Rows reached none = let both = sym held.rows_are ∙ absent_rows held.schema names.rows files none in cc
-held_file names files held told is kinds.Constraints reached none = let h = rw (absent_constraints held.schema names.constraints files none) at held.constraints_are in cc
-held_file names files held told is kinds.Query reached none = absurd reached
-held_file names files held told is kinds.Document reached none = absurd reached
+-- the steps of files that `show` accepts
+record ShowHeld (names : ShowNames) (files : Files) : Type 0 where
+  schema : Schema
+  schema_is : schema_under names.schema files ≡ Ok schema
+  constraints_are : IsOk (constraints_under schema names.constraints files)
 
-same_names : (words : List (List ℕ)) (a b : Names) → command_of words ≡ Some a → command_of words ≡ Some b → a ≡ b
+show_held : (names : ShowNames) (files : Files) (listing : Listing) → listing_under names files ≡ Ok listing → ShowHeld names files
+unfolding listing_under
+show_held names files listing is =
+    let first = step (schema_under names.schema files) _ listing is in
+    let second = step (constraints_under first.value names.constraints files) _ listing first.next_is in
+    record { schema = first.value; schema_is = first.first_is; constraints_are = rw second.first_is refl }
+
+-- no file that is reached is absent
+bound_file : (names : BoundNames) (files : Files) → BoundHeld names files → (told : Option Files) → told ≡ Some files → (file : FileKind) → IsReached told (bound names) file → file_of files (name_of (bound names) file) ≡ None → ⊥
+bound_file names files held told is kinds.Schema reached none = let both = sym held.schema_is ∙ absent_schema names.schema files none in cc
+bound_file names files held told is kinds.Rows reached none = let both = sym held.rows_are ∙ absent_rows held.schema names.rows files none in cc
+bound_file names files held told is kinds.Constraints reached none = let h = rw (absent_apart held.schema names.constraints files none) at held.constraints_are in cc
+bound_file names files held told is kinds.Query reached none = absurd reached
+bound_file names files held told is kinds.Document reached none = absurd reached
+
+show_file : (names : ShowNames) (files : Files) → ShowHeld names files → (told : Option Files) → told ≡ Some files → (file : FileKind) → IsReached told (show names) file → file_of files (name_of (show names) file) ≡ None → ⊥
+show_file names files held told is kinds.Schema reached none = let both = sym held.schema_is ∙ absent_schema names.schema files none in cc
+show_file names files held told is kinds.Rows reached none = absurd reached
+show_file names files held told is kinds.Constraints reached none = let h = rw (absent_constraints held.schema names.constraints files none) at held.constraints_are in cc
+show_file names files held told is kinds.Query reached none = absurd reached
+show_file names files held told is kinds.Document reached none = absurd reached
+
+held_file : (asked : Asked) (files : Files) (input : Input) → accepted_under asked files ≡ Ok input → (told : Option Files) → told ≡ Some files → (file : FileKind) → IsReached told asked file → file_of files (name_of asked file) ≡ None → ⊥
+held_file (bound names) files input accepted told is file reached none =
+    let case = is_ok_value (case_under names files) (asked_from (case_under names files) input accepted) in
+    bound_file names files (bound_held names files case.0 case.1) told is file reached none
+held_file (show names) files input accepted told is file reached none =
+    let listing = is_ok_value (listing_under names files) (shown_from (listing_under names files) input accepted) in
+    show_file names files (show_held names files listing.0 listing.1) told is file reached none
+
+same_names : (words : List (List ℕ)) (a b : Asked) → command_of words ≡ Some a → command_of words ≡ Some b → a ≡ b
 same_names words a b is_a is_b = let both : Some a ≡ Some b = sym is_a ∙ is_b in cc
 
 refused_no : (call : Call) → IsAnswerable call → IsRefused call → ⊥
 refused_no call can refused' =
-    let names = same_names call.words refused'.names can.names refused'.command can.command in
+    let names = same_names call.words refused'.asked can.asked refused'.command can.command in
     let agrees = rw (can.told, names) at refused'.agrees in
     let both = sym can.is_accepted ∙ agrees in
     cc
@@ -77,10 +124,10 @@ unread_no : (call : Call) → IsAnswerable call → HasReadFault call → ⊥
 unread_no call can fault =
     ⊎_elim (λ rose. can.loads rose)
     (λ is_absent.
-    let names = same_names call.words fault.names can.names fault.command can.command in
+    let names = same_names call.words fault.asked can.asked fault.command can.command in
     let none = rw (can.told, names) at is_absent in
     let reached = rw names at fault.unread.reached in
-    held_file can.names can.files (held_from can.names can.files can.case can.is_accepted) call.files can.told fault.file reached none)
+    held_file can.asked can.files can.input can.is_accepted call.files can.told fault.file reached none)
     fault.unread.cause
 
 pub answers : (call : Call) (status : Status) → Means call status → IsAnswerable call → IsDoneUnlessMemory status

@@ -1,5 +1,5 @@
 -- What reading the files of a command answers, exit by exit.
-use Rattle.std.proofs.Common.{◌≡◌, ℕ, ◌+◌, ◌*◌, ◌^◌, ◌<◌, ◌≤◌, ◌⊎◌, ⊎_elim, inl, inr, subst, refl, List, length, All, sum_by, Option, Some, None, Result, Ok, Err, IsOk, IfSome, arith}
+use Rattle.std.proofs.Common.{◌≡◌, ℕ, ◌+◌, ◌*◌, ◌^◌, ◌<◌, ◌≤◌, ◌⊎◌, ⊎_elim, inl, inr, subst, refl, List, [], ◌∷◌, length, All, sum_by, Option, Some, None, Result, Ok, Err, IfSome, arith}
 use Rattle.std.proofs.lemmas.List.Sums.{sum_by-le}
 use Rattle.pc_model.specs.declared.schema.Schema.{Schema}
 use Rattle.pc_model.specs.declared.row.Row.{Row}
@@ -9,21 +9,23 @@ use Rattle.pc_model.specs.declared.fault.FileKind.{FileKind}
 use Rattle.pc_model.specs.declared.fault.FileKind.TheVariants as kinds
 use Rattle.pc_base.specs.Counts.{Rose}
 use Rattle.pc_base.specs.Files.{Files, IsAbsent}
-use Rattle.pc_rows.specs.declared.case.Case.{Case}
-use Rattle.pc_first.specs.QueryForm.{query_of}
-use Rattle.pc_count.specs.Overlap.{first_overlap}
+use Rattle.pc_model.specs.declared.query.Query.{Query}
 use Rattle.pc_run.specs.declared.stop.Stop.{Stop}
 use Rattle.pc_run.specs.declared.stop.Stop.TheVariants as stops
-use Rattle.pc_run.specs.Words.{Names}
-use Rattle.pc_run.specs.Outcome.{Obstacle, or_refused, overlap_at, schema_under, rows_under, constraints_under, accepted_under}
+use Rattle.pc_run.specs.Words.{BoundNames, Asked, bound, name_of}
+use Rattle.pc_run.specs.Outcome.{Obstacle, refused, asks, built_query, schema_under, rows_under, apart_under, case_under, accepted_under}
+use Rattle.pc_model.specs.declared.fault.Refusal.{Refusal}
+use Rattle.pc_model.specs.declared.fault.Refusal.TheVariants as refusals
+use Rattle.pc_model.specs.Refusals.{RefusesAs}
+use Rattle.pc_run.specs.Stops.{stop_of}
 use Rattle.pc_run.specs.Loading.{Agrees, HasCause}
-use Rattle.pc_run.specs.Replies.{CaseAgrees, IsReached, IsUnread}
+use Rattle.pc_run.specs.Replies.{StopAgrees, IsReached, IsUnread}
 
 rises : (before middle now : ℕ) → before ≤ middle → Rose middle now → Rose before now
 rises before middle now earlier rose = omega arith
 
 -- a cause in a later part of the call is one in the whole call
-later_cause : (told : Option Files) (name : List ℕ) (before middle now : ℕ) → before ≤ middle → Rose middle now ⊎ IsAbsent told name → Rose before now ⊎ IsAbsent told name
+pub later_cause : (told : Option Files) (name : List ℕ) (before middle now : ℕ) → before ≤ middle → Rose middle now ⊎ IsAbsent told name → Rose before now ⊎ IsAbsent told name
 later_cause told name before middle now earlier cause = ⊎_elim (λ rose. inl (rises before middle now earlier rose)) (λ is_absent. inr is_absent) cause
 
 -- what one part of the call says of the shelf after it, said of the shelf before it
@@ -33,67 +35,76 @@ moved file wanted stop later told same agrees = subst (λ (t : Option Files). Ag
 pub moved_cause : (X : Type 0) (name : List ℕ) (before now : ℕ) (stop : Stop) (later told : Option Files) → later ≡ told → HasCause {X = X} later name before now (Err stop) → HasCause {X = X} told name before now (Err stop)
 moved_cause X name before now stop later told same cause = subst (λ (t : Option Files). HasCause {X = X} t name before now (Err stop)) same cause
 
+-- a file that could not be read
+pub unread : (told : Option Files) (asked : Asked) (before now : ℕ) (kind file : FileKind) → kind ≡ file → IsReached told asked file → Rose before now ⊎ IsAbsent told (name_of asked file) → StopAgrees told asked before now (stops.Unread kind)
+unread told asked before now kind file is reached cause = rw is (let u : IsUnread told asked before now file = record { reached = reached; cause = cause } in u)
+
+schema_refused : (told : Option Files) (names : BoundNames) (fault : Fault) → Agrees {X = Schema} kinds.Schema told (schema_under names.schema) (Err (stops.Refused fault)) → IfSome told (λ files. accepted_under (bound names) files ≡ Err (refused fault))
+unfolding case_under
+schema_refused None names fault is = tt
+schema_refused (Some files) names fault is = rw is refl
+
 -- no file is read before the schema
-pub at_schema : (told : Option Files) (names : Names) (before now : ℕ) (stop : Stop) → Agrees {X = Schema} kinds.Schema told (schema_under names.schema) (Err stop) → HasCause {X = Schema} told names.schema before now (Err stop) → CaseAgrees told names before now (Err stop)
-unfolding accepted_under
+pub at_schema : (told : Option Files) (names : BoundNames) (before now : ℕ) (stop : Stop) → Agrees {X = Schema} kinds.Schema told (schema_under names.schema) (Err stop) → HasCause {X = Schema} told names.schema before now (Err stop) → StopAgrees told (bound names) before now stop
 at_schema told names before now stops.Memory agrees cause = tt
-at_schema told names before now (stops.Unread kind) agrees cause = rw agrees (let unread : IsUnread told names before now kinds.Schema = record { reached = tt; cause = cause } in unread)
-at_schema None names before now (stops.Refused fault) agrees cause = tt
-at_schema (Some files) names before now (stops.Refused fault) agrees cause = rw agrees refl
+at_schema told names before now (stops.Unread kind) agrees cause = unread told (bound names) before now kind kinds.Schema agrees tt cause
+at_schema told names before now (stops.Refused fault) agrees cause = schema_refused told names fault agrees
 
-is_ok_from : {X : Type 0} (wanted : Result X Obstacle) (x : X) → wanted ≡ Ok x → IsOk wanted
-is_ok_from wanted x is = rw is refl
-
-reached_rows : (told : Option Files) (names : Names) (schema : Schema) → IfSome told (λ files. schema_under names.schema files ≡ Ok schema) → IsReached told names kinds.Rows
+reached_rows : (told : Option Files) (names : BoundNames) (schema : Schema) → IfSome told (λ files. schema_under names.schema files ≡ Ok schema) → IsReached told (bound names) kinds.Rows
 reached_rows None names schema has_schema = tt
 reached_rows (Some files) names schema has_schema = rw has_schema refl
 
+rows_refused : (told : Option Files) (names : BoundNames) (schema : Schema) (fault : Fault) → IfSome told (λ files. schema_under names.schema files ≡ Ok schema) → Agrees {X = List Row} kinds.Rows told (rows_under schema names.rows) (Err (stops.Refused fault)) → IfSome told (λ files. accepted_under (bound names) files ≡ Err (refused fault))
+unfolding case_under
+rows_refused None names schema fault has is = tt
+rows_refused (Some files) names schema fault has is = rw (has, is) refl
+
 -- the schema is read
-pub at_rows : (told : Option Files) (names : Names) (before middle now : ℕ) (schema : Schema) → IfSome told (λ files. schema_under names.schema files ≡ Ok schema) → before ≤ middle → (stop : Stop) → Agrees {X = List Row} kinds.Rows told (rows_under schema names.rows) (Err stop) → HasCause {X = List Row} told names.rows middle now (Err stop) → CaseAgrees told names before now (Err stop)
-unfolding accepted_under
+pub at_rows : (told : Option Files) (names : BoundNames) (before middle now : ℕ) (schema : Schema) → IfSome told (λ files. schema_under names.schema files ≡ Ok schema) → before ≤ middle → (stop : Stop) → Agrees {X = List Row} kinds.Rows told (rows_under schema names.rows) (Err stop) → HasCause {X = List Row} told names.rows middle now (Err stop) → StopAgrees told (bound names) before now stop
 at_rows told names before middle now schema has_schema earlier stops.Memory agrees cause = tt
 at_rows told names before middle now schema has_schema earlier (stops.Unread kind) agrees cause =
-    rw agrees (let unread : IsUnread told names before now kinds.Rows = record { reached = reached_rows told names schema has_schema; cause = later_cause told names.rows before middle now earlier cause } in unread)
-at_rows None names before middle now schema has_schema earlier (stops.Refused fault) agrees cause = tt
-at_rows (Some files) names before middle now schema has_schema earlier (stops.Refused fault) agrees cause = rw (has_schema, agrees) refl
+    unread told (bound names) before now kind kinds.Rows agrees (reached_rows told names schema has_schema) (later_cause told names.rows before middle now earlier cause)
+at_rows told names before middle now schema has_schema earlier (stops.Refused fault) agrees cause = rows_refused told names schema fault has_schema agrees
 
 -- the schema and the rows are read
-pub record HasRows (told : Option Files) (names : Names) (schema : Schema) (rows : List Row) : Type 0 where
+pub record HasRows (told : Option Files) (names : BoundNames) (schema : Schema) (rows : List Row) : Type 0 where
   pub has_schema : IfSome told (λ files. schema_under names.schema files ≡ Ok schema)
   pub has_rows : IfSome told (λ files. rows_under schema names.rows files ≡ Ok rows)
 
-reached_constraints : (told : Option Files) (names : Names) (schema : Schema) (rows : List Row) → HasRows told names schema rows → IsReached told names kinds.Constraints
+reached_constraints : (told : Option Files) (names : BoundNames) (schema : Schema) (rows : List Row) → HasRows told names schema rows → IsReached told (bound names) kinds.Constraints
 reached_constraints None names schema rows read = tt
 reached_constraints (Some files) names schema rows read = rw (read.has_schema, read.has_rows) refl
 
-pub at_constraints : (told : Option Files) (names : Names) (before middle now : ℕ) (schema : Schema) (rows : List Row) → HasRows told names schema rows → before ≤ middle → (stop : Stop) → Agrees {X = List Constraint} kinds.Constraints told (constraints_under schema names.constraints) (Err stop) → HasCause {X = List Constraint} told names.constraints middle now (Err stop) → CaseAgrees told names before now (Err stop)
-unfolding accepted_under
+constraints_refused : (told : Option Files) (names : BoundNames) (schema : Schema) (rows : List Row) (fault : Fault) → HasRows told names schema rows → Agrees {X = List Constraint} kinds.Constraints told (apart_under schema names.constraints) (Err (stops.Refused fault)) → IfSome told (λ files. accepted_under (bound names) files ≡ Err (refused fault))
+unfolding case_under
+constraints_refused None names schema rows fault read agrees = tt
+constraints_refused (Some files) names schema rows fault read agrees = rw (read.has_schema, read.has_rows, agrees) refl
+
+pub at_constraints : (told : Option Files) (names : BoundNames) (before middle now : ℕ) (schema : Schema) (rows : List Row) → HasRows told names schema rows → before ≤ middle → (stop : Stop) → Agrees {X = List Constraint} kinds.Constraints told (apart_under schema names.constraints) (Err stop) → HasCause {X = List Constraint} told names.constraints middle now (Err stop) → StopAgrees told (bound names) before now stop
 at_constraints told names before middle now schema rows read earlier stops.Memory agrees cause = tt
 at_constraints told names before middle now schema rows read earlier (stops.Unread kind) agrees cause =
-    rw agrees (let unread : IsUnread told names before now kinds.Constraints = record { reached = reached_constraints told names schema rows read; cause = later_cause told names.constraints before middle now earlier cause } in unread)
-at_constraints None names before middle now schema rows read earlier (stops.Refused fault) agrees cause = tt
-at_constraints (Some files) names before middle now schema rows read earlier (stops.Refused fault) agrees cause = rw (read.has_schema, read.has_rows, agrees) refl
+    unread told (bound names) before now kind kinds.Constraints agrees (reached_constraints told names schema rows read) (later_cause told names.constraints before middle now earlier cause)
+at_constraints told names before middle now schema rows read earlier (stops.Refused fault) agrees cause = constraints_refused told names schema rows fault read agrees
 
 -- all files are read
-pub record HasFiles (told : Option Files) (names : Names) (case : Case) : Type 0 where
-  pub rows : HasRows told names case.schema case.rows
-  pub has_constraints : IfSome told (λ files. constraints_under case.schema names.constraints files ≡ Ok case.constraints)
+pub record HasFiles (told : Option Files) (names : BoundNames) (schema : Schema) (rows : List Row) (constraints : List Constraint) : Type 0 where
+  pub rows_read : HasRows told names schema rows
+  pub has_constraints : IfSome told (λ files. apart_under schema names.constraints files ≡ Ok constraints)
 
-pub at_overlap : (told : Option Files) (names : Names) (before now : ℕ) (case : Case) → HasFiles told names case → (fault : Fault) → or_refused {X = Unit {0}} (Err fault) ≡ overlap_at (first_overlap case.constraints) → CaseAgrees told names before now (Err (stops.Refused fault))
-unfolding accepted_under
-at_overlap None names before now case read fault overlaps = tt
-at_overlap (Some files) names before now case read fault overlaps = rw (read.rows.has_schema, read.rows.has_rows, read.has_constraints, ← overlaps) refl
+query_refused : (told : Option Files) (names : BoundNames) (schema : Schema) (rows : List Row) (constraints : List Constraint) (fault : Fault) → HasFiles told names schema rows constraints → built_query schema names.query ≡ Err fault → IfSome told (λ files. accepted_under (bound names) files ≡ Err (refused fault))
+unfolding case_under
+query_refused None names schema rows constraints fault read refuses = tt
+query_refused (Some files) names schema rows constraints fault read refuses = rw (read.rows_read.has_schema, read.rows_read.has_rows, read.has_constraints, refuses) refl
 
-pub at_query : (told : Option Files) (names : Names) (before now : ℕ) (case : Case) → HasFiles told names case → (fault : Fault) → or_refused (Ok tt) ≡ overlap_at (first_overlap case.constraints) → query_of names.query ≡ Err fault → CaseAgrees told names before now (Err (stops.Refused fault))
-unfolding accepted_under
-at_query None names before now case read fault apart refuses = tt
-at_query (Some files) names before now case read fault apart refuses = rw (read.rows.has_schema, read.rows.has_rows, read.has_constraints, ← apart, refuses) refl
+pub at_query : (told : Option Files) (names : BoundNames) (before now : ℕ) (schema : Schema) (rows : List Row) (constraints : List Constraint) → HasFiles told names schema rows constraints → (refusal : Refusal) → RefusesAs refusal (built_query schema names.query) → StopAgrees told (bound names) before now (stop_of refusal)
+at_query told names before now schema rows constraints read refusals.Memory refuses = tt
+at_query told names before now schema rows constraints read (refusals.Fault fault) refuses = query_refused told names schema rows constraints fault read refuses
 
 -- and the query is accepted
-pub at_end : (told : Option Files) (names : Names) (case : Case) → HasFiles told names case → or_refused (Ok tt) ≡ overlap_at (first_overlap case.constraints) → query_of names.query ≡ Ok tt → IfSome told (λ files. accepted_under names files ≡ Ok case)
-unfolding accepted_under
-at_end None names case read apart accepts = tt
-at_end (Some files) names case read apart accepts = rw (read.rows.has_schema, read.rows.has_rows, read.has_constraints, ← apart, accepts) refl
+pub at_end : (told : Option Files) (names : BoundNames) (schema : Schema) (rows : List Row) (constraints : List Constraint) (query : Query) → HasFiles told names schema rows constraints → built_query schema names.query ≡ Ok query → IfSome told (λ files. accepted_under (bound names) files ≡ Ok (asks (record { schema = schema; rows = rows; constraints = constraints; queries = query ∷ [] })))
+unfolding case_under
+at_end None names schema rows constraints query read accepts = tt
+at_end (Some files) names schema rows constraints query read accepts = rw (read.rows_read.has_schema, read.rows_read.has_rows, read.has_constraints, accepts) refl
 
 -- the numbers of rows that the limits allow fit
 pub fits : (observed : ℕ) (constraints : List Constraint) → observed ≤ 1000000 → length constraints ≤ 20 → All (λ (c : Constraint). c.most ≤ 10000000) constraints → observed + sum_by (λ (c : Constraint). c.most) constraints < 2 ^ 64

@@ -4,12 +4,11 @@ use Rattle.pc_base.specs.declared.status.Status.{Status}
 use Rattle.pc_base.specs.declared.status.Status.TheVariants as ended
 use Rattle.pc_base.specs.declared.outside.Put.TheVariants.{All, Failed}
 use Rattle.pc_base.specs.Puts.{Leaves}
-use Rattle.pc_rows.specs.declared.case.Case.{Case}
-use Rattle.pc_run.specs.Words.{Names, command_of}
-use Rattle.pc_run.specs.Outcome.{Obstacle, refused, absent, accepted_under}
+use Rattle.pc_run.specs.Words.{Asked, command_of}
+use Rattle.pc_run.specs.Outcome.{Obstacle, Input, refused, absent, accepted_under}
 use Rattle.pc_model.specs.declared.fault.Fault.{Fault}
 use Rattle.pc_run.specs.Reports.{usage_line, malformed_line}
-use Rattle.pc_run.specs.Replies.{SaysCount, Says, SaysOutcome, SaysFault, RepliesToCommand, Responds}
+use Rattle.pc_run.specs.Replies.{SaysInput, Says, SaysOutcome, SaysFault, RepliesToCommand, Responds}
 use Rattle.pc_run.specs.Meaning.{Call, IsWritten, IsCutOff, IsTold, IsAnswered, IsDone, HasWriteFault, IsNoCommand, IsRefused, HasReadFault, Means, after_failed_put}
 
 -- what the sink holds after its put
@@ -32,21 +31,21 @@ RespondsIn call status text = Responds call.files call.words call.loads_before c
 told_usage : (call : Call) (text : List ℕ) → command_of call.words ≡ None → text ≡ usage_line → IsTold call text → IsNoCommand call
 told_usage call text none is told = record { no_command = none; told = subst (λ (t : List ℕ). IsTold call t) is told }
 
-told_fault : (call : Call) (names : Names) (status : Status) (text : List ℕ) → command_of call.words ≡ Some names → SaysFault call.files names call.loads_before call.loads_after status text → IsTold call text → HasReadFault call
-told_fault call names status text command says told = record {
-  names = names;
+told_fault : (call : Call) (asked : Asked) (status : Status) (text : List ℕ) → command_of call.words ≡ Some asked → SaysFault call.files asked call.loads_before call.loads_after status text → IsTold call text → HasReadFault call
+told_fault call asked status text command says told = record {
+  asked = asked;
   command = command;
   file = says.file;
   unread = says.unread;
   told = subst (λ (t : List ℕ). IsTold call t) says.line told;
 }
 
-answered : (call : Call) (names : Names) (text : List ℕ) (case : Case) → command_of call.words ≡ Some names → IfSome call.files (λ files. accepted_under names files ≡ Ok case) → SaysCount case text → IsAnswered call text
-answered call names text case command agrees says = record { names = names; command = command; case = case; agrees = agrees; says = says }
+answered : (call : Call) (asked : Asked) (text : List ℕ) (input : Input) → command_of call.words ≡ Some asked → IfSome call.files (λ files. accepted_under asked files ≡ Ok input) → SaysInput input text → IsAnswered call text
+answered call asked text input command agrees says = record { asked = asked; command = command; input = input; agrees = agrees; says = says }
 
-told_refusal : (call : Call) (names : Names) (text : List ℕ) (fault : Fault) → command_of call.words ≡ Some names → IfSome call.files (λ files. accepted_under names files ≡ Err (refused fault)) → text ≡ malformed_line fault → IsTold call text → IsRefused call
-told_refusal call names text fault command agrees is told = record {
-  names = names;
+told_refusal : (call : Call) (asked : Asked) (text : List ℕ) (fault : Fault) → command_of call.words ≡ Some asked → IfSome call.files (λ files. accepted_under asked files ≡ Err (refused fault)) → text ≡ malformed_line fault → IsTold call text → IsRefused call
+told_refusal call asked text fault command agrees is told = record {
+  asked = asked;
   command = command;
   fault = fault;
   agrees = agrees;
@@ -54,18 +53,18 @@ told_refusal call names text fault command agrees is told = record {
 }
 
 -- the whole text was put
-outcome_whole : (call : Call) (names : Names) (status : Status) (text : List ℕ) → command_of call.words ≡ Some names → (outcome : Result Case Obstacle) → Says outcome status text → IfSome call.files (λ files. accepted_under names files ≡ outcome) → IsWritten call text → Means call status
-outcome_whole call names status text command (Ok case) says agrees written =
-    rw says.0 (let done : IsDone call = record { text = text; answered = answered call names text case command agrees says.1; written = written } in done)
-outcome_whole call names status text command (Err (refused fault)) says agrees written =
-    rw says.0 (told_refusal call names text fault command agrees says.1 (inl written))
-outcome_whole call names status text command (Err (absent file)) says agrees written = absurd says
+outcome_whole : (call : Call) (asked : Asked) (status : Status) (text : List ℕ) → command_of call.words ≡ Some asked → (outcome : Result Input Obstacle) → Says outcome status text → IfSome call.files (λ files. accepted_under asked files ≡ outcome) → IsWritten call text → Means call status
+outcome_whole call asked status text command (Ok input) says agrees written =
+    rw says.0 (let done : IsDone call = record { text = text; answered = answered call asked text input command agrees says.1; written = written } in done)
+outcome_whole call asked status text command (Err (refused fault)) says agrees written =
+    rw says.0 (told_refusal call asked text fault command agrees says.1 (inl written))
+outcome_whole call asked status text command (Err (absent file)) says agrees written = absurd says
 
 command_whole : (call : Call) (status : Status) (text : List ℕ) → RepliesToCommand call.files call.words call.loads_before call.loads_after status text → IsWritten call text → Means call status
 command_whole call status text replies written =
     ⊎_elim
-    (λ (says : SaysFault call.files replies.names call.loads_before call.loads_after status text). rw says.ended (told_fault call replies.names status text replies.command says (inl written)))
-    (λ (says : SaysOutcome call.files replies.names status text). outcome_whole call replies.names status text replies.command says.outcome says.says says.agrees written)
+    (λ (says : SaysFault call.files replies.asked call.loads_before call.loads_after status text). rw says.ended (told_fault call replies.asked status text replies.command says (inl written)))
+    (λ (says : SaysOutcome call.files replies.asked status text). outcome_whole call replies.asked status text replies.command says.outcome says.says says.agrees written)
     replies.replies
 
 pub means_whole : (call : Call) (status : Status) (text : List ℕ) → RespondsIn call status text → IsWritten call text → Means call status
@@ -76,18 +75,18 @@ means_whole call status text responds written =
     responds
 
 -- a front of it was put
-outcome_cut_off : (call : Call) (names : Names) (status : Status) (text : List ℕ) → command_of call.words ≡ Some names → (outcome : Result Case Obstacle) → Says outcome status text → IfSome call.files (λ files. accepted_under names files ≡ outcome) → IsCutOff call text → Means call (after_failed_put status)
-outcome_cut_off call names status text command (Ok case) says agrees cut =
-    rw says.0 (let fault : HasWriteFault call = record { text = text; answered = answered call names text case command agrees says.1; cut_off = cut } in fault)
-outcome_cut_off call names status text command (Err (refused fault)) says agrees cut =
-    rw says.0 (told_refusal call names text fault command agrees says.1 (inr cut))
-outcome_cut_off call names status text command (Err (absent file)) says agrees cut = absurd says
+outcome_cut_off : (call : Call) (asked : Asked) (status : Status) (text : List ℕ) → command_of call.words ≡ Some asked → (outcome : Result Input Obstacle) → Says outcome status text → IfSome call.files (λ files. accepted_under asked files ≡ outcome) → IsCutOff call text → Means call (after_failed_put status)
+outcome_cut_off call asked status text command (Ok input) says agrees cut =
+    rw says.0 (let fault : HasWriteFault call = record { text = text; answered = answered call asked text input command agrees says.1; cut_off = cut } in fault)
+outcome_cut_off call asked status text command (Err (refused fault)) says agrees cut =
+    rw says.0 (told_refusal call asked text fault command agrees says.1 (inr cut))
+outcome_cut_off call asked status text command (Err (absent file)) says agrees cut = absurd says
 
 command_cut_off : (call : Call) (status : Status) (text : List ℕ) → RepliesToCommand call.files call.words call.loads_before call.loads_after status text → IsCutOff call text → Means call (after_failed_put status)
 command_cut_off call status text replies cut =
     ⊎_elim
-    (λ (says : SaysFault call.files replies.names call.loads_before call.loads_after status text). rw says.ended (told_fault call replies.names status text replies.command says (inr cut)))
-    (λ (says : SaysOutcome call.files replies.names status text). outcome_cut_off call replies.names status text replies.command says.outcome says.says says.agrees cut)
+    (λ (says : SaysFault call.files replies.asked call.loads_before call.loads_after status text). rw says.ended (told_fault call replies.asked status text replies.command says (inr cut)))
+    (λ (says : SaysOutcome call.files replies.asked status text). outcome_cut_off call replies.asked status text replies.command says.outcome says.says says.agrees cut)
     replies.replies
 
 pub means_cut_off : (call : Call) (status : Status) (text : List ℕ) → RespondsIn call status text → IsCutOff call text → Means call (after_failed_put status)

@@ -6,3 +6,4 @@ pub mod Reports
 pub mod Replies
 pub mod Stops
 pub mod Words
+pub mod Queries

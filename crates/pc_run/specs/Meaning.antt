@@ -6,10 +6,9 @@ use Rattle.pc_base.specs.declared.status.Status.{Status}
 use Rattle.pc_base.specs.declared.status.Status.TheVariants as ended
 use Rattle.pc_base.specs.Counts.{Rose}
 use Rattle.pc_base.specs.Files.{Files}
-use Rattle.pc_run.specs.Words.{Names, command_of}
-use Rattle.pc_rows.specs.declared.case.Case.{Case}
-use Rattle.pc_run.specs.Outcome.{refused, accepted_under}
-use Rattle.pc_run.specs.Replies.{SaysCount, IsUnread}
+use Rattle.pc_run.specs.Words.{Asked, command_of}
+use Rattle.pc_run.specs.Outcome.{Input, refused, accepted_under}
+use Rattle.pc_run.specs.Replies.{SaysInput, IsUnread}
 use Rattle.pc_run.specs.Reports.{usage_line, fault_line, malformed_line}
 
 -- what a run is given and what it leaves: the files, where the shelf tells them, and the bytes that the sink holds before
@@ -49,13 +48,13 @@ pub record IsCutOff (call : Call) (text : List ℕ) : Type 0 where
 abbrev pub IsTold : Call → List ℕ → Type 0
 IsTold call line = IsWritten call line ⊎ IsCutOff call line
 
--- the words are a command whose files are accepted, and this is the report of a right answer to them
+-- the words are a command whose files are accepted, and this is what is said of them
 pub record IsAnswered (call : Call) (text : List ℕ) : Type 0 where
-  pub names : Names
-  pub command : command_of call.words ≡ Some names
-  pub case : Case
-  pub agrees : IfSome call.files (λ files. accepted_under names files ≡ Ok case)
-  pub says : SaysCount case text
+  pub asked : Asked
+  pub command : command_of call.words ≡ Some asked
+  pub input : Input
+  pub agrees : IfSome call.files (λ files. accepted_under asked files ≡ Ok input)
+  pub says : SaysInput input text
 
 pub record IsDone (call : Call) : Type 0 where
   pub text : List ℕ
@@ -73,18 +72,18 @@ pub record IsNoCommand (call : Call) : Type 0 where
 
 -- a file or the query has a first fault
 pub record IsRefused (call : Call) : Type 0 where
-  pub names : Names
-  pub command : command_of call.words ≡ Some names
+  pub asked : Asked
+  pub command : command_of call.words ≡ Some asked
   pub fault : Fault
-  pub agrees : IfSome call.files (λ files. accepted_under names files ≡ Err (refused fault))
+  pub agrees : IfSome call.files (λ files. accepted_under asked files ≡ Err (refused fault))
   pub told : IsTold call (malformed_line fault)
 
 -- a load failed
 pub record HasReadFault (call : Call) : Type 0 where
-  pub names : Names
-  pub command : command_of call.words ≡ Some names
+  pub asked : Asked
+  pub command : command_of call.words ≡ Some asked
   pub file : FileKind
-  pub unread : IsUnread call.files names call.loads_before call.loads_after file
+  pub unread : IsUnread call.files asked call.loads_before call.loads_after file
   pub told : IsTold call (fault_line file)
 
 abbrev pub Means : Call → Status → Type 0
@@ -98,12 +97,12 @@ Means call ended.Memory = call.left ≡ call.kept
 
 -- the words are a command whose files are held and accepted, and no load and no put failed
 pub record IsAnswerable (call : Call) : Type 0 where
-  pub names : Names
-  pub command : command_of call.words ≡ Some names
+  pub asked : Asked
+  pub command : command_of call.words ≡ Some asked
   pub files : Files
   pub told : call.files ≡ Some files
-  pub case : Case
-  pub is_accepted : accepted_under names files ≡ Ok case
+  pub input : Input
+  pub is_accepted : accepted_under asked files ≡ Ok input
   pub loads : ¬ Rose call.loads_before call.loads_after
   pub puts : ¬ Rose call.puts_before call.puts_after
 

@@ -1,22 +1,24 @@
 -- What the files under the names of a command stand for, or what stands in the way.
-use Rattle.std.specs.Prelude.{ℕ, ◌+◌, nat_lt, if◌then◌else◌, List, length, Option, Some, None, Result, Ok, Err}
+use Rattle.std.specs.Prelude.{ℕ, nat_lt, if◌then◌else◌, List, [], ◌∷◌, length, Option, Some, None, Result, Ok, Err}
 use Rattle.pc_model.specs.declared.schema.Schema.{Schema}
 use Rattle.pc_model.specs.declared.row.Row.{Row}
 use Rattle.pc_model.specs.declared.constraint.Constraint.{Constraint}
+use Rattle.pc_model.specs.declared.query.Query.{Query}
 use Rattle.pc_rows.specs.declared.case.Case.{Case}
 use Rattle.pc_model.specs.declared.fault.FileKind.{FileKind}
 use Rattle.pc_model.specs.declared.fault.FileKind.TheVariants as kinds
 use Rattle.pc_model.specs.declared.fault.Reason.TheVariants as reasons
 use Rattle.pc_model.specs.declared.fault.Fault.{Fault}
-use Rattle.pc_model.specs.Refusals.{fault_at}
+use Rattle.pc_model.specs.Refusals.{fault_at, ◌>>=◌}
 use Rattle.pc_model.specs.Texts.{file_limit}
 use Rattle.pc_base.specs.Files.{Files, file_of}
 use Rattle.pc_schema.specs.SchemaFile.{schema_of}
 use Rattle.pc_rows.specs.RowFile.{rows_of}
-use Rattle.pc_first.specs.ConstraintForm.{constraints_of}
-use Rattle.pc_first.specs.QueryForm.{query_of}
+use Rattle.pc_lang.specs.Files.{constraints_of, line_number, query_at}
 use Rattle.pc_count.specs.Overlap.{first_overlap}
-use Rattle.pc_run.specs.Words.{Names}
+use Rattle.pc_run.specs.declared.listing.Listing.{Listing}
+use Rattle.pc_run.specs.Words.{BoundNames, ShowNames, Asked, bound, show}
+use Rattle.pc_run.specs.Queries.{built}
 
 -- a file or query that is refused, or a file that is not held
 pub data Obstacle : Type 0 where
@@ -48,16 +50,50 @@ rows_under schema name files = and_then (bytes_under kinds.Rows name files) (λ 
 unfoldable pub constraints_under : Schema → List ℕ → Files → Result (List Constraint) Obstacle
 constraints_under schema name files = and_then (bytes_under kinds.Constraints name files) (λ bytes. or_refused (constraints_of schema bytes))
 
-abbrev pub overlap_at : Option ℕ → Result (Unit {0}) Obstacle
-overlap_at None = Ok tt
-overlap_at (Some place) = Err (refused (fault_at kinds.Constraints (place + 1) reasons.Overlap))
+-- the constraints of these bytes, of which none speaks of a row of which an earlier one speaks
+abbrev pub unless_overlap : List ℕ → List Constraint → Option ℕ → Result (List Constraint) Fault
+unless_overlap bytes constraints None = Ok constraints
+unless_overlap bytes constraints (Some place) = Err (fault_at kinds.Constraints (line_number bytes place) reasons.Overlap)
 
--- the files in their order, then the overlap of two predicates, then the query
-unfoldable pub accepted_under : Names → Files → Result Case Obstacle
-accepted_under names files =
+unfoldable pub apart_of : Schema → List ℕ → Result (List Constraint) Fault
+apart_of schema bytes = constraints_of schema bytes >>= λ constraints. unless_overlap bytes constraints (first_overlap constraints)
+
+unfoldable pub apart_under : Schema → List ℕ → Files → Result (List Constraint) Obstacle
+apart_under schema name files = and_then (bytes_under kinds.Constraints name files) (λ bytes. or_refused (apart_of schema bytes))
+
+-- the query of a text, which is one that is built
+unfoldable pub built_query : Schema → List ℕ → Result Query Fault
+built_query schema text = query_at schema 1 text >>= built schema
+
+-- of `bound`: the files in their order, with the overlap of two predicates after the constraints, then the query
+unfoldable pub case_under : BoundNames → Files → Result Case Obstacle
+case_under names files =
     and_then (schema_under names.schema files) (λ schema.
     and_then (rows_under schema names.rows files) (λ rows.
+    and_then (apart_under schema names.constraints files) (λ constraints.
+    and_then (or_refused (built_query schema names.query)) (λ query.
+    Ok (record { schema = schema; rows = rows; constraints = constraints; queries = query ∷ [] })))))
+
+-- of `show`: the files in their order
+unfoldable pub listing_under : ShowNames → Files → Result Listing Obstacle
+listing_under names files =
+    and_then (schema_under names.schema files) (λ schema.
     and_then (constraints_under schema names.constraints files) (λ constraints.
-    and_then (overlap_at (first_overlap constraints)) (λ _.
-    and_then (or_refused (query_of names.query)) (λ _.
-    Ok (record { schema = schema; rows = rows; constraints = constraints }))))))
+    Ok (record { schema = schema; constraints = constraints })))
+
+-- what the files of a command come to: a case that is asked about, or constraints that are shown
+pub data Input : Type 0 where
+  asks : Case → Input
+  shows : Listing → Input
+
+abbrev pub asking : Result Case Obstacle → Result Input Obstacle
+asking (Ok case) = Ok (asks case)
+asking (Err obstacle) = Err obstacle
+
+abbrev pub showing : Result Listing Obstacle → Result Input Obstacle
+showing (Ok listing) = Ok (shows listing)
+showing (Err obstacle) = Err obstacle
+
+abbrev pub accepted_under : Asked → Files → Result Input Obstacle
+accepted_under (bound names) files = asking (case_under names files)
+accepted_under (show names) files = showing (listing_under names files)

@@ -1,10 +1,12 @@
 -- The texts that a run writes.
-use Rattle.std.specs.Prelude.{ℕ, List, [], ◌∷◌, ◌++◌, codes, decimal}
+use Rattle.std.specs.Prelude.{ℕ, Bool, if◌then◌else◌, List, [], ◌∷◌, ◌++◌, codes, decimal}
 use Rattle.std.specs.List.{concat}
 use Rattle.pc_model.specs.declared.schema.Schema.{Schema}
 use Rattle.pc_model.specs.declared.fault.FileKind.{FileKind}
 use Rattle.pc_model.specs.declared.fault.Fault.{Fault}
 use Rattle.pc_model.specs.FaultTexts.{number_of, name_of, file_name_of}
+use Rattle.pc_lang.specs.Canonical.{constraints_text}
+use Rattle.pc_run.specs.declared.listing.Listing.{Listing}
 use Rattle.pc_proof.specs.RunLines.{run_lines}
 use Rattle.pc_count.specs.declared.answer.CountAnswer.{CountAnswer}
 use Rattle.pc_count.specs.declared.answer.CountAnswer.TheVariants.{Possible, Impossible}
@@ -41,3 +43,10 @@ impossible_report = concat (codes "query count" ∷ line_break ∷ codes "relati
 abbrev pub report_of : Schema → CountAnswer → List ℕ
 report_of schema (Possible low low_runs high high_runs) = possible_report low (run_lines schema low_runs) high (run_lines schema high_runs)
 report_of schema Impossible = impossible_report
+
+abbrev pub disjoint_line : Bool → List ℕ
+disjoint_line answer = if answer then codes "disjoint yes" ++ line_break else codes "disjoint no" ++ line_break
+
+-- the constraints in canonical text, and whether no two of them speak of one row
+unfoldable pub listing_of : Listing → Bool → List ℕ
+listing_of listing disjoint = constraints_text listing.schema listing.constraints ++ disjoint_line disjoint

@@ -2,14 +2,18 @@
 #![tactic(auto)]
 
 ghost use Rattle.std.specs.Prelude.{◌≡◌, ◌≤◌, ◌+◌, map, string_bytes};
+ghost use Rattle.pc_run.specs.Words.{command_of, file_count};
 ghost use Rattle.pc_run.specs.Meaning.{Call, Means, IsAnswerable, IsDoneUnlessMemory, call_of, after_failed_put};
 
 mod case;
 mod command;
 mod line;
+mod listing;
 mod loading;
+mod query;
 mod reply;
 mod report;
+mod show;
 mod stop;
 #[cfg(test)]
 mod tests;
@@ -24,7 +28,7 @@ pub fn run<F: Shelf, K: Sink>(alloc: Global, words: &[String], files: &mut F, ou
     ensures means { Means (call_of (F.files files.old) (K.kept out.old) (K.kept out.new) (map string_bytes words.now) (F.faults files.old) (F.faults files.new) (K.faults out.old) (K.faults out.new)) result }
     ensures answers { IsAnswerable (call_of (F.files files.old) (K.kept out.old) (K.kept out.new) (map string_bytes words.now) (F.faults files.old) (F.faults files.new) (K.faults out.old) (K.faults out.new)) → IsDoneUnlessMemory result }
     ensures files_stay { F.files files.new ≡ F.files files.old }
-    ensures loads { F.calls files.new ≤ F.calls files.old + 3 }
+    ensures loads { F.calls files.new ≤ F.calls files.old + file_count (command_of (map string_bytes words.now)) }
     ensures puts { K.calls out.new ≤ K.calls out.old + 1 }
 {
     let Ok(reply) = respond(alloc, words, files) else {

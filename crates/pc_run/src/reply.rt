@@ -1,11 +1,14 @@
 ghost use Rattle.std.specs.Prelude.{◌≡◌, ◌≤◌, ◌+◌, map, IfOk, string_bytes};
-ghost use Rattle.pc_run.specs.Commands.{names_in};
-ghost use Rattle.pc_run.specs.Replies.{IsSound, RepliesTo, Responds, SaysCount};
+ghost use Rattle.pc_run.specs.Commands.{bound_names, show_names};
+ghost use Rattle.pc_run.specs.Replies.{IsSound, RepliesTo, RepliesToStop, Responds, SaysCount};
+ghost use Rattle.pc_run.specs.Words.{bound, show, command_of, file_count};
 
 use crate::case::read_case;
-use crate::command::{Command, read_command};
+use crate::command::{Bound, Command, Show, read_command};
 use crate::line::{fault_line, malformed_line, usage_line};
+use crate::listing::read_listing;
 use crate::report::report;
+use crate::show::report_listing;
 use crate::stop::Stop;
 use pc_base::{Shelf, Status};
 use pc_count::bound_count;
@@ -29,10 +32,11 @@ pub(crate) fn respond<F: Shelf>(
     ensures responds { IfOk result (λ reply. Responds (F.files files.old) (map string_bytes words.now) (F.faults files.old) (F.faults files.new) reply.status reply.text.items) }
     ensures files_stay { F.files files.new ≡ F.files files.old }
     ensures faults_stay { F.faults files.old ≤ F.faults files.new }
-    ensures calls { F.calls files.new ≤ F.calls files.old + 3 }
+    ensures calls { F.calls files.new ≤ F.calls files.old + file_count (command_of (map string_bytes words.now)) }
 {
     match read_command(words) {
-        Some(command) => reply_to(alloc, files, &command),
+        Some(Command::Bound(command)) => reply_to_bound(alloc, files, &command),
+        Some(Command::Show(command)) => reply_to_show(alloc, files, &command),
         None => Ok(Reply {
             status: Status::Usage,
             text: usage_line(alloc)?.into_bytes(),
@@ -40,9 +44,9 @@ pub(crate) fn respond<F: Shelf>(
     }
 }
 
-/// The reply to a command.
-fn reply_to<F: Shelf>(alloc: Global, files: &mut F, command: &Command) -> Result<Reply, Memory>
-    ensures replies { IfOk result (λ reply. RepliesTo (F.files files.old) (names_in command.now) (F.faults files.old) (F.faults files.new) reply.status reply.text.items) }
+/// The reply to `bound`.
+fn reply_to_bound<F: Shelf>(alloc: Global, files: &mut F, command: &Bound) -> Result<Reply, Memory>
+    ensures replies { IfOk result (λ reply. RepliesTo (F.files files.old) (bound (bound_names command.now)) (F.faults files.old) (F.faults files.new) reply.status reply.text.items) }
     ensures files_stay { F.files files.new ≡ F.files files.old }
     ensures faults_stay { F.faults files.old ≤ F.faults files.new }
     ensures calls { F.calls files.new ≤ F.calls files.old + 3 }
@@ -52,15 +56,40 @@ fn reply_to<F: Shelf>(alloc: Global, files: &mut F, command: &Command) -> Result
             status: Status::Done,
             text: report_case(alloc, &case)?,
         }),
-        Err(Stop::Refused(fault)) => Ok(Reply {
+        Err(stop) => reply_to_stop(alloc, stop),
+    }
+}
+
+/// The reply to `show`.
+fn reply_to_show<F: Shelf>(alloc: Global, files: &mut F, command: &Show) -> Result<Reply, Memory>
+    ensures replies { IfOk result (λ reply. RepliesTo (F.files files.old) (show (show_names command.now)) (F.faults files.old) (F.faults files.new) reply.status reply.text.items) }
+    ensures files_stay { F.files files.new ≡ F.files files.old }
+    ensures faults_stay { F.faults files.old ≤ F.faults files.new }
+    ensures calls { F.calls files.new ≤ F.calls files.old + 2 }
+{
+    match read_listing(alloc, files, command) {
+        Ok(listing) => Ok(Reply {
+            status: Status::Done,
+            text: report_listing(alloc, &listing)?,
+        }),
+        Err(stop) => reply_to_stop(alloc, stop),
+    }
+}
+
+/// The reply where files give nothing.
+fn reply_to_stop(alloc: Global, stop: Stop) -> Result<Reply, Memory>
+    ensures { IfOk result (λ reply. RepliesToStop stop reply.status reply.text.items) }
+{
+    match stop {
+        Stop::Refused(fault) => Ok(Reply {
             status: Status::Malformed,
             text: malformed_line(alloc, fault)?.into_bytes(),
         }),
-        Err(Stop::Unread(file)) => Ok(Reply {
+        Stop::Unread(file) => Ok(Reply {
             status: Status::ReadFault,
             text: fault_line(alloc, file)?.into_bytes(),
         }),
-        Err(Stop::Memory) => Err(Memory),
+        Stop::Memory => Err(Memory),
     }
 }
 

@@ -1,4 +1,5 @@
 use pc_model::{Fault, FileKind, Refusal};
+use std::alloc::AllocError;
 
 /// Why files give no case.
 #[derive(Clone, Copy, Debug, PartialEq, Eq)]
@@ -30,5 +31,16 @@ impl From<Refusal> for Stop {
             Refusal::Fault(fault) => Stop::Refused(fault),
             Refusal::Memory => Stop::Memory,
         }
+    }
+}
+
+impl From<AllocError> for Stop {
+    ghost use Rattle.pc_run.specs.declared.stop.Stop.TheVariants.{Memory};
+    ghost use Rattle.std.specs.Prelude.{◌≡◌};
+
+    ghost from_gives = { λ _ stop. stop ≡ Memory };
+
+    fn from(_error: AllocError) -> Stop {
+        Stop::Memory
     }
 }

@@ -2,6 +2,9 @@ use super::*;
 use pc_base::{MemShelf, MemSink};
 use std::test::Fail;
 
+mod refused;
+mod shown;
+
 const SCHEMA: &str = "item,int,1,9\nweek,int,1,4\n";
 
 const ROWS: &str = "item,week\n3,1\n7,4\n";
@@ -13,6 +16,8 @@ const SALES: &str = "branch,day,price\nChicago,3,100.00\nNewYork,5,50.00\n";
 const APART: &str = "a: week in 1..2 => true, 1..3\nb: week = 4 => true, 0..2\n";
 
 const WORDS: [&str; 5] = ["bound", "s", "r", "c", "count"];
+
+const SHOW: [&str; 3] = ["show", "s", "c"];
 
 const USAGE: &str =
     "usage: pc bound|prove [--nodes N] SCHEMA ROWS CONSTRAINTS QUERY... | pc check SCHEMA ROWS CONSTRAINTS DOCUMENT | pc show SCHEMA CONSTRAINTS | pc gen SEED SIZE\n";
@@ -95,6 +100,26 @@ fn counts_of_a_shop(rt: HostRuntime) -> Result<(), Fail> {
             "early: day in 1..7 => true, 1..3\nlate: day in 25..31 => day in 28..31, 0..2\n",
             "query count\nrelation possible\nrun 1: Chicago, 1, 0.00\nlow 3 exact\nrun 1: Chicago, 1, 0.00\nhigh 7 exact\nrun 3: Chicago, 1, 0.00\nrun 2: Chicago, 28, 0.00\n",
         ),
+        // atoms on names and on prices
+        (
+            SHOP,
+            SALES,
+            "c: branch in {Trenton, NewYork} and price > 500 => day in 4..9, 1..2\nd: branch = Chicago and price <= 0.5 => true, 0..5\n",
+            "query count\nrelation possible\nrun 1: NewYork, 4, 500.01\nlow 3 exact\nrun 1: NewYork, 4, 500.01\nhigh 9 exact\nrun 2: NewYork, 4, 500.01\nrun 5: Chicago, 1, 0.00\n",
+        ),
+        // no row is as it says, so none may be lost
+        (
+            SHOP,
+            SALES,
+            "c: price >= 500.00 => price in 0.00..100.00, 1..2\n",
+            "query count\nrelation impossible\n",
+        ),
+        (
+            SHOP,
+            SALES,
+            "c: price >= 500.00 => price in 0.00..100.00, 0..2\n",
+            "query count\nrelation possible\nlow 2 exact\nhigh 2 exact\n",
+        ),
         // a byte order mark, CR LF, other columns, another order, and a price without its decimals
         (
             SHOP,
@@ -121,185 +146,67 @@ fn counts_of_a_shop(rt: HostRuntime) -> Result<(), Fail> {
 }
 
 #[test]
-fn refusals(rt: HostRuntime) -> Result<(), Fail> {
-    let table = [
-        (
-            "",
-            ROWS,
-            APART,
-            "malformed schema at 1: reason 3 NoHeader\n",
-        ),
-        (
-            "v,int,0,1000000000000001\n",
-            ROWS,
-            APART,
-            "malformed schema at 1: reason 9 PastLimit\n",
-        ),
-        (
-            "item,int,1,9\nweek,int,4,1\n",
-            ROWS,
-            APART,
-            "malformed schema at 2: reason 17 EmptySpan\n",
-        ),
-        (SHOP, "", "", "malformed rows at 1: reason 3 NoHeader\n"),
-        (
-            SHOP,
-            "branch,day\n",
-            "",
-            "malformed rows at 1: reason 5 MissingColumn\n",
-        ),
-        (
-            SHOP,
-            "branch,day,price,day\n",
-            "",
-            "malformed rows at 1: reason 6 RepeatedName\n",
-        ),
-        (
-            SHOP,
-            "branch,day,price\nChicago,3\n",
-            "",
-            "malformed rows at 2: reason 13 FieldCount\n",
-        ),
-        (
-            SHOP,
-            "branch,day,price\nChicago,3,100.001\n",
-            "",
-            "malformed rows at 2: reason 10 TooManyDecimals\n",
-        ),
-        (
-            SHOP,
-            "branch,day,price\nChicago,3,2000\n",
-            "",
-            "malformed rows at 2: reason 11 OutsideDomain\n",
-        ),
-        (
-            SHOP,
-            "branch,day,price\nBoston,3,1\n",
-            "",
-            "malformed rows at 2: reason 12 UnknownName\n",
-        ),
-        (
-            SHOP,
-            "branch,day,price\nChicago,,1\n",
-            "",
-            "malformed rows at 2: reason 8 BadNumber\n",
-        ),
-        (
-            SCHEMA,
-            ROWS,
-            "a: week = 1 => true, 2..1\n",
-            "malformed constraints at 1: reason 21 NotBuilt\n",
-        ),
-        // a decimal column and one of names are in no atom of the first form
-        (
-            SHOP,
-            SALES,
-            "a: day = 1 => true, 0..1\nb: price = 1 => true, 0..1\n",
-            "malformed constraints at 2: reason 21 NotBuilt\n",
-        ),
-        (
-            SHOP,
-            SALES,
-            "a: branch = Chicago => true, 0..1\n",
-            "malformed constraints at 1: reason 21 NotBuilt\n",
-        ),
-        // the form of the whole file comes before the overlap of its first two lines
-        (
-            SCHEMA,
-            ROWS,
-            "a: week = 1 => true, 0..1\nb: week = 1 => true, 0..1\n\n",
-            "malformed constraints at 3: reason 21 NotBuilt\n",
-        ),
-        // lines that are no neighbours overlap
-        (
-            SCHEMA,
-            ROWS,
-            "a: week = 1 => true, 0..1\nb: week = 2 => true, 0..1\nc: week = 1 => true, 0..1\n",
-            "malformed constraints at 3: reason 22 Overlap\n",
-        ),
-    ];
-    for (schema, rows, constraints, want) in table {
-        let mut shelf = shelf_of(rt.alloc(), schema, rows, constraints)?;
-        let mut sink = MemSink::new(rt.alloc(), 0);
-        let ended = run_words(rt.alloc(), &WORDS, &mut shelf, &mut sink)?;
-        assert_eq!(rt; sink.kept.as_slice(), want.as_bytes(), "want {want}");
-        assert_eq!(rt; ended, Status::Malformed);
-    }
-    Ok(())
-}
-
-#[test]
 fn words(rt: HostRuntime) -> Result<(), Fail> {
-    let table: [(&[&str], &str, Status); 7] = [
-        (
-            &["bound", "s", "r", "c", "sum"],
-            "malformed query at 1: reason 21 NotBuilt\n",
-            Status::Malformed,
-        ),
-        (
-            &["bound", "s", "r", "c", "counts"],
-            "malformed query at 1: reason 21 NotBuilt\n",
-            Status::Malformed,
-        ),
-        (&["bound"], USAGE, Status::Usage),
-        (&[], USAGE, Status::Usage),
-        (
-            &["bound", "s", "r", "c", "count", "count"],
-            USAGE,
-            Status::Usage,
-        ),
-        (&["bound", "s", "-r", "c", "count"], USAGE, Status::Usage),
-        (&["prove", "s", "r", "c", "count"], USAGE, Status::Usage),
+    let table: [&[&str]; 13] = [
+        &["bound"],
+        &[],
+        &["show"],
+        &["bound", "s", "r", "c", "count", "count"],
+        &["bound", "s", "-r", "c", "count"],
+        &["prove", "s", "r", "c", "count"],
+        &["show", "s", "r", "c", "count"],
+        &["bound", "s", "c"],
+        &["shows", "s", "c"],
+        &["show", "s"],
+        &["show", "s", "c", "x"],
+        &["show", "s", "-c"],
+        &["show", "-s", "c"],
     ];
-    for (words, want, status) in table {
+    for words in table {
         let mut shelf = shelf_of(rt.alloc(), SCHEMA, ROWS, APART)?;
         let mut sink = MemSink::new(rt.alloc(), 0);
         assert_eq!(rt;
             run_words(rt.alloc(), words, &mut shelf, &mut sink)?,
-            status
+            Status::Usage
         );
-        assert_eq!(rt; sink.kept.as_slice(), want.as_bytes());
+        assert_eq!(rt; sink.kept.as_slice(), USAGE.as_bytes());
+        assert_eq!(rt; (shelf.calls, sink.calls), (0, 1));
     }
     Ok(())
 }
 
 #[test]
 fn faults(rt: HostRuntime) -> Result<(), Fail> {
-    // the second load fails
-    let mut shelf = shelf_of(rt.alloc(), SCHEMA, ROWS, APART)?;
-    shelf.fail(1)?;
-    let mut sink = MemSink::new(rt.alloc(), 0);
-    assert_eq!(rt;
-        run_words(rt.alloc(), &WORDS, &mut shelf, &mut sink)?,
-        Status::ReadFault
-    );
-    assert_eq!(rt; sink.kept.as_slice(), b"read fault: rows\n".as_slice());
-    // the shelf does not hold the rows
-    let mut shelf = MemShelf::new(rt.alloc());
-    shelf.add("s", SCHEMA.as_bytes())?;
-    let mut sink = MemSink::new(rt.alloc(), 0);
-    assert_eq!(rt;
-        run_words(rt.alloc(), &WORDS, &mut shelf, &mut sink)?,
-        Status::ReadFault
-    );
-    assert_eq!(rt; sink.kept.as_slice(), b"read fault: rows\n".as_slice());
-    Ok(())
-}
-
-#[test]
-fn cut_off_texts(rt: HostRuntime) -> Result<(), Fail> {
-    let table = [
-        (APART, 0, "", Status::WriteFault),
-        (APART, 11, "query count", Status::WriteFault),
-        ("x\n", 9, "malformed", Status::Malformed),
+    // a load fails
+    let table: [(&[&str], u64, &str); 5] = [
+        (&WORDS, 0, "read fault: schema\n"),
+        (&WORDS, 1, "read fault: rows\n"),
+        (&WORDS, 2, "read fault: constraints\n"),
+        (&SHOW, 0, "read fault: schema\n"),
+        (&SHOW, 1, "read fault: constraints\n"),
     ];
-    for (constraints, short, want, status) in table {
-        let mut shelf = shelf_of(rt.alloc(), SCHEMA, ROWS, constraints)?;
-        let mut sink = MemSink::new(rt.alloc(), short);
-        sink.fail(0)?;
+    for (words, call, want) in table {
+        let mut shelf = shelf_of(rt.alloc(), SCHEMA, ROWS, APART)?;
+        shelf.fail(call)?;
+        let mut sink = MemSink::new(rt.alloc(), 0);
         assert_eq!(rt;
-            run_words(rt.alloc(), &WORDS, &mut shelf, &mut sink)?,
-            status
+            run_words(rt.alloc(), words, &mut shelf, &mut sink)?,
+            Status::ReadFault
+        );
+        assert_eq!(rt; sink.kept.as_slice(), want.as_bytes());
+    }
+    // the shelf holds nothing but the schema
+    let table: [(&[&str], &str); 2] = [
+        (&WORDS, "read fault: rows\n"),
+        (&SHOW, "read fault: constraints\n"),
+    ];
+    for (words, want) in table {
+        let mut shelf = MemShelf::new(rt.alloc());
+        shelf.add("s", SCHEMA.as_bytes())?;
+        let mut sink = MemSink::new(rt.alloc(), 0);
+        assert_eq!(rt;
+            run_words(rt.alloc(), words, &mut shelf, &mut sink)?,
+            Status::ReadFault
         );
         assert_eq!(rt; sink.kept.as_slice(), want.as_bytes());
     }
@@ -307,18 +214,25 @@ fn cut_off_texts(rt: HostRuntime) -> Result<(), Fail> {
 }
 
 #[test]
-fn long_files(rt: HostRuntime) -> Result<(), Fail> {
-    let mut shelf = shelf_of(rt.alloc(), SCHEMA, ROWS, APART)?;
-    let long = vec![in rt.alloc(); b'\n'; 67_108_865]?;
-    shelf.add("r", long.as_slice())?;
-    let mut sink = MemSink::new(rt.alloc(), 0);
-    assert_eq!(rt;
-        run_words(rt.alloc(), &WORDS, &mut shelf, &mut sink)?,
-        Status::Malformed
-    );
-    assert_eq!(rt;
-        sink.kept.as_slice(),
-        b"malformed rows at 0: reason 20 TooLong\n".as_slice()
-    );
+fn cut_off_texts(rt: HostRuntime) -> Result<(), Fail> {
+    let table: [(&[&str], &str, u64, &str, Status); 7] = [
+        (&WORDS, APART, 0, "", Status::WriteFault),
+        (&WORDS, APART, 11, "query count", Status::WriteFault),
+        (&WORDS, "x\n", 9, "malformed", Status::Malformed),
+        (&SHOW, APART, 0, "", Status::WriteFault),
+        (&SHOW, APART, 9, "a: week i", Status::WriteFault),
+        (&SHOW, "x\n", 9, "malformed", Status::Malformed),
+        (&["show"], APART, 5, "usage", Status::Usage),
+    ];
+    for (words, constraints, short, want, status) in table {
+        let mut shelf = shelf_of(rt.alloc(), SCHEMA, ROWS, constraints)?;
+        let mut sink = MemSink::new(rt.alloc(), short);
+        sink.fail(0)?;
+        assert_eq!(rt;
+            run_words(rt.alloc(), words, &mut shelf, &mut sink)?,
+            status
+        );
+        assert_eq!(rt; sink.kept.as_slice(), want.as_bytes());
+    }
     Ok(())
 }

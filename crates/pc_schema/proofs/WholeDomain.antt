@@ -1,7 +1,6 @@
 -- The region of the whole domain holds the rows of the domain.
-use Rattle.std.proofs.Common.{◌≡◌, ℕ, ◌+◌, ◌-◌, ◌<◌, ◌≤◌, ◌^◌, nat_lt, Bool, true, false, ℤ, pos, negsuc, List, [], ◌∷◌, ◌++◌, length, get_or, take, take_all, map, refl, arith}
+use Rattle.std.proofs.Common.{◌≡◌, ℕ, ◌-◌, ◌<◌, ◌≤◌, ◌^◌, nat_lt, Bool, true, false, ℤ, pos, negsuc, List, [], ◌∷◌, length, map, refl, arith}
 use Rattle.std.specs.Cmp.Lexicographic.{pointwise}
-use Rattle.std.proofs.lemmas.List.{map_push, take_more}
 use Rattle.std.proofs.lemmas.Nat.Bits.{bit_at_ones, bit_at_ones_above}
 use Rattle.std.proofs.lemmas.Bool.Decides.{nat_tests}
 use Rattle.pc_model.specs.declared.schema.Kind.{Kind}
@@ -29,7 +28,7 @@ holds_kind (Int low high) number = refl
 holds_kind (Dec scale low high) number = refl
 holds_kind (Cat names) number = first_places (length names) number
 
-abbrev pub side_of_column : Column → Side
+abbrev side_of_column : Column → Side
 side_of_column column = whole_side column.kind
 
 same_pairs : (columns : List Column) (cells : List ℤ) → pointwise holds (map side_of_column columns) cells ≡ pointwise (λ (column : Column). allows column.kind) columns cells
@@ -41,11 +40,3 @@ same_pairs (column ∷ columns) (cell ∷ cells) = rw (holds_kind column.kind ce
 pub holds_domain : (schema : Schema) (region : Region) → region.sides ≡ map side_of_column schema.columns → HoldsDomain schema region
 unfolding has in_domain
 holds_domain schema region e row = rw e (same_pairs schema.columns row.cells)
-
-pub sides_step : (columns : List Column) (place : ℕ) (d : Column) → place < length columns → map side_of_column (take (place + 1) columns) ≡ map side_of_column (take place columns) ++ side_of_column (get_or columns place d) ∷ []
-sides_step columns place d inside = rw (take_more columns place d inside) (map_push side_of_column (take place columns) (get_or columns place d))
-
-pub sides_end : (columns : List Column) (place : ℕ) → length columns ≤ place → map side_of_column (take place columns) ≡ map side_of_column columns
-sides_end columns place past = rw (take_all place columns past) refl
-
-pub ruleset steps = (holds_domain, sides_step)

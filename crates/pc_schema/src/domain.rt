@@ -4,21 +4,16 @@ ghost use Rattle.pc_model.specs.Regions.{whole_side};
 ghost use Rattle.pc_model.specs.WellFormed.{HaveFewNames};
 ghost use Rattle.pc_schema.specs.Domain.{HoldsDomain};
 
-use pc_list::Seq;
 use pc_model::{Region, Schema};
 use pc_num::Memory;
 use std::alloc::Global;
 
 /// The region of the whole domain.
-#[tactic(auto, using(crate::proofs::WholeDomain::steps))]
+#[tactic(auto, using(crate::proofs::WholeDomain::holds_domain))]
 pub fn whole(alloc: Global, schema: &Schema) -> Result<Region, Memory>
     requires { HaveFewNames schema.now.columns }
     ensures sides { IfOk result (λ region. region.sides ≡ map (λ (column : Column). whole_side column.kind) schema.now.columns) }
     ensures domain { IfOk result (HoldsDomain schema.now) }
 {
-    let mut sides = Seq::new(alloc);
-    for column in schema.columns.as_slice() {
-        sides.push(column.kind.whole_side())?;
-    }
-    Ok(Region { sides })
+    schema.whole(alloc)
 }

@@ -1,74 +1,61 @@
-use Rattle.std.proofs.Common.{ℕ, ◌≤◌, ◌∙◌, List, refl, sym, arith}
+use Rattle.std.proofs.Common.{◌≤◌, ◌∙◌, List, arith}
 use Rattle.std.proofs.lemmas.Result.{err_from_is_err_and}
-use Rattle.pc_run.specs.Commands.{names_in}
 use Rattle.pc_model.specs.declared.row.Row.{Row}
-use Rattle.pc_rows.specs.declared.case.Case.{Case}
-use Rattle.pc_run.specs.Outcome.{rows_under, constraints_under}
 use Rattle.pc_model.specs.declared.constraint.Constraint.{Constraint}
 use Rattle.pc_model.specs.declared.fault.FileKind.TheVariants as kinds
-use Rattle.pc_run.proofs.Cases.{moved, moved_cause, HasRows, HasFiles, at_schema, at_rows, at_constraints, at_overlap, at_query, at_end}
+use Rattle.pc_run.specs.Commands.{bound_names}
+use Rattle.pc_run.specs.Outcome.{rows_under, apart_under}
+use Rattle.pc_run.proofs.Cases.{moved, moved_cause, HasRows, HasFiles, at_schema, at_rows, at_constraints, at_query, at_end}
+use Rattle.pc_run.proofs.Queries.{one_counts}
 use Rattle.pc_run.proofs.case.read_case.Goals as goal
 
 pub returns-in_err-schema-clause-agrees : goal.returns-in_err-schema-clause-agrees
 returns-in_err-schema-clause-agrees g c =
     let p = err_from_is_err_and c.from_residual.result c.from_residual.ensures.1 in
-    rw (p.1, p.2) (at_schema (g.F.Shelf.files c.args.files.now) (names_in c.args.command.now) (g.F.Shelf.faults c.args.files.now) (g.F.Shelf.faults c.load_schema.new.files) c.in_err-schema.field-0.0 c.in_err-schema.ensures.agrees c.in_err-schema.ensures.cause)
+    rw (p.1, p.2) (at_schema (g.F.Shelf.files c.args.files.now) (bound_names c.args.command.now) (g.F.Shelf.faults c.args.files.now) (g.F.Shelf.faults c.load_schema.new.files) c.in_err-schema.field-0.0 c.in_err-schema.ensures.agrees c.in_err-schema.ensures.cause)
 
 pub returns-in_err-rows-clause-agrees : goal.returns-in_err-rows-clause-agrees
 returns-in_err-rows-clause-agrees g c =
     let p = err_from_is_err_and c.from_residual-in_err-rows.result c.from_residual-in_err-rows.ensures.1 in
     let agrees = moved {X = List Row} kinds.Rows (rows_under c.in_ok-schema.schema c.args.command.now.rows.now) c.in_err-rows.field-0.0 (g.F.Shelf.files c.load_schema.new.files) (g.F.Shelf.files c.args.files.now) c.in_ok-schema.ensures.files_stay c.in_err-rows.ensures.agrees in
     let cause = moved_cause (List Row) c.args.command.now.rows.now (g.F.Shelf.faults c.load_schema.new.files) (g.F.Shelf.faults c.load_rows.new.files) c.in_err-rows.field-0.0 (g.F.Shelf.files c.load_schema.new.files) (g.F.Shelf.files c.args.files.now) c.in_ok-schema.ensures.files_stay c.in_err-rows.ensures.cause in
-    rw (p.1, p.2) (at_rows (g.F.Shelf.files c.args.files.now) (names_in c.args.command.now) (g.F.Shelf.faults c.args.files.now) (g.F.Shelf.faults c.load_schema.new.files) (g.F.Shelf.faults c.load_rows.new.files) c.in_ok-schema.schema c.in_ok-schema.ensures.agrees c.in_ok-schema.ensures.faults_stay c.in_err-rows.field-0.0 agrees cause)
+    rw (p.1, p.2) (at_rows (g.F.Shelf.files c.args.files.now) (bound_names c.args.command.now) (g.F.Shelf.faults c.args.files.now) (g.F.Shelf.faults c.load_schema.new.files) (g.F.Shelf.faults c.load_rows.new.files) c.in_ok-schema.schema c.in_ok-schema.ensures.agrees c.in_ok-schema.ensures.faults_stay c.in_err-rows.field-0.0 agrees cause)
 
 pub returns-in_err-constraints-clause-agrees : goal.returns-in_err-constraints-clause-agrees
 returns-in_err-constraints-clause-agrees g c =
     let p = err_from_is_err_and c.from_residual-in_err-constraints.result c.from_residual-in_err-constraints.ensures.1 in
     let has_rows = rw c.in_ok-schema.ensures.files_stay at c.in_ok-rows.ensures.agrees in
-    let read : HasRows (g.F.Shelf.files c.args.files.now) (names_in c.args.command.now) c.in_ok-schema.schema c.in_ok-rows.rows = record { has_schema = c.in_ok-schema.ensures.agrees; has_rows = has_rows } in
+    let read : HasRows (g.F.Shelf.files c.args.files.now) (bound_names c.args.command.now) c.in_ok-schema.schema c.in_ok-rows.rows = record { has_schema = c.in_ok-schema.ensures.agrees; has_rows = has_rows } in
     let same = c.in_ok-rows.ensures.files_stay ∙ c.in_ok-schema.ensures.files_stay in
-    let agrees = moved {X = List Constraint} kinds.Constraints (constraints_under c.in_ok-schema.schema c.args.command.now.constraints.now) c.in_err-constraints.field-0.0 (g.F.Shelf.files c.load_rows.new.files) (g.F.Shelf.files c.args.files.now) same c.in_err-constraints.ensures.agrees in
-    let cause = moved_cause (List Constraint) c.args.command.now.constraints.now (g.F.Shelf.faults c.load_rows.new.files) (g.F.Shelf.faults c.load_constraints.new.files) c.in_err-constraints.field-0.0 (g.F.Shelf.files c.load_rows.new.files) (g.F.Shelf.files c.args.files.now) same c.in_err-constraints.ensures.cause in
+    let agrees = moved {X = List Constraint} kinds.Constraints (apart_under c.in_ok-schema.schema c.args.command.now.constraints.now) c.in_err-constraints.field-0.0 (g.F.Shelf.files c.load_rows.new.files) (g.F.Shelf.files c.args.files.now) same c.in_err-constraints.ensures.agrees in
+    let cause = moved_cause (List Constraint) c.args.command.now.constraints.now (g.F.Shelf.faults c.load_rows.new.files) (g.F.Shelf.faults c.load_apart.new.files) c.in_err-constraints.field-0.0 (g.F.Shelf.files c.load_rows.new.files) (g.F.Shelf.files c.args.files.now) same c.in_err-constraints.ensures.cause in
     let earlier : g.F.Shelf.faults c.args.files.now ≤ g.F.Shelf.faults c.load_rows.new.files = omega (arith, c.in_ok-schema.ensures.faults_stay, c.in_ok-rows.ensures.faults_stay) in
-    rw (p.1, p.2) (at_constraints (g.F.Shelf.files c.args.files.now) (names_in c.args.command.now) (g.F.Shelf.faults c.args.files.now) (g.F.Shelf.faults c.load_rows.new.files) (g.F.Shelf.faults c.load_constraints.new.files) c.in_ok-schema.schema c.in_ok-rows.rows read earlier c.in_err-constraints.field-0.0 agrees cause)
+    rw (p.1, p.2) (at_constraints (g.F.Shelf.files c.args.files.now) (bound_names c.args.command.now) (g.F.Shelf.faults c.args.files.now) (g.F.Shelf.faults c.load_rows.new.files) (g.F.Shelf.faults c.load_apart.new.files) c.in_ok-schema.schema c.in_ok-rows.rows read earlier c.in_err-constraints.field-0.0 agrees cause)
 
-pub returns-in_err-check_apart-clause-agrees : goal.returns-in_err-check_apart-clause-agrees
-returns-in_err-check_apart-clause-agrees g c =
-    let p = err_from_is_err_and c.from_residual-in_err-check_apart.result c.from_residual-in_err-check_apart.ensures.1 in
+pub returns-in_err-query-clause-agrees : goal.returns-in_err-query-clause-agrees
+returns-in_err-query-clause-agrees g c =
+    let p = err_from_is_err_and c.from_residual-in_err-query.result c.from_residual-in_err-query.ensures.1 in
     let has_rows = rw c.in_ok-schema.ensures.files_stay at c.in_ok-rows.ensures.agrees in
-    let case : Case = record { schema = c.in_ok-schema.schema; rows = c.in_ok-rows.rows; constraints = c.in_ok-constraints.constraints } in
     let agrees = rw (c.in_ok-rows.ensures.files_stay, c.in_ok-schema.ensures.files_stay) at c.in_ok-constraints.ensures.agrees in
-    let read : HasFiles (g.F.Shelf.files c.args.files.now) (names_in c.args.command.now) case = record { rows = record { has_schema = c.in_ok-schema.ensures.agrees; has_rows = has_rows }; has_constraints = agrees } in
-    let overlaps = rw c.as_slice.ensures at c.in_err-check_apart.ensures.value in
-    rw (p.1, p.2) (at_overlap (g.F.Shelf.files c.args.files.now) (names_in c.args.command.now) (g.F.Shelf.faults c.args.files.now) (g.F.Shelf.faults c.load_constraints.new.files) case read c.in_err-check_apart.field-0.0 overlaps)
-
-pub returns-in_err-read_query-clause-agrees : goal.returns-in_err-read_query-clause-agrees
-returns-in_err-read_query-clause-agrees g c =
-    let p = err_from_is_err_and c.from_residual-in_err-read_query.result c.from_residual-in_err-read_query.ensures.1 in
-    let has_rows = rw c.in_ok-schema.ensures.files_stay at c.in_ok-rows.ensures.agrees in
-    let case : Case = record { schema = c.in_ok-schema.schema; rows = c.in_ok-rows.rows; constraints = c.in_ok-constraints.constraints } in
-    let agrees = rw (c.in_ok-rows.ensures.files_stay, c.in_ok-schema.ensures.files_stay) at c.in_ok-constraints.ensures.agrees in
-    let read : HasFiles (g.F.Shelf.files c.args.files.now) (names_in c.args.command.now) case = record { rows = record { has_schema = c.in_ok-schema.ensures.agrees; has_rows = has_rows }; has_constraints = agrees } in
-    let apart = rw c.as_slice.ensures at c.in_ok-check_apart.ensures.value in
-    let refuses = rw c.as_bytes.ensures.value at c.in_err-read_query.ensures in
-    rw (p.1, p.2) (at_query (g.F.Shelf.files c.args.files.now) (names_in c.args.command.now) (g.F.Shelf.faults c.args.files.now) (g.F.Shelf.faults c.load_constraints.new.files) case read c.in_err-read_query.field-0.0 apart (sym refuses))
+    let read : HasFiles (g.F.Shelf.files c.args.files.now) (bound_names c.args.command.now) c.in_ok-schema.schema c.in_ok-rows.rows c.in_ok-constraints.constraints =
+    record { rows_read = record { has_schema = c.in_ok-schema.ensures.agrees; has_rows = has_rows }; has_constraints = agrees } in
+    rw (p.1, p.2) (at_query (g.F.Shelf.files c.args.files.now) (bound_names c.args.command.now) (g.F.Shelf.faults c.args.files.now) (g.F.Shelf.faults c.load_apart.new.files) c.in_ok-schema.schema c.in_ok-rows.rows c.in_ok-constraints.constraints read c.in_err-query.field-0.0 c.in_err-query.ensures.gives)
 
 pub returns-clause-agrees : goal.returns-clause-agrees
 returns-clause-agrees g c =
     let has_rows = rw c.in_ok-schema.ensures.files_stay at c.in_ok-rows.ensures.agrees in
-    let case : Case = record { schema = c.in_ok-schema.schema; rows = c.in_ok-rows.rows; constraints = c.in_ok-constraints.constraints } in
     let agrees = rw (c.in_ok-rows.ensures.files_stay, c.in_ok-schema.ensures.files_stay) at c.in_ok-constraints.ensures.agrees in
-    let read : HasFiles (g.F.Shelf.files c.args.files.now) (names_in c.args.command.now) case = record { rows = record { has_schema = c.in_ok-schema.ensures.agrees; has_rows = has_rows }; has_constraints = agrees } in
-    let apart = rw c.as_slice.ensures at c.in_ok-check_apart.ensures.value in
-    let accepts = rw c.as_bytes.ensures.value at c.in_ok-read_query.ensures in
-    at_end (g.F.Shelf.files c.args.files.now) (names_in c.args.command.now) case read apart (sym accepts)
+    let read : HasFiles (g.F.Shelf.files c.args.files.now) (bound_names c.args.command.now) c.in_ok-schema.schema c.in_ok-rows.rows c.in_ok-constraints.constraints =
+    record { rows_read = record { has_schema = c.in_ok-schema.ensures.agrees; has_rows = has_rows }; has_constraints = agrees } in
+    rw c.in_ok-queries.ensures (at_end (g.F.Shelf.files c.args.files.now) (bound_names c.args.command.now) c.in_ok-schema.schema c.in_ok-rows.rows c.in_ok-constraints.constraints c.in_ok-query.query read c.in_ok-query.ensures.gives)
 
 pub returns-clause-sound : goal.returns-clause-sound
 returns-clause-sound g c = record {
   well_formed = c.in_ok-schema.ensures.well_formed;
   seen = c.in_ok-rows.ensures.seen;
-  disjoint = rw c.as_slice.ensures at c.in_ok-check_apart.ensures.apart;
-  servable = c.in_ok-constraints.ensures.servable;
-  few = c.in_ok-constraints.ensures.few;
-  small = c.in_ok-constraints.ensures.small;
+  disjoint = c.in_ok-constraints.ensures.apart;
+  servable = c.in_ok-constraints.ensures.accepted.servable;
+  few = c.in_ok-constraints.ensures.accepted.few;
+  small = c.in_ok-constraints.ensures.accepted.small;
+  asked = rw c.in_ok-queries.ensures (one_counts c.in_ok-schema.schema c.in_ok-query.query c.in_ok-query.ensures.counts);
 }

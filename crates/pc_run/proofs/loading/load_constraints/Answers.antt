@@ -1,6 +1,6 @@
 use Rattle.std.proofs.lemmas.Result.{err_from_is_err_and}
 use Rattle.pc_model.specs.declared.fault.FileKind.TheVariants as kinds
-use Rattle.pc_first.specs.ConstraintForm.{constraints_of}
+use Rattle.pc_lang.specs.Files.{constraints_of}
 use Rattle.pc_run.specs.Outcome.{bytes_under, constraints_under}
 use Rattle.pc_run.proofs.Files.{agrees_read, agrees_refused, agrees_stopped}
 use Rattle.pc_run.proofs.loading.load_constraints.Goals as goal

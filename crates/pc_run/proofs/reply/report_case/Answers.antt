@@ -1,4 +1,4 @@
-use Rattle.std.proofs.Common.{◌≡◌, IfOk, sym}
+use Rattle.std.proofs.Common.{◌≡◌, sym}
 use Rattle.std.proofs.lemmas.Result.{IfOk-weaker}
 use Rattle.pc_run.specs.Replies.{SaysCount}
 use Rattle.pc_run.specs.Reports.{report_of}
@@ -13,4 +13,4 @@ pub returns : goal.returns
 returns c =
     let right = rw c.as_slice.ensures at c.in_ok-answer.ensures in
     IfOk-weaker c.report.result (λ text. text.items ≡ report_of c.args.case.now.schema c.in_ok-answer.answer) (λ text. SaysCount c.args.case.now text.items)
-    (λ text reported. record { disjoint = c.requires.disjoint; answer = c.in_ok-answer.answer; right = right c.args.case.now.rows (sym c.count-observed.ensures.counted) c.requires.seen; reported = reported }) c.report.ensures
+    (λ text reported. record { disjoint = c.requires.disjoint; asked = c.requires.asked; answer = c.in_ok-answer.answer; right = right c.args.case.now.rows (sym c.count-observed.ensures.counted) c.requires.seen; reported = reported }) c.report.ensures

@@ -1,4 +1,0 @@
-pub mod Lines
-pub mod QueryForm
-pub mod Texts
-pub mod ConstraintForm

@@ -1,0 +1,86 @@
+-- A part means that all of its atoms hold.
+use Rattle.std.proofs.Common.{◌≡◌, ◌&&◌, ◌-◌, ◌^◌, ◌==◌, nat_lt, length, ltb-true, ltb-false, Bool, true, false, ℤ, pos, negsuc, List, [], ◌∷◌, map, bytes_eq, Ok, refl, sym, ◌∙◌}
+use Rattle.std.specs.Int.{bit_at}
+use Rattle.std.specs.List.{list_all}
+use Rattle.std.specs.Cmp.Lexicographic.{pointwise}
+use Rattle.std.proofs.lemmas.Bool.{and_parts}
+use Rattle.std.proofs.lemmas.Nat.Bits.{bit_at_ones, bit_at_ones_above}
+use Rattle.pc_model.specs.declared.schema.Kind.{Kind}
+use Rattle.pc_model.specs.declared.schema.Kind.TheVariants.{Int, Dec, Cat}
+use Rattle.pc_model.specs.declared.schema.Column.{Column}
+use Rattle.pc_model.specs.declared.region.Side.{Side}
+use Rattle.pc_model.specs.Membership.{allows, has, holds, in_domain}
+use Rattle.pc_model.specs.Regions.{is_side_of, whole_region, whole_side}
+use Rattle.pc_syntax.specs.declared.syntax.Atom.{Atom}
+use Rattle.pc_lang.specs.Holding.{PartsHold, cells_hold, states}
+use Rattle.pc_lang.specs.Parts.{narrowed, narrowed_by, narrowed_side, region, region_of}
+use Rattle.pc_lang.proofs.Bound.{bound}
+use Rattle.pc_lang.proofs.Narrowing.{narrowed_induction}
+use Rattle.pc_lang.proofs.RegionsOfParts.{AreSides, narrowed_are_sides, whole_are_sides}
+use Rattle.pc_lang.proofs.StatedCells.{left_holds}
+
+and_one : (c : Bool) → c ≡ (c && true)
+and_one true = refl
+and_one false = refl
+
+and_swap : (a b c : Bool) → ((a && b) && c) ≡ ((a && c) && b)
+and_swap true true c = and_one c
+and_swap true false true = refl
+and_swap true false false = refl
+and_swap false b c = refl
+
+and_shift : (a b c : Bool) → (a && (b && c)) ≡ ((a && b) && c)
+and_shift true b c = refl
+and_shift false b c = refl
+
+-- cells that what is left of the sides holds
+abbrev Narrows : Atom → List Column → List Side → List Side → Type 0
+Narrows atom columns sides less = AreSides columns sides → (cells : List ℤ) → pointwise holds less cells ≡ (pointwise holds sides cells && cells_hold columns atom cells)
+
+here : (atom : Atom) (column : Column) (columns : List Column) (side : Side) (sides : List Side) (less : Side) → bytes_eq column.name atom.column ≡ true → narrowed_side column.kind atom.claim side ≡ Ok less → Narrows atom (column ∷ columns) (side ∷ sides) (less ∷ sides)
+unfolding cells_hold
+here atom column columns side sides less same left all [] = refl
+here atom column columns side sides less same left all (cell ∷ cells) =
+    let p = and_parts (is_side_of column.kind side) (pointwise (λ (column : Column). is_side_of column.kind) columns sides) all in
+    rw (same, left_holds column.kind atom.claim side less cell p.0 left) (and_swap (holds side cell) (states column.kind atom.claim cell) (pointwise holds sides cells))
+
+later : (atom : Atom) (column : Column) (columns : List Column) (side : Side) (sides others : List Side) → bytes_eq column.name atom.column ≡ false → narrowed columns atom sides ≡ Ok others → Narrows atom columns sides others → Narrows atom (column ∷ columns) (side ∷ sides) (side ∷ others)
+unfolding cells_hold
+later atom column columns side sides others other found rest all [] = refl
+later atom column columns side sides others other found rest all (cell ∷ cells) =
+    let p = and_parts (is_side_of column.kind side) (pointwise (λ (column : Column). is_side_of column.kind) columns sides) all in
+    rw (other, rest p.1 cells) (and_shift (holds side cell) (pointwise holds sides cells) (cells_hold columns atom cells))
+
+atoms_hold : (columns : List Column) (atoms : List Atom) (sides less : List Side) → narrowed_by columns atoms sides ≡ Ok less → AreSides columns sides → (cells : List ℤ) → pointwise holds less cells ≡ (pointwise holds sides cells && list_all (λ atom. cells_hold columns atom cells) atoms)
+unfolding narrowed_by
+atoms_hold columns [] sides less e all cells = let same : sides ≡ less = cc in rw (← same) (and_one (pointwise holds sides cells))
+atoms_hold columns (atom ∷ rest) sides less e all cells =
+    let b = bound (narrowed_by columns rest) (narrowed columns atom sides) less e in
+    atoms_hold columns rest b.value less b.gives (narrowed_are_sides atom columns sides b.value b.is all) cells
+    ∙ rw (narrowed_induction (Narrows atom) atom (here atom) (later atom) columns sides b.value b.is all cells)
+    (sym (and_shift (pointwise holds sides cells) (cells_hold columns atom cells) (list_all (λ atom. cells_hold columns atom cells) rest)))
+
+whole_holds : (kind : Kind) (n : ℤ) → holds (whole_side kind) n ≡ allows kind n
+unfolding holds allows
+whole_holds (Int low high) n = refl
+whole_holds (Dec scale low high) n = refl
+whole_holds (Cat names) (pos place) = by_test (nat_lt place (length names)) refl
+  where
+    by_test : (test : Bool) → nat_lt place (length names) ≡ test → (bit_at (2 ^ length names - 1) place == 1) ≡ test
+    by_test true e = rw (bit_at_ones (length names) place (ltb-true place (length names) e)) refl
+    by_test false e = rw (bit_at_ones_above (length names) place (ltb-false place (length names) e)) refl
+whole_holds (Cat names) (negsuc below) = refl
+
+domain_holds : (columns : List Column) (cells : List ℤ) → pointwise holds (map (λ (column : Column). whole_side column.kind) columns) cells ≡ pointwise (λ (column : Column). allows column.kind) columns cells
+domain_holds [] [] = refl
+domain_holds [] (cell ∷ cells) = refl
+domain_holds (column ∷ columns) [] = refl
+domain_holds (column ∷ columns) (cell ∷ cells) = rw (whole_holds column.kind cell, domain_holds columns cells) refl
+
+pub parts_hold : PartsHold
+unfolding region_of has in_domain
+parts_hold schema part found formed e row =
+    let b = bound region (narrowed_by schema.columns part.atoms (whole_region schema).sides) found e in
+    let same : record { sides = b.value } ≡ found = (let gives = b.gives in cc) in
+    rw (← same) (atoms_hold schema.columns part.atoms (whole_region schema).sides b.value b.is (whole_are_sides schema.columns formed.columns.all) row.cells
+    ∙ rw (domain_holds schema.columns row.cells) refl)

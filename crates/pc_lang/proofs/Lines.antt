@@ -1,0 +1,130 @@
+-- The lines of a file, as far as a loop has come.
+use Rattle.std.proofs.Common.{◌≡◌, ℕ, ◌+◌, ◌-◌, ◌<◌, ◌≤◌, ◌==◌, Bool, true, false, List, [], ◌∷◌, length, get_or, take, drop, zero, suc, Some, None, Result, Ok, Err, refl, add-one, arith, drop-cons}
+use Rattle.std.specs.List.{position_or_len}
+use Rattle.std.proofs.lemmas.List.{drop_all, take_all, length-drop}
+use Rattle.std.proofs.lemmas.List.Elements.{All-from_get_or}
+use Rattle.std.proofs.lemmas.List.Sums.{position_or_len_is}
+use Rattle.std.proofs.lemmas.List.Splits.{slice_split_first, slice_split_none}
+use Rattle.std.proofs.lemmas.Bool.Decides.{nat_tests}
+use Rattle.pc_model.specs.declared.fault.FileKind.TheVariants as files
+use Rattle.pc_model.specs.declared.fault.Fault.{Fault}
+use Rattle.pc_model.specs.declared.schema.Schema.{Schema}
+use Rattle.pc_model.specs.declared.constraint.Constraint.{Constraint}
+use Rattle.pc_model.specs.declared.fault.Reason.{Reason}
+use Rattle.pc_model.specs.declared.fault.Refusal.{Refusal}
+use Rattle.pc_model.specs.declared.fault.Refusal.TheVariants as refusals
+use Rattle.pc_model.specs.Refusals.{◌>>=◌, fault_at, placed, RefusesAs}
+use Rattle.pc_model.specs.Texts.{text_of}
+use Rattle.pc_token.specs.Lexing.{is_blank}
+use Rattle.pc_lang.specs.Files.{is_passed_over, without_return, lines_of, constraint_lines, constraints_from, constraints_of, left_after, with_line}
+
+-- the rest of a slice from a place on
+pub rest_is : (text : List ℕ) (i : ℕ) → take (length text - i) (drop i text) ≡ drop i text
+rest_is text i = take_all (length text - i) (drop i text) (omega (arith, length-drop i text))
+
+-- the first line feed
+pub lines_at : (text : List ℕ) (i : ℕ) → i < length text → ((k : ℕ) → k < i → get_or text k 0 ≡ 10 → ⊥) → get_or text i 0 ≡ 10 → lines_of text ≡ take i text ∷ lines_of (drop (i + 1) text)
+lines_at text i inside before here =
+    let at : position_or_len (λ byte. byte == 10) text ≡ i =
+    position_or_len_is (λ byte. byte == 10) text i 0 (omega arith) (λ k lt. let absent = before k lt in grind (arith, nat_tests)) (λ _. grind (arith, nat_tests)) in
+    let within : position_or_len (λ byte. byte == 10) text < length text = rw at inside in
+    let split = slice_split_first (λ byte. byte == 10) text 0 within in
+    rw at at split
+
+-- no line feed is there
+pub lines_without : (text : List ℕ) → ((k : ℕ) → k < length text → get_or text k 0 ≡ 10 → ⊥) → lines_of text ≡ text ∷ []
+lines_without text without =
+    slice_split_none (λ byte. byte == 10) text (All-from_get_or (λ byte. (byte == 10) ≡ false) text 0 (λ k lt. let differs = without k lt in grind (arith, nat_tests)))
+
+pub ruleset pieces = (rest_is, lines_at, lines_without)
+
+-- a blank is passed over
+pub blank_step : (line : List ℕ) (i : ℕ) → i < length line → is_blank (get_or line i 0) ≡ true → is_passed_over (drop i line) ≡ is_passed_over (drop (i + 1) line)
+unfolding is_passed_over
+blank_step line i inside blank = rw (add-one, drop-cons line i 0 inside, blank) refl
+
+-- the first byte that is no blank decides
+pub blank_stop : (line : List ℕ) (i : ℕ) → i < length line → is_blank (get_or line i 0) ≡ false → is_passed_over (drop i line) ≡ (get_or line i 0 == 35)
+unfolding is_passed_over
+blank_stop line i inside other = rw (drop-cons line i 0 inside, other) refl
+
+pub blank_end : (line : List ℕ) (i : ℕ) → length line ≤ i → is_passed_over (drop i line) ≡ true
+unfolding is_passed_over
+blank_end line i past = rw (drop_all i line past) refl
+
+pub ruleset blanks = (blank_step, blank_stop, blank_end)
+
+some_differs : {X : Type 0} (x : X) → Some x ≡ None → ⊥
+some_differs x e = cc
+
+-- a line without the constraint that is looked for
+number_on : (line : List ℕ) (lines : List (List ℕ)) (number before left : ℕ) → left_after line before ≡ Some left → get_or (constraint_lines number (line ∷ lines)) before 0 ≡ get_or (constraint_lines (number + 1) lines) left 0
+unfolding constraint_lines left_after
+number_on line lines number before left e = by_test (is_passed_over (without_return line)) refl before e
+  where
+    by_test : (test : Bool) → is_passed_over (without_return line) ≡ test → (k : ℕ) → left_after line k ≡ Some left → get_or (constraint_lines number (line ∷ lines)) k 0 ≡ get_or (constraint_lines (number + 1) lines) left 0
+    by_test true t k e = let same : k ≡ left = (let f = rw t at e in cc) in rw (t, same) refl
+    by_test false t zero e = absurd (let f = rw t at e in cc)
+    by_test false t (suc k) e = let same : k ≡ left = (let f = rw t at e in cc) in rw (t, same) refl
+
+-- the line with it
+number_here : (line : List ℕ) (lines : List (List ℕ)) (number before : ℕ) → left_after line before ≡ None → get_or (constraint_lines number (line ∷ lines)) before 0 ≡ number
+unfolding constraint_lines left_after
+number_here line lines number before e = by_test (is_passed_over (without_return line)) refl before e
+  where
+    by_test : (test : Bool) → is_passed_over (without_return line) ≡ test → (k : ℕ) → left_after line k ≡ None → get_or (constraint_lines number (line ∷ lines)) k 0 ≡ number
+    by_test true t k e = absurd (let f = rw t at e in cc)
+    by_test false t zero e = rw t refl
+    by_test false t (suc k) e = absurd (let f = rw t at e in cc)
+
+pub number_step : (text line rest : List ℕ) (number before left : ℕ) → lines_of text ≡ line ∷ lines_of rest → left_after line before ≡ Some left → get_or (constraint_lines number (lines_of text)) before 0 ≡ get_or (constraint_lines (number + 1) (lines_of rest)) left 0
+number_step text line rest number before left split e = rw split (number_on line (lines_of rest) number before left e)
+
+pub number_found : (text line rest : List ℕ) (number before : ℕ) → lines_of text ≡ line ∷ lines_of rest → left_after line before ≡ None → get_or (constraint_lines number (lines_of text)) before 0 ≡ number
+number_found text line rest number before split e = rw split (number_here line (lines_of rest) number before e)
+
+pub number_last : (text : List ℕ) (number before left : ℕ) → lines_of text ≡ text ∷ [] → left_after text before ≡ Some left → get_or (constraint_lines number (lines_of text)) before 0 ≡ 0
+unfolding constraint_lines
+number_last text number before left split e = rw split (number_on text [] number before left e)
+
+pub number_in_last : (text : List ℕ) (number before : ℕ) → lines_of text ≡ text ∷ [] → left_after text before ≡ None → get_or (constraint_lines number (lines_of text)) before 0 ≡ number
+number_in_last text number before split e = rw split (number_here text [] number before e)
+
+pub ruleset numbers = (number_step, number_found, number_last, number_in_last)
+
+module _ (schema : Schema) (place : ℕ) (before : List Constraint) where
+  -- the lines after one that is read
+  pub file_step : (text line rest : List ℕ) (after : List Constraint) → lines_of text ≡ line ∷ lines_of rest → placed files.Constraints place (with_line schema before (without_return line)) ≡ Ok after → constraints_from schema place before (lines_of text) ≡ constraints_from schema (place + 1) after (lines_of rest)
+  unfolding constraints_from
+  file_step text line rest after split read = rw (split, read) refl
+
+  -- a line that is refused
+  pub file_refused : (text line rest : List ℕ) (fault : Fault) → lines_of text ≡ line ∷ lines_of rest → placed files.Constraints place (with_line schema before (without_return line)) ≡ Err fault → constraints_from schema place before (lines_of text) ≡ Err fault
+  unfolding constraints_from
+  file_refused text line rest fault split refused = rw (split, refused) refl
+
+  last_of : (read : Result (List Constraint) Fault) → (read >>= λ after. constraints_from schema (place + 1) after []) ≡ read
+  unfolding constraints_from
+  last_of (Ok after) = refl
+  last_of (Err fault) = refl
+
+  -- the last line
+  pub file_last : (text : List ℕ) → lines_of text ≡ text ∷ [] → constraints_from schema place before (lines_of text) ≡ placed files.Constraints place (with_line schema before (without_return text))
+  unfolding constraints_from
+  file_last text split = rw split (last_of (placed files.Constraints place (with_line schema before (without_return text))))
+
+  pub refusal_step : (text line rest : List ℕ) (refusal : Refusal) → lines_of text ≡ line ∷ lines_of rest → RefusesAs refusal (placed files.Constraints place (with_line schema before (without_return line))) → RefusesAs refusal (constraints_from schema place before (lines_of text))
+  refusal_step text line rest (refusals.Fault fault) split refused = file_refused text line rest fault split refused
+  refusal_step text line rest refusals.Memory split refused = tt
+
+-- a file that has a text
+pub text_read : (schema : Schema) (bytes text : List ℕ) → text_of bytes ≡ Ok text → constraints_of schema bytes ≡ constraints_from schema 1 [] (lines_of text)
+unfolding constraints_of
+text_read schema bytes text e = rw e refl
+
+-- a file that has none
+pub no_text : (schema : Schema) (bytes : List ℕ) (reason : Reason) → text_of bytes ≡ Err reason → constraints_of schema bytes ≡ Err (fault_at files.Constraints 0 reason)
+unfolding constraints_of
+no_text schema bytes reason e = rw e refl
+
+pub ruleset texts = (text_read, no_text)

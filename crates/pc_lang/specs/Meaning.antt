@@ -1,0 +1,113 @@
+-- Which constraint a line stands for, and which query a question: the checks of meaning, in their order.
+use Rattle.std.specs.Prelude.{ℕ, ◌+◌, Bool, true, false, unsigned_abs, List, [], ◌∷◌, length, bytes_eq, nat_le, nat_lt, Option, Some, None, Result, Ok, Err, if◌then◌else◌}
+use Rattle.std.specs.Char.{is_ascii_digit}
+use Rattle.std.specs.List.{list_all, list_any}
+use Rattle.pc_model.specs.declared.fault.Reason.{Reason}
+use Rattle.pc_model.specs.declared.fault.Reason.TheVariants as reasons
+use Rattle.pc_model.specs.declared.schema.Kind.{Kind}
+use Rattle.pc_model.specs.declared.schema.Kind.TheVariants.{Int, Dec, Cat}
+use Rattle.pc_model.specs.declared.schema.Column.{Column}
+use Rattle.pc_model.specs.declared.schema.Schema.{Schema}
+use Rattle.pc_model.specs.declared.region.Region.{Region}
+use Rattle.pc_model.specs.declared.constraint.Constraint.{Constraint}
+use Rattle.pc_model.specs.declared.query.Agg.{Agg}
+use Rattle.pc_model.specs.declared.query.Agg.TheVariants as aggs
+use Rattle.pc_model.specs.declared.query.Query.{Query}
+use Rattle.pc_model.specs.Accepted.{constraint_limit, frequency_limit}
+use Rattle.pc_model.specs.Numbers.{number_of}
+use Rattle.pc_model.specs.Refusals.{◌>>=◌}
+use Rattle.pc_model.specs.Regions.{whole_region}
+use Rattle.pc_syntax.specs.declared.syntax.Part.{Part}
+use Rattle.pc_syntax.specs.declared.syntax.Line.{Line}
+use Rattle.pc_syntax.specs.declared.syntax.Measure.{Measure}
+use Rattle.pc_syntax.specs.declared.syntax.Measure.TheVariants as measures
+use Rattle.pc_syntax.specs.declared.syntax.Question.{Question}
+use Rattle.pc_lang.specs.Parts.{region_of}
+
+abbrev pub at_most_limit : ℕ → Result ℕ Reason
+at_most_limit n = if nat_lt frequency_limit n then Err reasons.PastLimit else Ok n
+
+-- a number of rows: digits alone, and not past its limit
+unfoldable pub count_of : List ℕ → Result ℕ Reason
+count_of text = if list_all is_ascii_digit text then (number_of 0 text >>= λ n. at_most_limit (unsigned_abs n)) else Err reasons.BadNumber
+
+abbrev pub has_name : List Constraint → List ℕ → Bool
+has_name constraints name = list_any (λ (c : Constraint). bytes_eq c.name name) constraints
+
+abbrev pub in_order : List ℕ → Region → Region → ℕ → ℕ → Result Constraint Reason
+in_order name when values least most =
+    if nat_lt most least then Err reasons.LeastOverMost else Ok (record { name = name; when = when; values = values; least = least; most = most })
+
+-- the constraint of a line whose name is new
+unfoldable pub new_constraint : Schema → Line → Result Constraint Reason
+new_constraint schema line = do
+  when ← region_of schema line.when
+  values ← region_of schema line.values
+  least ← count_of line.least
+  most ← count_of line.most
+  in_order line.name when values least most
+
+-- the constraint of a line after those before it
+unfoldable pub constraint_of : Schema → List Constraint → Line → Result Constraint Reason
+constraint_of schema before line =
+    if nat_le constraint_limit (length before) then Err reasons.TooMany
+    else if has_name before line.name then Err reasons.RepeatedName
+    else new_constraint schema line
+
+abbrev pub is_numeric : Kind → Bool
+is_numeric (Int low high) = true
+is_numeric (Dec scale low high) = true
+is_numeric (Cat names) = false
+
+abbrev pub has_names : Kind → Bool
+has_names (Int low high) = false
+has_names (Dec scale low high) = false
+has_names (Cat names) = true
+
+-- the place of the column of this name, which is of a kind that fits, counted from a place
+unfoldable pub place_from : (Kind → Bool) → ℕ → List Column → List ℕ → Result ℕ Reason
+place_from fits place [] name = Err reasons.UnknownColumn
+place_from fits place (column ∷ rest) name =
+    if bytes_eq column.name name then (if fits column.kind then Ok place else Err reasons.WrongKind)
+    else place_from fits (place + 1) rest name
+
+abbrev pub numeric_place : Schema → List ℕ → Result ℕ Reason
+numeric_place schema name = place_from is_numeric 0 schema.columns name
+
+abbrev pub names_place : Schema → List ℕ → Result ℕ Reason
+names_place schema name = place_from has_names 0 schema.columns name
+
+abbrev pub of_column : Agg → ℕ → Result (Agg × Option ℕ) Reason
+of_column agg place = Ok (agg, Some place)
+
+-- the aggregate, and the place of its column
+unfoldable pub measured : Schema → Measure → Result (Agg × Option ℕ) Reason
+measured schema measures.Count = Ok (aggs.Count, None)
+measured schema measures.CountOfAll = Ok (aggs.Count, None)
+measured schema (measures.Sum name) = numeric_place schema name >>= of_column aggs.Sum
+measured schema (measures.Min name) = numeric_place schema name >>= of_column aggs.Min
+measured schema (measures.Max name) = numeric_place schema name >>= of_column aggs.Max
+measured schema (measures.Avg name) = numeric_place schema name >>= of_column aggs.Avg
+
+-- the rows that are asked about: all where no part says which
+abbrev pub chosen_of : Schema → Option Part → Result Region Reason
+chosen_of schema None = Ok (whole_region schema)
+chosen_of schema (Some part) = region_of schema part
+
+abbrev pub some_place : ℕ → Result (Option ℕ) Reason
+some_place place = Ok (Some place)
+
+abbrev pub grouping_of : Schema → Option (List ℕ) → Result (Option ℕ) Reason
+grouping_of schema None = Ok None
+grouping_of schema (Some name) = names_place schema name >>= some_place
+
+abbrev pub query : Agg × Option ℕ → Region → Option ℕ → Result Query Reason
+query measure chosen group = Ok (record { agg = measure.0; column = measure.1; chosen = chosen; group = group })
+
+-- the query of a question
+unfoldable pub query_of : Schema → Question → Result Query Reason
+query_of schema question = do
+  measure ← measured schema question.measure
+  chosen ← chosen_of schema question.chosen
+  group ← grouping_of schema question.group
+  query measure chosen group

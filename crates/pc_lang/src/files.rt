@@ -1,0 +1,243 @@
+ghost use Rattle.std.specs.Prelude.{◌≡◌, ◌<◌, ◌≤◌, get_or, ◌∷◌, ◌++◌, [], true, length, IfOk, IfSome, MatchOption};
+ghost use Rattle.pc_model.specs.Accepted.{AreConstraints, IsQuery};
+ghost use Rattle.pc_model.specs.Refusals.{Answers, Gives, placed};
+ghost use Rattle.pc_model.specs.WellFormed.{IsWellFormed, HaveFewNames};
+ghost use Rattle.pc_model.specs.declared.fault.FileKind.TheVariants as files;
+ghost use Rattle.pc_lang.specs.Files.{without_return, is_passed_over, line_from, question_from, constraint_from, with_line, constraints_from, lines_of, constraints_of, query_from, query_at, line_number, constraint_lines, left_after};
+ghost use Rattle.pc_model.specs.Texts.{is_name};
+ghost use Rattle.pc_token.specs.Lexing.{is_blank};
+
+use crate::meaning::constraint_of;
+use crate::query::query_of;
+use pc_list::Seq;
+use pc_model::{Constraint, FileKind, Query, Refusal, Schema, Stop, text_of};
+use pc_syntax::{Line, Question, read_line, read_question};
+use pc_token::read_tokens;
+use std::alloc::Global;
+
+#[cfg(test)]
+mod tests;
+
+/// Reads the constraints of a file. The place of a fault is the number of its line, and 0 for the file as a whole.
+#[tactic(auto, using(crate::proofs::Lines::texts))]
+pub fn read_constraints(
+    alloc: Global,
+    schema: &Schema,
+    bytes: &[u8],
+) -> Result<Seq<Constraint>, Refusal>
+    requires well_formed { IsWellFormed schema.now }
+    requires few_names { HaveFewNames schema.now.columns }
+    ensures gives { Gives result (constraints_of schema.now bytes.now) }
+    ensures accepted { IfOk result (AreConstraints schema.now) }
+{
+    match text_of(bytes) {
+        Ok(text) => constraints_of_text(alloc, schema, text),
+        Err(reason) => Err(Stop::Reason(reason).at(FileKind::Constraints, 0)),
+    }
+}
+
+/// Reads a query. The place of a fault is the given one.
+pub fn read_query(alloc: Global, schema: &Schema, text: &str, place: u64) -> Result<Query, Refusal>
+    requires well_formed { IsWellFormed schema.now }
+    requires few_names { HaveFewNames schema.now.columns }
+    ensures gives { Gives result (query_at schema.now place text.now) }
+    ensures accepted { IfOk result (IsQuery schema.now) }
+{
+    match query_from(alloc, schema, text.as_bytes()) {
+        Ok(query) => Ok(query),
+        Err(stop) => Err(stop.at(FileKind::Query, place)),
+    }
+}
+
+/// The number of the line on which the constraint at a place, from 0, stands in a file that is accepted.
+pub fn line_number(bytes: &[u8], place: usize) -> u64
+    ensures { result ≡ line_number bytes.now place }
+{
+    match text_of(bytes) {
+        Ok(text) => number_in(text, place),
+        Err(_) => 0,
+    }
+}
+
+#[tactic(auto, using(crate::proofs::Lines::numbers))]
+fn number_in(text: &[u8], place: usize) -> u64
+    ensures { result ≡ get_or (constraint_lines 1 (lines_of text.now)) place 0 }
+{
+    let mut before = place;
+    let mut number = 1;
+    let mut rest = text;
+    while let Some((line, after)) = first_line(rest) {
+        let Some(left) = left_after(line, before) else {
+            return number;
+        };
+        before = left;
+        number += 1;
+        rest = after;
+    }
+    match left_after(rest, before) {
+        None => number,
+        Some(_) => 0,
+    }
+}
+
+// How many constraints stand before one after this line, of so many before the line; none where the line has that one.
+#[tactic(auto, unfolding(crate::specs::Files::left_after))]
+fn left_after(line: &[u8], before: usize) -> Option<usize>
+    ensures { result ≡ left_after line.now before }
+{
+    if is_passed_over(without_return(line)) {
+        return Some(before);
+    }
+    before.checked_sub(1)
+}
+
+fn constraints_of_text(
+    alloc: Global,
+    schema: &Schema,
+    text: &[u8],
+) -> Result<Seq<Constraint>, Refusal>
+    requires well_formed { IsWellFormed schema.now }
+    requires few_names { HaveFewNames schema.now.columns }
+    ensures gives { Gives result (constraints_from schema.now 1 [] (lines_of text.now)) }
+    ensures accepted { IfOk result (AreConstraints schema.now) }
+{
+    let mut constraints = Seq::new(alloc);
+    let mut place = 1;
+    let mut rest = text;
+    while let Some((line, after)) = first_line(rest) {
+        constraints = with_line_at(alloc, schema, place, constraints, line)?;
+        place += 1;
+        rest = after;
+    }
+    with_line_at(alloc, schema, place, constraints, rest)
+}
+
+// What stands before the first line feed, and what stands after it.
+#[tactic(auto, using(crate::proofs::Lines::pieces))]
+fn first_line(text: &[u8]) -> Option<(&[u8], &[u8])>
+    ensures pieces { MatchOption result (lines_of text.now ≡ text.now ∷ []) (λ cut. lines_of text.now ≡ cut.0.now ∷ lines_of cut.1.now) }
+    ensures shorter { IfSome result (λ cut. length cut.1.now < length text.now) }
+{
+    for (place, byte) in text.iter().enumerate() {
+        if *byte == b'\n' {
+            return Some((&text[..place], &text[place + 1..]));
+        }
+    }
+    None
+}
+
+fn with_line_at(
+    alloc: Global,
+    schema: &Schema,
+    place: u64,
+    before: Seq<Constraint>,
+    line: &[u8],
+) -> Result<Seq<Constraint>, Refusal>
+    requires well_formed { IsWellFormed schema.now }
+    requires few_names { HaveFewNames schema.now.columns }
+    requires accepted { AreConstraints schema.now before }
+    ensures gives { Gives result (placed files.Constraints place (with_line schema.now before (without_return line.now))) }
+    ensures accepted { IfOk result (AreConstraints schema.now) }
+{
+    match with_line(alloc, schema, before, without_return(line)) {
+        Ok(constraints) => Ok(constraints),
+        Err(stop) => Err(stop.at(FileKind::Constraints, place)),
+    }
+}
+
+#[tactic(auto, unfolding(crate::specs::Files::with_line))]
+fn with_line(
+    alloc: Global,
+    schema: &Schema,
+    mut before: Seq<Constraint>,
+    line: &[u8],
+) -> Result<Seq<Constraint>, Stop>
+    requires well_formed { IsWellFormed schema.now }
+    requires few_names { HaveFewNames schema.now.columns }
+    requires accepted { AreConstraints schema.now before }
+    ensures answers { Answers result (with_line schema.now before line.now) }
+    ensures accepted { IfOk result (AreConstraints schema.now) }
+{
+    if is_passed_over(line) {
+        return Ok(before);
+    }
+    let constraint = constraint_from(alloc, schema, before.as_slice(), line)?;
+    before.push(constraint)?;
+    Ok(before)
+}
+
+// The constraint that the text of a line spells.
+#[tactic(auto, unfolding(crate::specs::Files::constraint_from))]
+fn constraint_from(
+    alloc: Global,
+    schema: &Schema,
+    before: &[Constraint],
+    line: &[u8],
+) -> Result<Constraint, Stop>
+    requires well_formed { IsWellFormed schema.now }
+    requires few_names { HaveFewNames schema.now.columns }
+    requires accepted { AreConstraints schema.now before.now }
+    ensures answers { Answers result (constraint_from schema.now before.now line.now) }
+    ensures accepted { IfOk result (λ c. AreConstraints schema.now (before.now ++ c ∷ [])) }
+{
+    let line = line_from(alloc, line)?;
+    constraint_of(alloc, schema, before, line)
+}
+
+// The line that the text spells.
+#[tactic(auto, using(crate::proofs::ReadTexts::line_steps), unfolding(crate::specs::Files::line_from))]
+fn line_from(alloc: Global, text: &[u8]) -> Result<Line, Stop>
+    ensures answers { Answers result (line_from text.now) }
+    ensures named { IfOk result (λ line. is_name line.name ≡ true) }
+{
+    let tokens = read_tokens(alloc, text)?;
+    read_line(alloc, tokens.as_slice())
+}
+
+#[tactic(auto, unfolding(crate::specs::Files::question_from))]
+fn question_from(alloc: Global, text: &[u8]) -> Result<Question, Stop>
+    ensures { Answers result (question_from text.now) }
+{
+    let tokens = read_tokens(alloc, text)?;
+    read_question(alloc, tokens.as_slice())
+}
+
+#[tactic(auto, unfolding(crate::specs::Files::query_from))]
+fn query_from(alloc: Global, schema: &Schema, text: &[u8]) -> Result<Query, Stop>
+    requires well_formed { IsWellFormed schema.now }
+    requires few_names { HaveFewNames schema.now.columns }
+    ensures answers { Answers result (query_from schema.now text.now) }
+    ensures accepted { IfOk result (IsQuery schema.now) }
+{
+    let question = question_from(alloc, text)?;
+    query_of(alloc, schema, &question)
+}
+
+#[tactic(auto, unfolding(crate::specs::Files::without_return))]
+fn without_return(line: &[u8]) -> &[u8]
+    ensures { result.now ≡ without_return line.now }
+{
+    match line {
+        [front @ .., b'\r'] => front,
+        _ => line,
+    }
+}
+
+// Whether the line has blanks alone, or `#` as its first other byte.
+#[tactic(auto, using(crate::proofs::Lines::blanks))]
+fn is_passed_over(line: &[u8]) -> bool
+    ensures { result ≡ is_passed_over line.now }
+{
+    for byte in line {
+        if !is_blank(*byte) {
+            return *byte == b'#';
+        }
+    }
+    true
+}
+
+fn is_blank(byte: u8) -> bool
+    ensures { result ≡ is_blank byte }
+{
+    byte == b' ' || byte == b'\t'
+}

@@ -1,0 +1,126 @@
+ghost use Rattle.std.specs.Prelude.{◌≡◌, ◌++◌, ◌∷◌, [], true, IfOk};
+ghost use Rattle.std.specs.Char.{is_ascii_digit};
+ghost use Rattle.std.specs.List.{list_all};
+ghost use Rattle.pc_model.specs.Accepted.{AreConstraints};
+ghost use Rattle.pc_model.specs.Refusals.{Answers};
+ghost use Rattle.pc_model.specs.Texts.{is_name};
+ghost use Rattle.pc_model.specs.WellFormed.{IsWellFormed, HaveFewNames};
+ghost use Rattle.pc_lang.specs.Meaning.{at_most_limit, constraint_of, count_of, has_name, in_order, new_constraint};
+
+use crate::part::region_of;
+use pc_list::Text;
+use pc_model::{Constraint, Reason, Region, Schema, Stop, read_number};
+use pc_syntax::Line;
+use std::alloc::Global;
+
+#[cfg(test)]
+mod tests;
+
+const MOST_CONSTRAINTS: usize = 20;
+
+const MOST_ROWS: u64 = 10_000_000;
+
+/// The constraint that a line stands for, after those before it.
+#[tactic(auto, using(crate::proofs::AcceptedLines::line_is_accepted))]
+pub(crate) fn constraint_of(
+    alloc: Global,
+    schema: &Schema,
+    before: &[Constraint],
+    line: Line,
+) -> Result<Constraint, Stop>
+    requires well_formed { IsWellFormed schema.now }
+    requires few_names { HaveFewNames schema.now.columns }
+    ensures answers { Answers result (constraint_of schema.now before.now line) }
+    ensures accepted { IfOk result (λ c. AreConstraints schema.now before.now → is_name line.name ≡ true → AreConstraints schema.now (before.now ++ c ∷ [])) }
+{
+    checked_constraint(alloc, schema, before, line)
+}
+
+#[tactic(auto, unfolding(crate::specs::Meaning::constraint_of))]
+fn checked_constraint(
+    alloc: Global,
+    schema: &Schema,
+    before: &[Constraint],
+    line: Line,
+) -> Result<Constraint, Stop>
+    requires well_formed { IsWellFormed schema.now }
+    requires few_names { HaveFewNames schema.now.columns }
+    ensures { Answers result (constraint_of schema.now before.now line) }
+{
+    if MOST_CONSTRAINTS <= before.len() {
+        return Err(Stop::Reason(Reason::TooMany));
+    }
+    if has_name(before, line.name.as_bytes()) {
+        return Err(Stop::Reason(Reason::RepeatedName));
+    }
+    new_constraint(alloc, schema, line)
+}
+
+fn has_name(constraints: &[Constraint], name: &[u8]) -> bool
+    ensures { result ≡ has_name constraints.now name.now }
+{
+    constraints
+        .iter()
+        .any(|constraint| constraint.name.as_bytes() == name)
+}
+
+#[tactic(auto, unfolding(crate::specs::Meaning::new_constraint))]
+fn new_constraint(alloc: Global, schema: &Schema, line: Line) -> Result<Constraint, Stop>
+    requires well_formed { IsWellFormed schema.now }
+    requires few_names { HaveFewNames schema.now.columns }
+    ensures { Answers result (new_constraint schema.now line) }
+{
+    let when = region_of(alloc, schema, &line.when)?;
+    let values = region_of(alloc, schema, &line.values)?;
+    let least = count_of(line.least.as_slice())?;
+    let most = count_of(line.most.as_slice())?;
+    Ok(in_order(line.name, when, values, least, most)?)
+}
+
+fn in_order(
+    name: Text,
+    when: Region,
+    values: Region,
+    least: u64,
+    most: u64,
+) -> Result<Constraint, Reason>
+    ensures { result ≡ in_order name when values least most }
+{
+    if most < least {
+        return Err(Reason::LeastOverMost);
+    }
+    Ok(Constraint {
+        name,
+        when,
+        values,
+        least,
+        most,
+    })
+}
+
+// A number of rows is spelled by digits alone.
+#[tactic(auto, unfolding(crate::specs::Meaning::count_of))]
+fn count_of(text: &[u8]) -> Result<u64, Reason>
+    ensures { result ≡ count_of text.now }
+{
+    if !are_digits(text) {
+        return Err(Reason::BadNumber);
+    }
+    let number = read_number(text, 0)?;
+    at_most_limit(number.unsigned_abs())
+}
+
+fn are_digits(text: &[u8]) -> bool
+    ensures { result ≡ list_all is_ascii_digit text.now }
+{
+    text.iter().all(|byte| byte.is_ascii_digit())
+}
+
+fn at_most_limit(rows: u64) -> Result<u64, Reason>
+    ensures { result ≡ at_most_limit rows }
+{
+    if MOST_ROWS < rows {
+        return Err(Reason::PastLimit);
+    }
+    Ok(rows)
+}

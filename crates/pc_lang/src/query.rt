@@ -1,0 +1,109 @@
+ghost use Rattle.std.specs.Prelude.{◌≡◌, ◌≤◌, length, IfOk};
+ghost use Rattle.pc_model.specs.Accepted.{IsQuery};
+ghost use Rattle.pc_model.specs.Refusals.{Answers};
+ghost use Rattle.pc_model.specs.WellFormed.{IsWellFormed, HaveFewNames};
+ghost use Rattle.pc_lang.specs.Meaning.{chosen_of, grouping_of, has_names, is_numeric, measured, numeric_place, names_place, query_of};
+
+use crate::part::region_of;
+use pc_list::Text;
+use pc_model::{Agg, Kind, Query, Reason, Region, Schema, Stop};
+use pc_syntax::{Measure, Part, Question};
+use std::alloc::Global;
+
+/// The query that a question stands for.
+#[tactic(auto, using(crate::proofs::AcceptedQuestions::question_is_query))]
+pub(crate) fn query_of(alloc: Global, schema: &Schema, question: &Question) -> Result<Query, Stop>
+    requires well_formed { IsWellFormed schema.now }
+    requires few_names { HaveFewNames schema.now.columns }
+    ensures answers { Answers result (query_of schema.now question.now) }
+    ensures well_formed { IfOk result (IsQuery schema.now) }
+{
+    checked_query(alloc, schema, question)
+}
+
+#[tactic(auto, using(crate::proofs::Places::few_columns), unfolding(crate::specs::Meaning::query_of))]
+fn checked_query(alloc: Global, schema: &Schema, question: &Question) -> Result<Query, Stop>
+    requires well_formed { IsWellFormed schema.now }
+    requires few_names { HaveFewNames schema.now.columns }
+    ensures { Answers result (query_of schema.now question.now) }
+{
+    let (agg, column) = measured(schema, &question.measure)?;
+    let chosen = chosen_of(alloc, schema, &question.chosen)?;
+    let group = grouping_of(schema, &question.group)?;
+    Ok(Query {
+        agg,
+        column,
+        chosen,
+        group,
+    })
+}
+
+#[tactic(auto, unfolding(crate::specs::Meaning::measured))]
+fn measured(schema: &Schema, measure: &Measure) -> Result<(Agg, Option<u8>), Reason>
+    requires { length schema.now.columns ≤ 12 }
+    ensures { result ≡ measured schema.now measure.now }
+{
+    let (agg, name) = match measure {
+        Measure::Count | Measure::CountOfAll => return Ok((Agg::Count, None)),
+        Measure::Sum(name) => (Agg::Sum, name),
+        Measure::Min(name) => (Agg::Min, name),
+        Measure::Max(name) => (Agg::Max, name),
+        Measure::Avg(name) => (Agg::Avg, name),
+    };
+    Ok((agg, Some(numeric_place(schema, name.as_bytes())?)))
+}
+
+// The place of the column of numbers of this name.
+#[tactic(auto, using(crate::proofs::Places::steps))]
+fn numeric_place(schema: &Schema, name: &[u8]) -> Result<u8, Reason>
+    requires { length schema.now.columns ≤ 12 }
+    ensures { result ≡ numeric_place schema.now name.now }
+{
+    for (place, column) in schema.columns.as_slice().iter().enumerate() {
+        if column.name.as_bytes() == name {
+            return match column.kind {
+                Kind::Int { .. } | Kind::Dec { .. } => Ok(place as u8),
+                Kind::Cat { .. } => Err(Reason::WrongKind),
+            };
+        }
+    }
+    Err(Reason::UnknownColumn)
+}
+
+// The place of the column of names of this name.
+#[tactic(auto, using(crate::proofs::Places::steps))]
+fn names_place(schema: &Schema, name: &[u8]) -> Result<u8, Reason>
+    requires { length schema.now.columns ≤ 12 }
+    ensures { result ≡ names_place schema.now name.now }
+{
+    for (place, column) in schema.columns.as_slice().iter().enumerate() {
+        if column.name.as_bytes() == name {
+            return match column.kind {
+                Kind::Int { .. } | Kind::Dec { .. } => Err(Reason::WrongKind),
+                Kind::Cat { .. } => Ok(place as u8),
+            };
+        }
+    }
+    Err(Reason::UnknownColumn)
+}
+
+fn chosen_of(alloc: Global, schema: &Schema, part: &Option<Part>) -> Result<Region, Stop>
+    requires well_formed { IsWellFormed schema.now }
+    requires few_names { HaveFewNames schema.now.columns }
+    ensures { Answers result (chosen_of schema.now part.now) }
+{
+    match part {
+        Some(part) => region_of(alloc, schema, part),
+        None => schema.whole(alloc).map_err(|_| Stop::Memory),
+    }
+}
+
+fn grouping_of(schema: &Schema, name: &Option<Text>) -> Result<Option<u8>, Reason>
+    requires { length schema.now.columns ≤ 12 }
+    ensures { result ≡ grouping_of schema.now name.now }
+{
+    match name {
+        Some(name) => Ok(Some(names_place(schema, name.as_bytes())?)),
+        None => Ok(None),
+    }
+}

@@ -1,0 +1,24 @@
+use Rattle.std.proofs.lemmas.Result.{err_from_is_err_and}
+use Rattle.pc_model.specs.declared.fault.FileKind.TheVariants as kinds
+use Rattle.pc_run.specs.Outcome.{bytes_under, apart_of, apart_under}
+use Rattle.pc_run.proofs.Files.{agrees_read, agrees_refused, agrees_stopped}
+use Rattle.pc_run.proofs.loading.load_apart.Goals as goal
+
+pub returns-in_err-bytes-clause-agrees : goal.returns-in_err-bytes-clause-agrees
+unfolding apart_under
+returns-in_err-bytes-clause-agrees g c =
+    let p = err_from_is_err_and c.from_residual.result c.from_residual.ensures.1 in
+    rw (p.1, p.2) (agrees_stopped (apart_of c.args.schema.now) kinds.Constraints (g.F.Shelf.files c.args.files.now) (bytes_under kinds.Constraints c.args.name.now) c.in_err-bytes.field-0.0 c.in_err-bytes.ensures.agrees)
+
+pub returns-in_err-read_apart-clause-agrees : goal.returns-in_err-read_apart-clause-agrees
+unfolding apart_under
+returns-in_err-read_apart-clause-agrees g c =
+    let p = err_from_is_err_and c.from_residual-in_err-read_apart.result c.from_residual-in_err-read_apart.ensures.1 in
+    let gives = rw c.as_slice.ensures at c.in_err-read_apart.ensures.gives in
+    rw (p.1, p.2) (agrees_refused (apart_of c.args.schema.now) kinds.Constraints (g.F.Shelf.files c.args.files.now) (bytes_under kinds.Constraints c.args.name.now) c.in_ok-bytes.bytes c.in_err-read_apart.field-0.0 c.in_ok-bytes.ensures.agrees gives)
+
+pub returns-clause-agrees : goal.returns-clause-agrees
+unfolding apart_under
+returns-clause-agrees g c =
+    let gives = rw c.as_slice.ensures at c.in_ok-read_apart.ensures.gives in
+    agrees_read (apart_of c.args.schema.now) kinds.Constraints (g.F.Shelf.files c.args.files.now) (bytes_under kinds.Constraints c.args.name.now) c.in_ok-bytes.bytes c.in_ok-read_apart.field-0 c.in_ok-bytes.ensures.agrees gives

@@ -1,0 +1,53 @@
+ghost use Rattle.std.specs.Prelude.{◌≡◌, ◌↔◌, All, IfOk, IsTrue};
+ghost use Rattle.pc_model.specs.Accepted.{AreConstraints};
+ghost use Rattle.pc_model.specs.Boxes.{IsServable};
+ghost use Rattle.pc_model.specs.Membership.{AreDisjoint};
+ghost use Rattle.pc_run.specs.Replies.{IsShowable, SaysListing};
+ghost use Rattle.pc_run.specs.Reports.{disjoint_line, listing_of};
+
+use crate::listing::Listing;
+use pc_count::find_overlap;
+use pc_lang::put_constraints;
+use pc_model::{Constraint, Schema};
+use pc_num::Memory;
+use std::alloc::Global;
+
+/// The text of constraints, and whether no two of them speak of one row.
+pub(crate) fn report_listing(alloc: Global, listing: &Listing) -> Result<Vec<u8>, Memory>
+    requires { IsShowable listing.now }
+    ensures { IfOk result (λ text. SaysListing listing.now text.items) }
+{
+    let disjoint = are_disjoint(&listing.schema, listing.constraints.as_slice());
+    text_of(alloc, listing, disjoint)
+}
+
+#[tactic(auto, unfolding(crate::specs::Reports::listing_of))]
+fn text_of(alloc: Global, listing: &Listing, disjoint: bool) -> Result<Vec<u8>, Memory>
+    requires { IsShowable listing.now }
+    ensures { IfOk result (λ text. text.items ≡ listing_of listing.now disjoint) }
+{
+    let mut text = Vec::new(alloc);
+    let constraints = listing.constraints.as_slice();
+    put_constraints(alloc, &listing.schema, &mut text, constraints)?;
+    text.extend_from_slice(disjoint_line(disjoint).as_bytes())?;
+    Ok(text)
+}
+
+fn disjoint_line(disjoint: bool) -> &'static str
+    ensures { result.now ≡ disjoint_line disjoint }
+{
+    if disjoint {
+        "disjoint yes\n"
+    } else {
+        "disjoint no\n"
+    }
+}
+
+/// Whether no two constraints speak of one row of the domain.
+#[tactic(auto, using(crate::proofs::Disjoint::steps))]
+fn are_disjoint(schema: &Schema, constraints: &[Constraint]) -> bool
+    requires { All (IsServable schema.now) constraints.now }
+    ensures { IsTrue result ↔ AreDisjoint schema.now constraints.now }
+{
+    find_overlap(schema, constraints).is_none()
+}

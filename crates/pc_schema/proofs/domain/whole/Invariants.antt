@@ -1,6 +1,0 @@
-use Rattle.std.proofs.Common.{◌≡◌, map, take}
-use Rattle.pc_schema.proofs.WholeDomain.{side_of_column}
-use Rattle.pc_schema.proofs.domain.whole.Given as goal
-
-abbrev pub invariant-loop-column : goal.invariant-loop-column
-invariant-loop-column l = l.sides ≡ map side_of_column (take l.column-index l.schema.columns)

@@ -1,0 +1,18 @@
+//! The grammar of the constraint language: what lists of tokens are a constraint's line or a query.
+#![tactic(auto)]
+
+mod claim;
+mod law;
+mod line;
+mod part;
+mod question;
+mod spell;
+mod syntax;
+#[cfg(test)]
+mod tests;
+
+pub use law::{lines_follow_the_grammar, questions_follow_the_grammar};
+pub use line::read_line;
+pub use question::read_question;
+pub use spell::{spell_line, spell_question};
+pub use syntax::{Atom, Claim, Line, Measure, Part, Question};

@@ -1,0 +1,64 @@
+use pc_list::{Seq, Text};
+
+/// What an atom says of its column. Numbers are texts, which the column's scale gives their values.
+#[derive(Clone, Debug, PartialEq, Eq, Drop)]
+pub enum Claim {
+    /// `= NUMBER`
+    Number(Seq<u8>),
+    /// `= NAME`
+    Name(Text),
+    /// `>= NUMBER`
+    AtLeast(Seq<u8>),
+    /// `<= NUMBER`
+    AtMost(Seq<u8>),
+    /// `> NUMBER`
+    Above(Seq<u8>),
+    /// `< NUMBER`
+    Below(Seq<u8>),
+    /// `in LOW..HIGH`
+    Within { low: Seq<u8>, high: Seq<u8> },
+    /// `in {FIRST, OTHER, ..}`
+    Among { first: Text, others: Seq<Text> },
+}
+
+/// A condition on one column.
+#[derive(Clone, Debug, PartialEq, Eq, Drop)]
+pub struct Atom {
+    pub column: Text,
+    pub claim: Claim,
+}
+
+/// Atoms that all hold: joined by `and`, or `true` where there is none.
+#[derive(Clone, Debug, PartialEq, Eq, Drop)]
+pub struct Part {
+    pub atoms: Seq<Atom>,
+}
+
+/// A line of a constraint: `NAME: WHEN => VALUES, LEAST..MOST`.
+#[derive(Clone, Debug, PartialEq, Eq, Drop)]
+pub struct Line {
+    pub name: Text,
+    pub when: Part,
+    pub values: Part,
+    pub least: Seq<u8>,
+    pub most: Seq<u8>,
+}
+
+/// What a query measures. A number of rows is spelled `count` or `count(*)`.
+#[derive(Clone, Debug, PartialEq, Eq, Drop)]
+pub enum Measure {
+    Count,
+    CountOfAll,
+    Sum(Text),
+    Min(Text),
+    Max(Text),
+    Avg(Text),
+}
+
+/// A query: `MEASURE where PART group by COLUMN`, in which the last two may be left out.
+#[derive(Clone, Debug, PartialEq, Eq, Drop)]
+pub struct Question {
+    pub measure: Measure,
+    pub chosen: Option<Part>,
+    pub group: Option<Text>,
+}

@@ -1,0 +1,15 @@
+pub mod Doubling
+pub mod Words
+pub mod Reading
+pub mod Quotes
+pub mod Doubled
+pub mod Fronts
+pub mod ReadingBack
+pub mod Writing
+pub mod Numbers
+pub mod ScaledTexts
+pub mod Spelled
+pub mod TokensBack
+pub mod TextBytes
+pub mod TextSizes
+pub mod FirstBytes

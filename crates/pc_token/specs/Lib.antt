@@ -1,0 +1,4 @@
+pub mod Spelling
+pub mod Lexing
+pub mod Front
+pub mod Texts
