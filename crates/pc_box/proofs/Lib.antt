@@ -1,0 +1,11 @@
+pub mod Bools
+pub mod CommonRows
+pub mod CutRows
+pub mod Likeness
+pub mod Places
+pub mod RestRows
+pub mod RestSteps
+pub mod Rows
+pub mod Schemas
+pub mod SideRest
+pub mod SideRows
