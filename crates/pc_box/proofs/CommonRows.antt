@@ -6,7 +6,8 @@ use Rattle.pc_model.specs.declared.row.Row.{Row}
 use Rattle.pc_model.specs.declared.region.Side.{Side}
 use Rattle.pc_model.specs.declared.region.Region.{Region}
 use Rattle.pc_model.specs.Membership.{has}
-use Rattle.pc_box.specs.Boxes.{AreAlike, IsApart}
+use Rattle.pc_model.specs.CutTrees.{IsApart}
+use Rattle.pc_box.specs.Boxes.{AreAlike}
 use Rattle.pc_box.specs.Sides.{regions_meet, common_side, common_sides, common_region}
 use Rattle.pc_box.proofs.Rows.{all_like_common, all_held_common, apart_from_test}
 

@@ -1,7 +1,8 @@
 -- The parts of a cut: that its column is there, and their rows.
 use Rattle.std.proofs.Common.{◌≡◌, ℕ, zero, suc, ◌<◌, ◌&&◌, not, nat_lt, int_le, int_lt, Bool, true, false, ℤ, pos, ◌≤ℤ◌, ◌<ℤ◌, ◌+ℤ◌, List, [], ◌∷◌, length, get_or, set, Option, Some, None, slice_get, refl, sym, ◌∙◌, ap, true≢false, arith}
+use Rattle.std.specs.Int.{int_min, int_max}
 use Rattle.std.specs.Int.Bits.{bit_and}
-use Rattle.std.proofs.lemmas.Int.{ints}
+use Rattle.std.proofs.lemmas.Int.{ints, clamps}
 use Rattle.std.proofs.Math.Bool.{and_assoc}
 use Rattle.std.proofs.lemmas.Bool.{and_parts, and_from}
 use Rattle.std.proofs.lemmas.Option.{slice_get_within, get_or_from_slice_get}
@@ -14,12 +15,13 @@ use Rattle.pc_model.specs.declared.tree.Cut.TheVariants.{At, Among}
 use Rattle.pc_model.specs.Membership.{holds, has, is_between}
 use Rattle.pc_model.proofs.Between.{le_from_test, test_from_le, between_parts, between_from}
 use Rattle.pc_box.specs.Boxes.{are_like, AreAlike, IsBox}
-use Rattle.pc_box.specs.Sides.{places_outside}
-use Rattle.pc_box.specs.Cuts.{column_of, takes, is_first, divides_side, divides_found, Divides, first_side, second_side, side_at, first_part, second_part}
+use Rattle.pc_model.specs.Places.{places_outside}
+use Rattle.pc_model.specs.CutTrees.{column_of, first_side, second_side, side_at, first_part, second_part, IsProper}
+use Rattle.pc_box.specs.Cuts.{takes, is_first, divides_side, divides_found, Divides}
 use Rattle.pc_box.proofs.Places.{shared_place, outside_place}
 use Rattle.pc_box.proofs.Bools.{same_tests, and_last}
-use Rattle.pc_box.proofs.Likeness.{are_all_like}
-use Rattle.pc_box.proofs.Rows.{all_held}
+use Rattle.pc_box.proofs.Likeness.{are_all_like, IsBox-from_alike}
+use Rattle.pc_box.proofs.Rows.{all_held, row_of_box}
 
 -- ---- the column of a cut that divides
 
@@ -45,15 +47,22 @@ pub ruleset inside = (column_inside, side_divided)
 
 -- ---- the numbers of the parts of a side
 
+-- the lesser of a greater number and this one, and the greater of a lesser one
+min_is : (high at : ℤ) → at <ℤ high → int_min high at ≡ at
+min_is high at below = omega (arith, ints, clamps)
+
+max_is : (low next : ℤ) → low ≤ℤ next → int_max low next ≡ next
+max_is low next above = omega (arith, ints, clamps)
+
 first_held : (at : Cut) (side : Side) (n : ℤ) → divides_side at side ≡ true → holds (first_side at side) n ≡ (holds side n && takes at n)
 unfolding holds first_side divides_side
 first_held (At column at) (Span low high) n h =
     let p = and_parts (int_le low at) (int_lt at high) h in
     let below : at <ℤ high = grind (arith, ints, p.1) in
-    same_tests _ _
+    rw (min_is high at below) (same_tests _ _
     (λ held. let q = between_parts low at n held in and_from _ _ (between_from low high n q.0 (omega (arith, ints))) (test_from_le n at q.1))
     (λ both. let q = and_parts (is_between low high n) (int_le n at) both in
-    between_from low at n (between_parts low high n q.0).0 (le_from_test n at q.1))
+    between_from low at n (between_parts low high n q.0).0 (le_from_test n at q.1)))
 first_held (At column at) (Names held) n h = absurd (true≢false (sym h))
 first_held (Among column bits) (Span low high) n h = absurd (true≢false (sym h))
 first_held (Among column bits) (Names held) n h = shared_place held bits n
@@ -63,13 +72,14 @@ unfolding holds second_side divides_side
 second_held (At column at) (Span low high) n h =
     let p = and_parts (int_le low at) (int_lt at high) h in
     let above = le_from_test low at p.0 in
-    same_tests _ _
+    let next : low ≤ℤ (at +ℤ pos 1) = omega (arith, ints) in
+    rw (max_is low (at +ℤ pos 1) next) (same_tests _ _
     (λ held. let q = between_parts (at +ℤ pos 1) high n held in
     let past : int_le n at ≡ false = grind (arith, ints, q.0) in
     and_from _ _ (between_from low high n (omega (arith, ints)) q.1) (ap not past))
     (λ both. let q = and_parts (is_between low high n) (not (int_le n at)) both in
     let r = between_parts low high n q.0 in
-    between_from (at +ℤ pos 1) high n (past_end (int_le n at) refl q.1) r.1)
+    between_from (at +ℤ pos 1) high n (past_end (int_le n at) refl q.1) r.1))
   where
     past_end : (test : Bool) → int_le n at ≡ test → not test ≡ true → (at +ℤ pos 1) ≤ℤ n
     past_end true e f = absurd (true≢false (sym f))
@@ -81,7 +91,9 @@ second_held (Among column bits) (Names held) n h = outside_place held bits n
 first_like : (at : Cut) (side : Side) → divides_side at side ≡ true → are_like side side ≡ true → are_like side (first_side at side) ≡ true
 unfolding first_side divides_side
 first_like (At column at) (Span low high) h k =
-    and_from (int_le low high) (int_le low at) (and_parts (int_le low high) (int_le low high) k).0 (and_parts (int_le low at) (int_lt at high) h).0
+    let p = and_parts (int_le low at) (int_lt at high) h in
+    let below : at <ℤ high = grind (arith, ints, p.1) in
+    rw (min_is high at below) (and_from (int_le low high) (int_le low at) (and_parts (int_le low high) (int_le low high) k).0 p.0)
 first_like (At column at) (Names held) h k = absurd (true≢false (sym h))
 first_like (Among column bits) (Span low high) h k = absurd (true≢false (sym h))
 first_like (Among column bits) (Names held) h k =
@@ -91,9 +103,12 @@ first_like (Among column bits) (Names held) h k =
 second_like : (at : Cut) (side : Side) → divides_side at side ≡ true → are_like side side ≡ true → are_like side (second_side at side) ≡ true
 unfolding second_side divides_side
 second_like (At column at) (Span low high) h k =
-    let below = (and_parts (int_le low at) (int_lt at high) h).1 in
+    let p = and_parts (int_le low at) (int_lt at high) h in
+    let below = p.1 in
+    let above = le_from_test low at p.0 in
+    let next : low ≤ℤ (at +ℤ pos 1) = omega (arith, ints) in
     let some : int_le (at +ℤ pos 1) high ≡ true = grind (arith, ints, below) in
-    and_from (int_le low high) (int_le (at +ℤ pos 1) high) (and_parts (int_le low high) (int_le low high) k).0 some
+    rw (max_is low (at +ℤ pos 1) next) (and_from (int_le low high) (int_le (at +ℤ pos 1) high) (and_parts (int_le low high) (int_le low high) k).0 some)
 second_like (At column at) (Names held) h k = absurd (true≢false (sym h))
 second_like (Among column bits) (Span low high) h k = absurd (true≢false (sym h))
 second_like (Among column bits) (Names held) h k =
@@ -156,3 +171,11 @@ module _ (a : Region) (at : Cut) (divided : Divides a at) where
 
   pub second_alike : (part : Region) → IsBox a → part ≡ second_part a at → AreAlike a part
   second_alike part filled e = rw e (second_part_alike filled)
+
+  -- a cut that divides a box is proper
+  pub IsProper-from_divides : IsBox a → IsProper a at
+  IsProper-from_divides filled = record {
+    there = column_inside a at divided;
+    first = row_of_box (first_part a at) (IsBox-from_alike a (first_part a at) (first_part_alike filled));
+    second = row_of_box (second_part a at) (IsBox-from_alike a (second_part a at) (second_part_alike filled));
+  }

@@ -3,6 +3,7 @@ pub mod CommonRows
 pub mod CutRows
 pub mod Likeness
 pub mod Places
+pub mod Proper
 pub mod RestRows
 pub mod RestSteps
 pub mod Rows

@@ -3,8 +3,7 @@ use Rattle.std.proofs.Common.{◌≡◌, ℕ, zero, suc, ◌+◌, ◌/◌, ◌%�
 use Rattle.std.specs.Int.{bit_at}
 use Rattle.std.specs.Int.Bits.{bit_and}
 use Rattle.std.proofs.lemmas.Nat.Bits.{bit_at_and, bit_at_xor, bit_at-lt, bit_at-suc, bit_at_lowest, bit_at-zero}
-use Rattle.pc_model.specs.Places.{is_place_of}
-use Rattle.pc_box.specs.Sides.{places_outside}
+use Rattle.pc_model.specs.Places.{is_place_of, places_outside}
 
 shared_bit : (x y z : ℕ) → x < 2 → y < 2 → z ≡ min x y → (z == 1) ≡ ((x == 1) && (y == 1))
 shared_bit zero zero z p q e = rw e refl

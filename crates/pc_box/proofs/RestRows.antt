@@ -9,7 +9,8 @@ use Rattle.pc_model.specs.declared.row.Row.{Row}
 use Rattle.pc_model.specs.declared.region.Side.{Side}
 use Rattle.pc_model.specs.declared.region.Region.{Region}
 use Rattle.pc_model.specs.Membership.{holds, has}
-use Rattle.pc_box.specs.Boxes.{are_like, AreAlike, IsApart}
+use Rattle.pc_model.specs.CutTrees.{IsApart}
+use Rattle.pc_box.specs.Boxes.{are_like, AreAlike}
 use Rattle.pc_box.specs.Sides.{sides_meet, regions_meet, common_side, lower_rest, upper_rest, box_with, rest_after, rest_of}
 use Rattle.pc_box.proofs.Likeness.{are_all_like, all_like_itself, like_append}
 use Rattle.pc_box.proofs.SideRows.{like_common, holds_common}

@@ -6,7 +6,8 @@ use Rattle.pc_model.specs.declared.row.Row.{Row}
 use Rattle.pc_model.specs.declared.region.Side.{Side}
 use Rattle.pc_model.specs.declared.region.Region.{Region}
 use Rattle.pc_model.specs.Membership.{holds, has, row_from}
-use Rattle.pc_box.specs.Boxes.{are_like, AreAlike, IsBox, IsInside, IsApart}
+use Rattle.pc_model.specs.CutTrees.{IsInside, IsApart}
+use Rattle.pc_box.specs.Boxes.{are_like, AreAlike, IsBox}
 use Rattle.pc_box.specs.Sides.{sides_meet, regions_meet, is_within, region_within, common_side, common_sides}
 use Rattle.pc_box.proofs.Bools.{and_crossed}
 use Rattle.pc_box.proofs.Likeness.{are_all_like, all_like_turned}

@@ -15,8 +15,10 @@ use Rattle.pc_model.specs.declared.region.Region.{Region}
 use Rattle.pc_model.specs.Regions.{is_side_of, is_span_in, is_set_in, is_region_of}
 use Rattle.pc_model.specs.Membership.{has, row_from}
 use Rattle.pc_model.proofs.Between.{le_from_test, test_from_le}
-use Rattle.pc_box.specs.Boxes.{are_like, AreAlike, IsBox, IsInside}
-use Rattle.pc_box.specs.Sides.{places_outside, is_within}
+use Rattle.pc_model.specs.CutTrees.{IsInside}
+use Rattle.pc_box.specs.Boxes.{are_like, AreAlike, IsBox}
+use Rattle.pc_model.specs.Places.{places_outside}
+use Rattle.pc_box.specs.Sides.{is_within}
 use Rattle.pc_box.proofs.Likeness.{all_like_turned}
 use Rattle.pc_box.proofs.Rows.{within_all}
 

@@ -11,7 +11,8 @@ use Rattle.pc_model.specs.Places.{is_place_of}
 use Rattle.pc_model.specs.Regions.{meet_sides, span_unless_empty, set_unless_empty}
 use Rattle.pc_model.proofs.Between.{le_from_test, test_from_le, between_parts, between_from}
 use Rattle.pc_box.specs.Boxes.{are_like}
-use Rattle.pc_box.specs.Sides.{places_outside, sides_meet, lower_rest, upper_rest, span_below, span_above}
+use Rattle.pc_model.specs.Places.{places_outside}
+use Rattle.pc_box.specs.Sides.{sides_meet, lower_rest, upper_rest, span_below, span_above}
 use Rattle.pc_box.proofs.Places.{outside_place, some_from_place}
 use Rattle.pc_box.proofs.Bools.{same_tests, counted, above_zero}
 
@@ -54,7 +55,7 @@ set_held bits n = by_test (bits == 0) refl
     by_test true e = sym (false_from_ne_true (is_place_of bits n) (λ held. absurd (omega (arith, some_from_place bits n held, eqb-true bits 0 e))))
     by_test false e = refl
 
-some_span : (low high : ℤ) → is_some (span_unless_empty low high) ≡ true → low ≤ℤ high
+pub some_span : (low high : ℤ) → is_some (span_unless_empty low high) ≡ true → low ≤ℤ high
 some_span low high h = by_test (int_lt high low) refl h
   where
     by_test : (test : Bool) → int_lt high low ≡ test → is_some (if test then None else Some (Span low high)) ≡ true → low ≤ℤ high

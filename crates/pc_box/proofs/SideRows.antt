@@ -11,7 +11,8 @@ use Rattle.pc_model.specs.Places.{is_place_of}
 use Rattle.pc_model.specs.Regions.{meet_sides, span_unless_empty, set_unless_empty}
 use Rattle.pc_model.proofs.Between.{le_from_test, test_from_le, between_parts, between_from}
 use Rattle.pc_box.specs.Boxes.{are_like}
-use Rattle.pc_box.specs.Sides.{places_outside, sides_meet, common_side, is_within}
+use Rattle.pc_model.specs.Places.{places_outside}
+use Rattle.pc_box.specs.Sides.{sides_meet, common_side, is_within}
 use Rattle.pc_box.proofs.Bools.{same_tests, above_zero}
 use Rattle.pc_box.proofs.Places.{shared_place, outside_place, some_place, some_from_place}
 

@@ -1,11 +1,9 @@
 -- How the rows of two boxes stand to each other.
 use Rattle.std.specs.Prelude.{◌≡◌, ◌&&◌, int_le, nat_lt, Bool, true, false}
 use Rattle.std.specs.Cmp.Lexicographic.{pointwise}
-use Rattle.pc_model.specs.declared.row.Row.{Row}
 use Rattle.pc_model.specs.declared.region.Side.{Side}
 use Rattle.pc_model.specs.declared.region.Side.TheVariants.{Span, Names}
 use Rattle.pc_model.specs.declared.region.Region.{Region}
-use Rattle.pc_model.specs.Membership.{has}
 
 -- both are spans or both are sets, and each holds some number
 abbrev pub are_like : Side → Side → Bool
@@ -21,11 +19,3 @@ AreAlike a b = pointwise are_like a.sides b.sides ≡ true
 -- a box with no empty side
 abbrev pub IsBox : Region → Type 0
 IsBox a = AreAlike a a
-
--- every row of the first is in the second
-abbrev pub IsInside : Region → Region → Type 0
-IsInside a b = (row : Row) → has a row ≡ true → has b row ≡ true
-
--- no row is in both
-abbrev pub IsApart : Region → Region → Type 0
-IsApart a b = (row : Row) → has a row ≡ true → has b row ≡ true → ⊥

@@ -1,5 +1,5 @@
--- The two parts into which a cut divides a box.
-use Rattle.std.specs.Prelude.{ℕ, ℤ, pos, ◌+ℤ◌, int_le, int_lt, nat_lt, ◌&&◌, Bool, true, false, Option, Some, None, slice_get, slice_index_or, slice_set, ◌≡◌}
+-- The rows that a cut puts into the first part, and the cuts that divide a box.
+use Rattle.std.specs.Prelude.{ℤ, pos, int_le, int_lt, nat_lt, ◌&&◌, Bool, true, false, Option, Some, None, slice_get, slice_index_or, ◌≡◌}
 use Rattle.std.specs.Int.Bits.{bit_and}
 use Rattle.pc_model.specs.declared.row.Row.{Row}
 use Rattle.pc_model.specs.declared.region.Side.{Side}
@@ -7,12 +7,8 @@ use Rattle.pc_model.specs.declared.region.Side.TheVariants.{Span, Names}
 use Rattle.pc_model.specs.declared.region.Region.{Region}
 use Rattle.pc_model.specs.declared.tree.Cut.{Cut}
 use Rattle.pc_model.specs.declared.tree.Cut.TheVariants.{At, Among}
-use Rattle.pc_model.specs.Places.{is_place_of}
-use Rattle.pc_box.specs.Sides.{places_outside}
-
-abbrev pub column_of : Cut → ℕ
-column_of (At column at) = column
-column_of (Among column bits) = column
+use Rattle.pc_model.specs.Places.{is_place_of, places_outside}
+use Rattle.pc_model.specs.CutTrees.{column_of}
 
 -- the cut puts a row with this number into the first part
 abbrev pub takes : Cut → ℤ → Bool
@@ -40,29 +36,3 @@ divides a cut = divides_found cut (slice_get a.sides (column_of cut))
 
 abbrev pub Divides : Region → Cut → Type 0
 Divides a cut = divides a cut ≡ true
-
--- what a cut that divides a side puts into the first part, and into the second
-unfoldable pub first_side : Cut → Side → Side
-first_side (At column at) (Span low high) = Span low at
-first_side (At column at) (Names bits) = Names bits
-first_side (Among column bits) (Span low high) = Span low high
-first_side (Among column bits) (Names held) = Names (bit_and held bits)
-
-unfoldable pub second_side : Cut → Side → Side
-second_side (At column at) (Span low high) = Span (at +ℤ pos 1) high
-second_side (At column at) (Names bits) = Names bits
-second_side (Among column bits) (Span low high) = Span low high
-second_side (Among column bits) (Names held) = Names (places_outside held bits)
-
--- the box with another side at a column
-abbrev pub with_side : Region → ℕ → Side → Region
-with_side a column side = record { sides = slice_set a.sides column side }
-
-abbrev pub side_at : Region → ℕ → Side
-side_at a column = slice_index_or a.sides column (Names 0)
-
-abbrev pub first_part : Region → Cut → Region
-first_part a cut = with_side a (column_of cut) (first_side cut (side_at a (column_of cut)))
-
-abbrev pub second_part : Region → Cut → Region
-second_part a cut = with_side a (column_of cut) (second_side cut (side_at a (column_of cut)))

@@ -1,15 +1,11 @@
 -- Boxes side by side: what two have in common, and what one leaves of the other.
-use Rattle.std.specs.Prelude.{ℕ, ℤ, pos, ◌+ℤ◌, ◌-ℤ◌, int_le, int_lt, ◌&&◌, ◌==◌, Bool, false, if◌then◌else◌, List, [], ◌∷◌, ◌++◌, Option, Some, None, is_some, unwrap_or}
-use Rattle.std.specs.Int.Bits.{bit_and, bit_xor}
+use Rattle.std.specs.Prelude.{ℤ, pos, ◌+ℤ◌, ◌-ℤ◌, int_le, int_lt, ◌&&◌, ◌==◌, Bool, false, if◌then◌else◌, List, [], ◌∷◌, ◌++◌, Option, Some, None, is_some, unwrap_or}
 use Rattle.std.specs.Cmp.Lexicographic.{pointwise}
 use Rattle.pc_model.specs.declared.region.Side.{Side}
 use Rattle.pc_model.specs.declared.region.Side.TheVariants.{Span, Names}
 use Rattle.pc_model.specs.declared.region.Region.{Region}
+use Rattle.pc_model.specs.Places.{places_outside}
 use Rattle.pc_model.specs.Regions.{meet_sides, set_unless_empty}
-
--- the places of a set that are not in another
-abbrev pub places_outside : ℕ → ℕ → ℕ
-places_outside bits other = bit_xor bits (bit_and bits other)
 
 -- whether two sides of one column have a number in common
 abbrev pub sides_meet : Side → Side → Bool

@@ -1,7 +1,8 @@
 ghost use Rattle.std.specs.Prelude.{◌≡◌, ◌&&◌, IfOk, IfSome, MatchOption, length};
 ghost use Rattle.pc_model.specs.Membership.{has};
 ghost use Rattle.pc_model.specs.declared.row.Row.{Row};
-ghost use Rattle.pc_box.specs.Boxes.{AreAlike, IsApart};
+ghost use Rattle.pc_model.specs.CutTrees.{IsApart};
+ghost use Rattle.pc_box.specs.Boxes.{AreAlike};
 ghost use Rattle.pc_box.specs.Sides.{common_region, common_sides};
 
 use crate::compare::regions_meet;

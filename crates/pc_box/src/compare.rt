@@ -1,6 +1,7 @@
 ghost use Rattle.std.specs.Prelude.{◌≡◌, ◌↔◌, IsTrue};
 ghost use Rattle.std.specs.Cmp.Lexicographic.{pointwise};
-ghost use Rattle.pc_box.specs.Boxes.{are_like, AreAlike, IsInside, IsApart};
+ghost use Rattle.pc_model.specs.CutTrees.{IsInside, IsApart};
+ghost use Rattle.pc_box.specs.Boxes.{are_like, AreAlike};
 ghost use Rattle.pc_box.specs.Sides.{regions_meet, region_within};
 
 use crate::sides::{are_like, is_within, sides_meet};

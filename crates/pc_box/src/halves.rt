@@ -2,7 +2,8 @@ ghost use Rattle.std.specs.Prelude.{◌≡◌, ◌<◌, ◌&&◌, ◌↔◌, not
 ghost use Rattle.pc_model.specs.Membership.{has};
 ghost use Rattle.pc_model.specs.declared.row.Row.{Row};
 ghost use Rattle.pc_box.specs.Boxes.{AreAlike, IsBox};
-ghost use Rattle.pc_box.specs.Cuts.{column_of, is_first, divides_side, Divides, first_side, second_side, with_side, first_part, second_part};
+ghost use Rattle.pc_model.specs.CutTrees.{column_of, first_side, second_side, with_side, first_part, second_part};
+ghost use Rattle.pc_box.specs.Cuts.{is_first, divides_side, Divides};
 
 use crate::sides::places_outside;
 use pc_list::Seq;
@@ -31,6 +32,8 @@ pub fn divides(a: &Region, at: &Cut) -> bool
 pub fn cut(alloc: Global, a: &Region, at: &Cut) -> Result<Halves, Memory>
     requires filled { IsBox a.now }
     requires divided { Divides a.now at.now }
+    ensures first_is { IfOk result (λ halves. halves.first ≡ first_part a.now at.now) }
+    ensures second_is { IfOk result (λ halves. halves.second ≡ second_part a.now at.now) }
     ensures first { IfOk result (λ halves. (row : Row) → has halves.first row ≡ (has a.now row && is_first at.now row)) }
     ensures second { IfOk result (λ halves. (row : Row) → has halves.second row ≡ (has a.now row && not (is_first at.now row))) }
     ensures first_alike { IfOk result (λ halves. AreAlike a.now halves.first) }
@@ -74,24 +77,30 @@ fn divides_side(at: &Cut, side: &Side) -> bool
     }
 }
 
-#[tactic(auto, unfolding(crate::specs::Cuts::first_side))]
+#[tactic(auto, unfolding(pc_model::specs::CutTrees::first_side))]
 fn first_side(at: &Cut, side: &Side) -> Side
     ensures { result ≡ first_side at.now side.now }
 {
     match (*at, *side) {
-        (Cut::At { at, .. }, Side::Span { low, .. }) => Side::Span { low, high: at },
+        (Cut::At { at, .. }, Side::Span { low, high }) => Side::Span {
+            low,
+            high: high.min(at),
+        },
         (Cut::Among { bits, .. }, Side::Names { bits: held }) => Side::Names { bits: held & bits },
         (_, side) => side,
     }
 }
 
-#[tactic(auto, unfolding(crate::specs::Cuts::second_side, crate::specs::Cuts::divides_side))]
+#[tactic(auto, unfolding(pc_model::specs::CutTrees::second_side, crate::specs::Cuts::divides_side))]
 fn second_side(at: &Cut, side: &Side) -> Side
     requires { divides_side at.now side.now ≡ true }
     ensures { result ≡ second_side at.now side.now }
 {
     match (*at, *side) {
-        (Cut::At { at, .. }, Side::Span { high, .. }) => Side::Span { low: at + 1, high },
+        (Cut::At { at, .. }, Side::Span { low, high }) => Side::Span {
+            low: low.max(at + 1),
+            high,
+        },
         (Cut::Among { bits, .. }, Side::Names { bits: held }) => Side::Names {
             bits: places_outside(held, bits),
         },

@@ -1,7 +1,8 @@
 ghost use Rattle.std.specs.Prelude.{◌≡◌};
+ghost use Rattle.pc_model.specs.Places.{places_outside};
 ghost use Rattle.pc_model.specs.Regions.{set_unless_empty};
 ghost use Rattle.pc_box.specs.Boxes.{are_like};
-ghost use Rattle.pc_box.specs.Sides.{places_outside, sides_meet, is_within, common_side, span_below, span_above, lower_rest, upper_rest};
+ghost use Rattle.pc_box.specs.Sides.{sides_meet, is_within, common_side, span_below, span_above, lower_rest, upper_rest};
 
 use pc_model::Side;
 

@@ -22,7 +22,8 @@ use Rattle.pc_syntax.specs.declared.syntax.Measure.TheVariants as measures
 use Rattle.pc_syntax.specs.declared.syntax.Question.{Question}
 use Rattle.pc_lang.specs.Meaning.{chosen_of, grouping_of, has_names, is_numeric, measured, names_place, numeric_place, of_column, place_from, query, query_of, some_place}
 use Rattle.pc_lang.proofs.Bound.{bound, granted}
-use Rattle.pc_lang.proofs.RegionsOfParts.{is_region, whole_is_region}
+use Rattle.pc_model.proofs.WholeDomain.{whole_is_region}
+use Rattle.pc_lang.proofs.RegionsOfParts.{is_region}
 
 -- a place among these columns, counted from a number, of a column of such a kind
 abbrev Within : (Kind → Type 0) → ℕ → List Column → ℕ → Type 0

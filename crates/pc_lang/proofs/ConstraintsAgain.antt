@@ -15,7 +15,7 @@ use Rattle.pc_model.specs.Boxes.{IsServable}
 use Rattle.pc_model.specs.WellFormed.{IsSmall, IsWellFormed}
 use Rattle.pc_lang.specs.Canonical.{count_text, line_for}
 use Rattle.pc_lang.specs.Meaning.{constraint_of, count_of, has_name, new_constraint}
-use Rattle.pc_lang.proofs.NamedSets.{AllPairs-head, AllPairs-tail, bytes_eq-other}
+use Rattle.pc_model.proofs.Lists.{AllPairs-head, AllPairs-tail, bytes_eq-other}
 use Rattle.pc_lang.proofs.RegionsAgain.{region_again}
 use Rattle.pc_lang.proofs.SidesAgain.{number_again}
 

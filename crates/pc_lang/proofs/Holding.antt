@@ -1,22 +1,19 @@
 -- A part means that all of its atoms hold.
-use Rattle.std.proofs.Common.{◌≡◌, ◌&&◌, ◌-◌, ◌^◌, ◌==◌, nat_lt, length, ltb-true, ltb-false, Bool, true, false, ℤ, pos, negsuc, List, [], ◌∷◌, map, bytes_eq, Ok, refl, sym, ◌∙◌}
-use Rattle.std.specs.Int.{bit_at}
+use Rattle.std.proofs.Common.{◌≡◌, ◌&&◌, Bool, true, false, ℤ, List, [], ◌∷◌, bytes_eq, Ok, refl, sym, ◌∙◌}
 use Rattle.std.specs.List.{list_all}
 use Rattle.std.specs.Cmp.Lexicographic.{pointwise}
 use Rattle.std.proofs.lemmas.Bool.{and_parts}
-use Rattle.std.proofs.lemmas.Nat.Bits.{bit_at_ones, bit_at_ones_above}
-use Rattle.pc_model.specs.declared.schema.Kind.{Kind}
-use Rattle.pc_model.specs.declared.schema.Kind.TheVariants.{Int, Dec, Cat}
 use Rattle.pc_model.specs.declared.schema.Column.{Column}
 use Rattle.pc_model.specs.declared.region.Side.{Side}
-use Rattle.pc_model.specs.Membership.{allows, has, holds, in_domain}
-use Rattle.pc_model.specs.Regions.{is_side_of, whole_region, whole_side}
+use Rattle.pc_model.specs.Membership.{has, holds, in_domain}
+use Rattle.pc_model.specs.Regions.{is_side_of, whole_region}
 use Rattle.pc_syntax.specs.declared.syntax.Atom.{Atom}
+use Rattle.pc_model.proofs.WholeDomain.{domain_holds, whole_are_sides}
 use Rattle.pc_lang.specs.Holding.{PartsHold, cells_hold, states}
 use Rattle.pc_lang.specs.Parts.{narrowed, narrowed_by, narrowed_side, region, region_of}
 use Rattle.pc_lang.proofs.Bound.{bound}
 use Rattle.pc_lang.proofs.Narrowing.{narrowed_induction}
-use Rattle.pc_lang.proofs.RegionsOfParts.{AreSides, narrowed_are_sides, whole_are_sides}
+use Rattle.pc_lang.proofs.RegionsOfParts.{AreSides, narrowed_are_sides}
 use Rattle.pc_lang.proofs.StatedCells.{left_holds}
 
 and_one : (c : Bool) → c ≡ (c && true)
@@ -59,23 +56,6 @@ atoms_hold columns (atom ∷ rest) sides less e all cells =
     atoms_hold columns rest b.value less b.gives (narrowed_are_sides atom columns sides b.value b.is all) cells
     ∙ rw (narrowed_induction (Narrows atom) atom (here atom) (later atom) columns sides b.value b.is all cells)
     (sym (and_shift (pointwise holds sides cells) (cells_hold columns atom cells) (list_all (λ atom. cells_hold columns atom cells) rest)))
-
-whole_holds : (kind : Kind) (n : ℤ) → holds (whole_side kind) n ≡ allows kind n
-unfolding holds allows
-whole_holds (Int low high) n = refl
-whole_holds (Dec scale low high) n = refl
-whole_holds (Cat names) (pos place) = by_test (nat_lt place (length names)) refl
-  where
-    by_test : (test : Bool) → nat_lt place (length names) ≡ test → (bit_at (2 ^ length names - 1) place == 1) ≡ test
-    by_test true e = rw (bit_at_ones (length names) place (ltb-true place (length names) e)) refl
-    by_test false e = rw (bit_at_ones_above (length names) place (ltb-false place (length names) e)) refl
-whole_holds (Cat names) (negsuc below) = refl
-
-domain_holds : (columns : List Column) (cells : List ℤ) → pointwise holds (map (λ (column : Column). whole_side column.kind) columns) cells ≡ pointwise (λ (column : Column). allows column.kind) columns cells
-domain_holds [] [] = refl
-domain_holds [] (cell ∷ cells) = refl
-domain_holds (column ∷ columns) [] = refl
-domain_holds (column ∷ columns) (cell ∷ cells) = rw (whole_holds column.kind cell, domain_holds columns cells) refl
 
 pub parts_hold : PartsHold
 unfolding region_of has in_domain

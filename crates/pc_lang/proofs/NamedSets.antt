@@ -1,6 +1,6 @@
 -- The names of a set's bits state these bits again.
 use Rattle.std.proofs.Common.{◌≡◌, ◌≢◌, ℕ, zero, suc, ◌+◌, ◌*◌, ◌/◌, ◌^◌, ◌<◌, Bool, true, false, List, [], ◌∷◌, length, get_or, All, AllPairs, pos, refl, sym, ap, ◌∙◌, inl, inr, arith}
-use Rattle.std.specs.Prelude.{bytes_eq, Decides, Ok}
+use Rattle.std.specs.Prelude.{bytes_eq, Ok}
 use Rattle.std.specs.Int.{bit_at}
 use Rattle.std.specs.List.{list_all}
 use Rattle.std.proofs.lemmas.Bool.{and_from, cases_Bool, eqb-true, eqb-false, or_left}
@@ -8,27 +8,11 @@ use Rattle.std.proofs.lemmas.List.Elements.{All-head, All-tail}
 use Rattle.std.proofs.lemmas.List.Folds.{list_any_at}
 use Rattle.std.proofs.lemmas.Nat.{shr-shr, shr_below}
 use Rattle.std.proofs.lemmas.Nat.Bits.{bit_at-lt}
-use Rattle.std.proofs.lemmas.Slice.Eq.{bytes_eq-Decides}
+use Rattle.pc_model.proofs.Lists.{AllPairs-head, AllPairs-tail, bytes_eq-other, bytes_eq-same}
 use Rattle.pc_model.specs.declared.region.Side.TheVariants.{Names}
 use Rattle.pc_model.specs.Places.{is_place_of}
 use Rattle.pc_lang.specs.Claims.{bit_if, bits_of, is_among, set_of, stated_names}
 use Rattle.pc_lang.specs.Canonical.{names_claim, names_from}
-
-pub AllPairs-head : {X : Type 0} (R : X → X → Type 0) (x : X) (xs : List X) → AllPairs R (x ∷ xs) → All (R x) xs
-AllPairs-head R x xs pairs = λ k d inside. pairs 0 (suc k) d (omega arith) (omega arith)
-
-pub AllPairs-tail : {X : Type 0} (R : X → X → Type 0) (x : X) (xs : List X) → AllPairs R (x ∷ xs) → AllPairs R xs
-AllPairs-tail R x xs pairs = λ i j d before inside. pairs (suc i) (suc j) d (omega arith) (omega arith)
-
-pub bytes_eq-same : (text : List ℕ) → bytes_eq text text ≡ true
-bytes_eq-same text = (bytes_eq-Decides text text).1 refl
-
-pub bytes_eq-other : (text name : List ℕ) → text ≢ name → bytes_eq text name ≡ false
-bytes_eq-other text name other = by_test (bytes_eq text name) (bytes_eq-Decides text name)
-  where
-    by_test : (test : Bool) → Decides test (text ≡ name) → test ≡ false
-    by_test true decides = absurd (other (decides.0 refl))
-    by_test false decides = refl
 
 abbrev Differs : List ℕ → List ℕ → Type 0
 Differs a b = a ≢ b

@@ -15,7 +15,7 @@ use Rattle.pc_syntax.specs.declared.syntax.Atom.{Atom}
 use Rattle.pc_lang.specs.Canonical.{atoms_for, group_for, measure_for, name_at, question_for, unless_whole}
 use Rattle.pc_lang.specs.Meaning.{chosen_of, grouping_of, has_names, is_numeric, measured, names_place, numeric_place, place_from, query_of}
 use Rattle.pc_lang.specs.Parts.{narrowed_by, region_of}
-use Rattle.pc_lang.proofs.NamedSets.{AllPairs-head, AllPairs-tail, bytes_eq-other, bytes_eq-same}
+use Rattle.pc_model.proofs.Lists.{AllPairs-head, AllPairs-tail, bytes_eq-other, bytes_eq-same}
 use Rattle.pc_lang.proofs.RegionsAgain.{region_again}
 
 abbrev HaveOwnNames : Column → Column → Type 0

@@ -1,18 +1,16 @@
 -- A part stands for a region of the schema.
-use Rattle.std.proofs.Common.{◌≡◌, true, List, [], ◌∷◌, map, Result, Ok, Err, IfOk, refl, subst}
-use Rattle.std.specs.List.{All}
+use Rattle.std.proofs.Common.{◌≡◌, true, List, [], ◌∷◌, Result, Ok, Err, IfOk, subst}
 use Rattle.std.specs.Cmp.Lexicographic.{pointwise}
 use Rattle.std.proofs.lemmas.Bool.{and_parts, and_from}
-use Rattle.std.proofs.lemmas.List.Elements.{All-head, All-tail}
 use Rattle.pc_model.specs.declared.schema.Column.{Column}
 use Rattle.pc_model.specs.declared.schema.Schema.{Schema}
 use Rattle.pc_model.specs.declared.region.Side.{Side}
 use Rattle.pc_model.specs.declared.region.Region.{Region}
 use Rattle.pc_model.specs.declared.fault.Stop.{Stop}
 use Rattle.pc_model.specs.Refusals.{Answers}
-use Rattle.pc_model.specs.Regions.{is_side_of, is_region_of, whole_side, whole_region}
-use Rattle.pc_model.specs.WellFormed.{IsColumn, IsWellFormed}
-use Rattle.pc_model.proofs.Regions.{whole_is_side}
+use Rattle.pc_model.specs.Regions.{is_side_of, is_region_of, whole_region}
+use Rattle.pc_model.specs.WellFormed.{IsWellFormed}
+use Rattle.pc_model.proofs.WholeDomain.{whole_are_sides}
 use Rattle.pc_syntax.specs.declared.syntax.Atom.{Atom}
 use Rattle.pc_syntax.specs.declared.syntax.Part.{Part}
 use Rattle.pc_lang.specs.Parts.{narrowed, narrowed_by, region, region_of}
@@ -41,16 +39,6 @@ all_are_sides columns [] sides less e all = let same : sides ≡ less = cc in su
 all_are_sides columns (atom ∷ rest) sides less e all =
     let b = bound (narrowed_by columns rest) (narrowed columns atom sides) less e in
     all_are_sides columns rest b.value less b.gives (narrowed_are_sides atom columns sides b.value b.is all)
-
-pub whole_are_sides : (columns : List Column) → All IsColumn columns → AreSides columns (map (λ (column : Column). whole_side column.kind) columns)
-whole_are_sides [] are = refl
-whole_are_sides (column ∷ columns) are =
-    and_from (is_side_of column.kind (whole_side column.kind)) (pointwise (λ (column : Column). is_side_of column.kind) columns (map (λ (column : Column). whole_side column.kind) columns))
-    (whole_is_side column.kind (All-head IsColumn column columns are).kind) (whole_are_sides columns (All-tail IsColumn column columns are))
-
-pub whole_is_region : (schema : Schema) → IsWellFormed schema → is_region_of schema (whole_region schema) ≡ true
-unfolding is_region_of
-whole_is_region schema formed = whole_are_sides schema.columns formed.columns.all
 
 pub is_region : (schema : Schema) (part : Part) (region : Region) → IsWellFormed schema → region_of schema part ≡ Ok region → is_region_of schema region ≡ true
 unfolding region_of is_region_of

@@ -1,7 +1,10 @@
 pub mod Between
+pub mod FewNames
+pub mod Lists
 pub mod Names
 pub mod Pairs
 pub mod PastBits
 pub mod Regions
 pub mod Utf8
 pub mod Whole
+pub mod WholeDomain

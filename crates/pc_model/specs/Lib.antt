@@ -1,5 +1,8 @@
+pub mod Accepted
 pub mod Aggregate
 pub mod Boxes
+pub mod Cells
+pub mod CutTrees
 pub mod FaultTexts
 pub mod Membership
 pub mod Numbers
@@ -11,4 +14,3 @@ pub mod Right
 pub mod Runs
 pub mod Texts
 pub mod WellFormed
-pub mod Accepted

@@ -21,4 +21,4 @@ pub use region::{Region, Side, is_between};
 pub use row::{Row, Run};
 pub use schema::{Column, Kind, Schema};
 pub use text::{FILE_LIMIT, is_name, text_of};
-pub use tree::{Cut, CutNode, CutTree, LeafMark, Mult, Tree, TreeNode};
+pub use tree::{Cut, CutNode, CutTree, Leaf, LeafMark, Mult, Tree, TreeNode};

@@ -1,3 +1,4 @@
+use crate::region::Region;
 use pc_list::Seq;
 
 /// A cut of a box in two by one column: numbers up to `at` and the greater ones, or the names whose
@@ -21,6 +22,13 @@ pub enum LeafMark {
 pub enum CutNode {
     Inner { cut: Cut, first: u32, second: u32 },
     Leaf { mark: LeafMark },
+}
+
+/// A leaf of a cut tree: the region that the cuts on the way to it leave, and its mark.
+#[derive(Clone, Debug, PartialEq, Eq, Drop)]
+pub struct Leaf {
+    pub region: Region,
+    pub mark: LeafMark,
 }
 
 /// A tree of cuts. Node 0 is the root, and children stand after their parent.

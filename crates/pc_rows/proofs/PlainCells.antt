@@ -10,10 +10,10 @@ use Rattle.std.proofs.lemmas.Int.{ints}
 use Rattle.std.proofs.lemmas.List.{reverse-append, reverse-reverse}
 use Rattle.std.proofs.lemmas.List.Folds.{list_all-append}
 use Rattle.std.proofs.lemmas.List.Sums.{position_or_len_is}
-use Rattle.std.proofs.lemmas.Slice.Eq.{bytes_eq-Decides}
 use Rattle.std.proofs.Math.Nat.{div-le_self}
 use Rattle.pc_num.specs.Put.{decimals_of, fraction_text, scaled_text, size_text}
 use Rattle.pc_num.proofs.ReadBack.{reads_back}
+use Rattle.pc_model.proofs.Lists.{bytes_eq-other, bytes_eq-same}
 use Rattle.pc_model.specs.declared.schema.Kind.{Kind}
 use Rattle.pc_model.specs.declared.schema.Kind.TheVariants.{Int, Dec, Cat}
 use Rattle.pc_model.specs.Membership.{allows, is_between}
@@ -92,17 +92,6 @@ number_again scale low high number is inside =
     let small : IsSmall number = small_between low high number is inside in
     rw (untrimmed (scaled_text number scale) (solid_number number scale small), reads_back number scale small, inside) refl
 
-pub bytes_eq-same : (text : List ℕ) → bytes_eq text text ≡ true
-bytes_eq-same text = (bytes_eq-Decides text text).1 refl
-
-pub bytes_eq-other : (text name : List ℕ) → text ≢ name → bytes_eq text name ≡ false
-bytes_eq-other text name other = by_test (bytes_eq text name) (bytes_eq-Decides text name)
-  where
-    by_test : (test : Bool) → Decides test (text ≡ name) → test ≡ false
-    by_test true decides = absurd (other (decides.0 refl))
-    by_test false decides = refl
-
--- a name is found at its own place
 name_again : (names : List (List ℕ)) (place : ℕ) → AreNames names → place < length names → position (bytes_eq (get_or names place [])) names ≡ Some place
 name_again names place are inside =
     let name = get_or names place [] in

@@ -7,7 +7,7 @@ use Rattle.std.proofs.Math.Seq.{drop-append-add, get_or-append_seam}
 use Rattle.pc_model.specs.declared.schema.Column.{Column}
 use Rattle.pc_rows.specs.Plain.{header_fields}
 use Rattle.pc_rows.specs.RowFile.{place_from, place_in, places_from}
-use Rattle.pc_rows.proofs.PlainCells.{bytes_eq-other, bytes_eq-same}
+use Rattle.pc_model.proofs.Lists.{bytes_eq-other, bytes_eq-same}
 
 -- one place for each column, from here on
 abbrev pub places_at : ℕ → List Column → List ℕ

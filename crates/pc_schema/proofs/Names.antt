@@ -61,11 +61,3 @@ more_columns columns column are is room fresh = record {
 }
 
 pub ruleset steps = (names_step, names_end, more_names)
-
-few_names : (kind : Kind) → IsKind kind → HasFewNames kind
-few_names (Int low high) is = tt
-few_names (Dec scale low high) is = tt
-few_names (Cat names) is = is.few
-
-pub have_few_names : (columns : List Column) → AreColumns columns → HaveFewNames columns
-have_few_names columns are k d inside = few_names (get_or columns k d).kind (are.all k d inside).kind

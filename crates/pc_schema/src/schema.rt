@@ -24,7 +24,7 @@ pub fn read_schema(alloc: Global, bytes: &[u8]) -> Result<Schema, Refusal>
     }
 }
 
-#[tactic(auto, using(crate::proofs::Names::have_few_names))]
+#[tactic(auto, using(pc_model::proofs::FewNames::have_few_names))]
 fn schema_from(columns: Seq<Column>) -> Result<Schema, Refusal>
     requires { AreColumns columns }
     ensures gives { Gives result (schema_from columns) }
