@@ -1,0 +1,166 @@
+-- Trees that grow over a box and its parts, and over the whole domain.
+use Rattle.std.proofs.Common.{◌≡◌, ℕ, zero, suc, ◌+◌, ◌<◌, true, List, [], ◌∷◌, ◌++◌, length, set, All, IfOk, Result, refl, sym, ◌∙◌, ap, subst, arith, append_assoc}
+use Rattle.std.proofs.lemmas.Result.{IfOk-weaker}
+use Rattle.std.proofs.lemmas.List.{length-append, length-set, length-map, set_at}
+use Rattle.std.proofs.lemmas.List.Elements.{All-append}
+use Rattle.pc_num.specs.declared.memory.Memory.{Memory}
+use Rattle.pc_model.specs.declared.schema.Column.{Column}
+use Rattle.pc_model.specs.declared.schema.Schema.{Schema}
+use Rattle.pc_model.specs.declared.region.Region.{Region}
+use Rattle.pc_model.specs.declared.constraint.Constraint.{Constraint}
+use Rattle.pc_model.specs.declared.tree.Cut.{Cut}
+use Rattle.pc_model.specs.declared.tree.LeafMark.{LeafMark}
+use Rattle.pc_model.specs.declared.tree.LeafMark.TheVariants.{Barren}
+use Rattle.pc_model.specs.declared.tree.CutNode.{CutNode}
+use Rattle.pc_model.specs.declared.tree.CutNode.TheVariants as nodes
+use Rattle.pc_model.specs.Boxes.{IsServable}
+use Rattle.pc_model.specs.Regions.{whole_side, whole_region, is_region_of}
+use Rattle.pc_model.specs.WellFormed.{IsWellFormed}
+use Rattle.pc_model.specs.CutTrees.{CutShape, leaf, inner, size_of, nodes_from, shape_of, leaves_of, first_part, second_part}
+use Rattle.pc_model.specs.Cells.{IsSettled, IsSettledAs, IsSettledTree, leaves_in}
+use Rattle.pc_box.specs.Boxes.{AreAlike, IsBox}
+use Rattle.pc_box.specs.Cuts.{Divides}
+use Rattle.pc_box.proofs.CutRows.{first_alike, second_alike, IsProper-from_divides}
+use Rattle.pc_box.proofs.Likeness.{as_many_sides, AreAlike-turned, AreAlike-through}
+use Rattle.pc_box.proofs.Schemas.{AreAlike-from_schema}
+use Rattle.pc_tree.specs.declared.decision.Decision.{Decision}
+use Rattle.pc_tree.specs.declared.decision.Decision.TheVariants.{Settled, Divided}
+use Rattle.pc_tree.specs.declared.growth.Growth.{Growth}
+use Rattle.pc_tree.specs.Decisions.{IsComparable, IsDecision}
+use Rattle.pc_tree.specs.Growing.{HasGrown, with_leaf, with_place, with_inner}
+use Rattle.pc_class.proofs.Trees.{shape_of-nodes, length-nodes}
+use Rattle.pc_model.proofs.FewNames.{have_few_names}
+use Rattle.pc_model.proofs.WholeDomain.{whole_is_region}
+
+module _ (constraints : List Constraint) (chosen : Region) where
+  -- ---- boxes
+
+  pub box_comparable : (area : Region) → IsComparable constraints chosen area → IsBox area
+  box_comparable area fits = AreAlike-through area chosen area fits.side (AreAlike-turned area chosen fits.side)
+
+  -- a part is compared as the box is
+  part_comparable : (area part : Region) → IsComparable constraints chosen area → AreAlike area part → IsComparable constraints chosen part
+  part_comparable area part fits alike = record {
+    few = omega (arith, as_many_sides area.sides part.sides alike, fits.few);
+    each = λ k d inside. record {
+      when = AreAlike-through part area _ (AreAlike-turned area part alike) (fits.each k d inside).when;
+      values = AreAlike-through part area _ (AreAlike-turned area part alike) (fits.each k d inside).values;
+    };
+    side = AreAlike-through part area chosen (AreAlike-turned area part alike) fits.side;
+  }
+
+  pub first_comparable : (area part : Region) (cut : Cut) → IsComparable constraints chosen area → Divides area cut → part ≡ first_part area cut → IsComparable constraints chosen part
+  first_comparable area part cut fits divided e = part_comparable area part fits (first_alike area cut divided part (box_comparable area fits) e)
+
+  pub second_comparable : (area part : Region) (cut : Cut) → IsComparable constraints chosen area → Divides area cut → part ≡ second_part area cut → IsComparable constraints chosen part
+  second_comparable area part cut fits divided e = part_comparable area part fits (second_alike area cut divided part (box_comparable area fits) e)
+
+  pub settled_by : (area : Region) (decision : Decision) (mark : LeafMark) → IsDecision constraints chosen area decision → decision ≡ Settled mark → IsSettledAs constraints chosen area mark
+  settled_by area decision mark says e = subst (IsDecision constraints chosen area) e says
+
+  pub divided_by : (area : Region) (decision : Decision) (cut : Cut) → IsDecision constraints chosen area decision → decision ≡ Divided cut → Divides area cut
+  divided_by area decision cut says e = subst (IsDecision constraints chosen area) e says
+
+  -- ---- growing
+
+  pub grown-leaf : (area : Region) (before : Growth) (mark : LeafMark) → IsSettledAs constraints chosen area mark → HasGrown constraints chosen area before (with_leaf before area mark)
+  grown-leaf area before mark settled = record {
+    shape = leaf mark;
+    nodes_are = refl;
+    leaves_are = refl;
+    proper = tt;
+    settled = only;
+  }
+    where
+      only : All (IsSettled constraints chosen) (record { region = area; mark = mark } ∷ [])
+      only zero d inside = settled
+      only (suc k) d inside = absurd (omega arith)
+
+  -- the kept place is there
+  pub place_kept : (area : Region) (before pushed middle : Growth) (place : ℕ) → pushed ≡ with_place before → place ≡ length before.nodes → HasGrown constraints chosen area pushed middle →
+      place < length middle.nodes
+  place_kept area before pushed middle place pushed_is place_is grown =
+      let part = nodes_from (length pushed.nodes) grown.shape in
+      let more : length pushed.nodes ≡ length before.nodes + 1 = ap (λ (growth : Growth). length growth.nodes) pushed_is ∙ length-append before.nodes (nodes.Leaf Barren ∷ []) in
+      omega (arith, more, place_is, ap length grown.nodes_are, length-append pushed.nodes part)
+
+  set_behind : (before middle part : List CutNode) (x y : CutNode) → middle ≡ (before ++ x ∷ []) ++ part → set middle (length before) y ≡ before ++ y ∷ part
+  set_behind before middle part x y e = rw (e, append_assoc before (x ∷ []) part) (set_at before x part y (length before) refl)
+
+  -- the nodes of both parts behind the cut are those of the tree
+  spelled : (before middle after : List CutNode) (x : CutNode) (cut : Cut) (t u : CutShape) (pushed patched : ℕ) → pushed ≡ length before + 1 → patched ≡ length middle →
+      middle ≡ (before ++ x ∷ []) ++ nodes_from pushed t → after ≡ set middle (length before) (nodes.Inner cut (length before + 1) (length middle)) ++ nodes_from patched u →
+      after ≡ before ++ nodes_from (length before) (inner cut t u)
+  spelled before middle after x cut t u pushed patched pushed_is patched_is middle_is after_is =
+      let size : length middle ≡ length before + 1 + size_of t =
+      omega (arith, ap length middle_is, length-append (before ++ x ∷ []) (nodes_from pushed t), length-append before (x ∷ []), length-nodes t pushed) in
+      let y = nodes.Inner cut (length before + 1) (length middle) in
+      let kept : set middle (length before) y ≡ before ++ y ∷ nodes_from pushed t = set_behind before middle (nodes_from pushed t) x y middle_is in
+      rw (after_is, kept, patched_is, size, pushed_is) (append_assoc before (nodes.Inner cut (length before + 1) (length before + 1 + size_of t) ∷ nodes_from (length before + 1) t) (nodes_from (length before + 1 + size_of t) u))
+
+  module _ (area : Region) (cut : Cut) (before middle after : Growth) (filled : IsBox area) (divided : Divides area cut)
+      (first : HasGrown constraints chosen (first_part area cut) (with_place before) middle)
+      (second : HasGrown constraints chosen (second_part area cut) (with_inner middle (length before.nodes) cut) after) where
+    grown-inner : HasGrown constraints chosen area before after
+    grown-inner = record {
+      shape = inner cut first.shape second.shape;
+      nodes_are =
+          spelled before.nodes middle.nodes after.nodes (nodes.Leaf Barren) cut first.shape second.shape (length (with_place before).nodes) (length (with_inner middle (length before.nodes) cut).nodes)
+          (length-append before.nodes (nodes.Leaf Barren ∷ [])) (length-set middle.nodes (length before.nodes) (nodes.Inner cut (length before.nodes + 1) (length middle.nodes)))
+          first.nodes_are second.nodes_are;
+      leaves_are = rw (second.leaves_are, first.leaves_are) (append_assoc before.leaves (leaves_of (first_part area cut) first.shape) (leaves_of (second_part area cut) second.shape));
+      proper = (IsProper-from_divides area cut divided filled, first.proper, second.proper);
+      settled = All-append (IsSettled constraints chosen) (leaves_of (first_part area cut) first.shape) (leaves_of (second_part area cut) second.shape) first.settled second.settled;
+    }
+
+  -- ---- what is answered
+
+  pub leaf_grown : (area : Region) (decision : Decision) (mark : LeafMark) (before : Growth) (result : Result Growth Memory) → IsDecision constraints chosen area decision → decision ≡ Settled mark →
+      IfOk result (λ after. after ≡ with_leaf before area mark) → IfOk result (HasGrown constraints chosen area before)
+  leaf_grown area decision mark before result says e gives =
+      IfOk-weaker result _ _ (λ after is. subst (HasGrown constraints chosen area before) (sym is) (grown-leaf area before mark (settled_by area decision mark says e))) gives
+
+  pub inner_grown : (area first second : Region) (cut : Cut) (before pushed middle patched : Growth) (place : ℕ) (result : Result Growth Memory) → IsComparable constraints chosen area → Divides area cut →
+      first ≡ first_part area cut → second ≡ second_part area cut → pushed ≡ with_place before → place ≡ length before.nodes → HasGrown constraints chosen first pushed middle →
+      patched ≡ with_inner middle place cut → IfOk result (HasGrown constraints chosen second patched) → IfOk result (HasGrown constraints chosen area before)
+  inner_grown area first second cut before pushed middle patched place result fits divided first_is second_is pushed_is place_is grown patched_is gives =
+      let start = rw (first_is, pushed_is) at grown in
+      let end = rw (second_is, patched_is, place_is) at gives in
+      IfOk-weaker result _ _ (λ after more. grown-inner area cut before middle after (box_comparable area fits) divided start more) end
+
+pub ruleset steps = (divided_by, place_kept, inner_grown)
+
+-- ---- the whole domain
+
+pub whole_comparable : (schema : Schema) (constraints : List Constraint) (chosen whole : Region) → IsWellFormed schema → All (IsServable schema) constraints → is_region_of schema chosen ≡ true →
+    whole ≡ whole_region schema → IsComparable constraints chosen whole
+whole_comparable schema constraints chosen whole formed servable side e =
+    let region : is_region_of schema whole ≡ true = rw e (whole_is_region schema formed) in
+    record {
+      few = rw e (omega (arith, length-map schema.columns (λ (column : Column). whole_side column.kind), formed.columns.few));
+      each = λ k d inside. record {
+        when = AreAlike-from_schema schema whole _ region (servable k d inside).when_region;
+        values = AreAlike-from_schema schema whole _ region (servable k d inside).value_region;
+      };
+      side = AreAlike-from_schema schema whole chosen region side;
+    }
+
+module _ (schema : Schema) (constraints : List Constraint) (chosen whole : Region) (none growth : Growth) (is_whole : whole ≡ whole_region schema) (no_nodes : none.nodes ≡ []) (no_leaves : none.leaves ≡ [])
+    (grown : HasGrown constraints chosen whole none growth) where
+  all_nodes : growth.nodes ≡ nodes_from 0 grown.shape
+  all_nodes = rw (grown.nodes_are, no_nodes) refl
+
+  shape_is : shape_of growth.nodes ≡ grown.shape
+  shape_is = rw all_nodes (shape_of-nodes grown.shape 0)
+
+  pub settled_tree : IsSettledTree schema constraints chosen growth.nodes
+  settled_tree = record {
+    preorder = rw shape_is all_nodes;
+    proper = rw (shape_is, sym is_whole) grown.proper;
+    settled = rw (shape_is, sym is_whole) grown.settled;
+  }
+
+  pub all_leaves : growth.leaves ≡ leaves_in schema growth.nodes
+  all_leaves = rw (shape_is, sym is_whole, grown.leaves_are, no_leaves) refl
+
+pub ruleset whole = (have_few_names, all_leaves)

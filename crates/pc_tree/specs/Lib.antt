@@ -1,0 +1,4 @@
+pub mod Days
+pub mod Decisions
+pub mod Growing
+pub mod Stances
