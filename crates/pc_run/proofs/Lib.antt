@@ -3,7 +3,6 @@ pub mod Cases
 pub mod Meanings
 pub mod Answering
 pub mod Apart
-pub mod Disjoint
 pub mod Listings
 pub mod Queries
 pub mod StopReplies

@@ -1,14 +1,10 @@
-ghost use Rattle.std.specs.Prelude.{◌≡◌, ◌↔◌, All, IfOk, IsTrue};
-ghost use Rattle.pc_model.specs.Accepted.{AreConstraints};
-ghost use Rattle.pc_model.specs.Boxes.{IsServable};
-ghost use Rattle.pc_model.specs.Membership.{AreDisjoint};
+ghost use Rattle.std.specs.Prelude.{◌≡◌, IfOk};
 ghost use Rattle.pc_run.specs.Replies.{IsShowable, SaysListing};
 ghost use Rattle.pc_run.specs.Reports.{disjoint_line, listing_of};
 
 use crate::listing::Listing;
-use pc_count::find_overlap;
+use pc_cells::pairwise_apart;
 use pc_lang::put_constraints;
-use pc_model::{Constraint, Schema};
 use pc_num::Memory;
 use std::alloc::Global;
 
@@ -17,7 +13,7 @@ pub(crate) fn report_listing(alloc: Global, listing: &Listing) -> Result<Vec<u8>
     requires { IsShowable listing.now }
     ensures { IfOk result (λ text. SaysListing listing.now text.items) }
 {
-    let disjoint = are_disjoint(&listing.schema, listing.constraints.as_slice());
+    let disjoint = pairwise_apart(listing.constraints.as_slice());
     text_of(alloc, listing, disjoint)
 }
 
@@ -41,13 +37,4 @@ fn disjoint_line(disjoint: bool) -> &'static str
     } else {
         "disjoint no\n"
     }
-}
-
-/// Whether no two constraints speak of one row of the domain.
-#[tactic(auto, using(crate::proofs::Disjoint::steps))]
-fn are_disjoint(schema: &Schema, constraints: &[Constraint]) -> bool
-    requires { All (IsServable schema.now) constraints.now }
-    ensures { IsTrue result ↔ AreDisjoint schema.now constraints.now }
-{
-    find_overlap(schema, constraints).is_none()
 }

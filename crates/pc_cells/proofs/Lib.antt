@@ -1,0 +1,6 @@
+pub mod Apart
+pub mod Decomposed
+pub mod Extremes
+pub mod Gathered
+pub mod Picks
+pub mod Spans

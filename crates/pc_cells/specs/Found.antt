@@ -1,0 +1,64 @@
+-- The cells of leaves, their rows, and what is asked of them.
+use Rattle.std.specs.Prelude.{◌≡◌, ℕ, ◌<◌, ◌^◌, ℤ, pos, ⊤, true, false, List, [], length, map, All, Any, slice_index_or}
+use Rattle.pc_model.specs.declared.schema.Schema.{Schema}
+use Rattle.pc_model.specs.declared.row.Row.{Row}
+use Rattle.pc_model.specs.declared.region.Side.{Side}
+use Rattle.pc_model.specs.declared.region.Side.TheVariants.{Span, Names}
+use Rattle.pc_model.specs.declared.region.Region.{Region}
+use Rattle.pc_model.specs.declared.constraint.Constraint.{Constraint}
+use Rattle.pc_model.specs.declared.tree.Leaf.{Leaf}
+use Rattle.pc_model.specs.Boxes.{IsServable}
+use Rattle.pc_model.specs.Membership.{has, holds}
+use Rattle.pc_model.specs.CutTrees.{side_at}
+use Rattle.pc_model.specs.Cells.{Class, classes_of, boxes_of}
+use Rattle.pc_box.specs.Boxes.{IsBox}
+use Rattle.pc_cells.specs.declared.cells.Cell.{Cell}
+
+abbrev pub class_of_cell : Cell → Class
+class_of_cell cell = record { mask = cell.mask; chosen = cell.chosen }
+
+-- the cells of leaves: their classes in order of the first leaf, each with the boxes of its leaves
+abbrev pub cell_of : List Leaf → Class → Cell
+cell_of leaves class = record { mask = class.mask; chosen = class.chosen; leaves = boxes_of leaves class }
+
+abbrev pub cells_of : List Leaf → List Cell
+cells_of leaves = map (cell_of leaves) (classes_of leaves)
+
+-- the row is in one of the boxes
+abbrev pub IsInSome : List Region → Row → Type 0
+IsInSome boxes row = Any (λ (box : Region). has box row ≡ true) boxes
+
+-- a cell has leaves, and each has rows
+pub record IsFilled (cell : Cell) : Type 0 where
+  pub some : 0 < length cell.leaves
+  pub few : length cell.leaves < 2 ^ 32
+  pub boxes : All IsBox cell.leaves
+
+-- ---- one cell, and one of its leaves
+
+abbrev pub leaves_at : List Cell → ℕ → List Region
+leaves_at cells place = (slice_index_or cells place (record { mask = 0; chosen = false; leaves = [] })).leaves
+
+abbrev pub leaf_at : List Region → ℕ → Region
+leaf_at leaves place = slice_index_or leaves place (record { sides = [] })
+
+abbrev pub number_at : Row → ℕ → ℤ
+number_at row column = slice_index_or row.cells column (pos 0)
+
+-- the leaf is there, and its side of the column holds the number
+pub record HoldsNumber (leaves : List Region) (leaf column : ℕ) (number : ℤ) : Type 0 where
+  pub there : leaf < length leaves
+  pub held : holds (side_at (leaf_at leaves leaf) column) number ≡ true
+
+-- a column of numbers, in each leaf
+abbrev pub IsSpanned : Side → Type 0
+IsSpanned (Span low high) = ⊤
+IsSpanned (Names bits) = ⊥
+
+abbrev pub HasNumbers : ℕ → Cell → Type 0
+HasNumbers column cell = All (λ (leaf : Region). IsSpanned (side_at leaf column)) cell.leaves
+
+-- ---- constraints of one schema
+
+abbrev pub AreOfOneSchema : List Constraint → Type 0
+AreOfOneSchema constraints = (schema : Schema) × All (IsServable schema) constraints

@@ -1,0 +1,24 @@
+-- The cells of the leaves so far, as they are gathered.
+use Rattle.std.specs.Prelude.{◌≡◌, ℕ, false, List, [], ◌∷◌, ◌++◌, map, slice_set, slice_index_or}
+use Rattle.pc_model.specs.declared.region.Region.{Region}
+use Rattle.pc_model.specs.declared.tree.Leaf.{Leaf}
+use Rattle.pc_model.specs.Cells.{Class, classes_of}
+use Rattle.pc_cells.specs.declared.cells.Cell.{Cell}
+use Rattle.pc_cells.specs.declared.gather.ClassKey.{ClassKey}
+use Rattle.pc_cells.specs.declared.gather.Gathering.{Gathering}
+use Rattle.pc_cells.specs.Found.{cells_of}
+
+abbrev pub class_of_key : ClassKey → Class
+class_of_key key = record { mask = key.mask; chosen = key.chosen }
+
+-- the cells and the classes are those of the leaves
+pub record IsGatheredFrom (leaves : List Leaf) (gathering : Gathering) : Type 0 where
+  pub classes : map class_of_key gathering.classes.keys ≡ classes_of leaves
+  pub cells : gathering.cells.items ≡ cells_of leaves
+
+-- the cell with one more leaf
+abbrev pub and_leaf : Cell → Region → Cell
+and_leaf cell region = record { mask = cell.mask; chosen = cell.chosen; leaves = cell.leaves ++ region ∷ [] }
+
+abbrev pub with_leaf_at : List Cell → ℕ → Region → List Cell
+with_leaf_at cells place region = slice_set cells place (and_leaf (slice_index_or cells place (record { mask = 0; chosen = false; leaves = [] })) region)

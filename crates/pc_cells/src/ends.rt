@@ -1,0 +1,132 @@
+ghost use Rattle.std.specs.Prelude.{◌≡◌, ◌<◌, ◌≤ℤ◌, ◌^◌, int_lt, cond, length, All};
+ghost use Rattle.pc_model.specs.declared.row.Row.{Row};
+ghost use Rattle.pc_model.specs.Cells.{low_at, high_at, least_low, greatest_high};
+ghost use Rattle.pc_cells.specs.Found.{IsFilled, IsInSome, leaves_at, leaf_at, number_at, HoldsNumber, HasNumbers};
+
+use crate::cells::Cells;
+use pc_model::{Region, Side};
+
+/// The least and the greatest number of a column over a cell, and leaves that hold them.
+#[derive(Clone, Copy, Debug, PartialEq, Eq)]
+pub struct Ends {
+    pub low: i64,
+    pub high: i64,
+    pub low_leaf: u32,
+    pub high_leaf: u32,
+}
+
+impl Cells {
+    /// The ends of a column of numbers over a cell.
+    pub fn extreme(&self, cell: usize, column: u8) -> Ends
+        requires there { cell < length self.now.cells }
+        requires filled { All IsFilled self.now.cells }
+        requires numbers { All (HasNumbers column) self.now.cells }
+        ensures low { result.low ≡ least_low column (leaves_at self.now.cells cell) }
+        ensures high { result.high ≡ greatest_high column (leaves_at self.now.cells cell) }
+        ensures above_low { (row : Row) → IsInSome (leaves_at self.now.cells cell) row → result.low ≤ℤ number_at row column }
+        ensures below_high { (row : Row) → IsInSome (leaves_at self.now.cells cell) row → number_at row column ≤ℤ result.high }
+        ensures low_leaf { HoldsNumber (leaves_at self.now.cells cell) result.low_leaf column result.low }
+        ensures high_leaf { HoldsNumber (leaves_at self.now.cells cell) result.high_leaf column result.high }
+    {
+        ends_of(self.leaves(cell), column as usize)
+    }
+}
+
+fn ends_of(leaves: &[Region], column: usize) -> Ends
+    requires some { 0 < length leaves.now }
+    requires few { length leaves.now < 2 ^ 32 }
+    ensures low { result.low ≡ least_low column leaves.now }
+    ensures high { result.high ≡ greatest_high column leaves.now }
+    ensures low_there { result.low_leaf < length leaves.now }
+    ensures low_held { result.low ≡ low_at column (leaf_at leaves.now result.low_leaf) }
+    ensures high_there { result.high_leaf < length leaves.now }
+    ensures high_held { result.high ≡ high_at column (leaf_at leaves.now result.high_leaf) }
+{
+    let low = low_end(leaves, column);
+    let high = high_end(leaves, column);
+    Ends {
+        low: low.number,
+        high: high.number,
+        low_leaf: low.leaf as u32,
+        high_leaf: high.leaf as u32,
+    }
+}
+
+/// An end of a column, and the place of a leaf that has it.
+#[derive(Clone, Copy)]
+struct End {
+    number: i64,
+    leaf: usize,
+}
+
+#[tactic(auto, using(crate::proofs::Extremes::low_steps))]
+fn low_end(leaves: &[Region], column: usize) -> End
+    requires { 0 < length leaves.now }
+    ensures least { result.number ≡ least_low column leaves.now }
+    ensures there { result.leaf < length leaves.now }
+    ensures held { result.number ≡ low_at column (leaf_at leaves.now result.leaf) }
+{
+    let mut end = End {
+        number: low_at(&leaves[0], column),
+        leaf: 0,
+    };
+    for (leaf, region) in leaves.iter().enumerate() {
+        end = lower_end(end, leaf, region, column);
+    }
+    end
+}
+
+#[tactic(auto, using(crate::proofs::Extremes::high_steps))]
+fn high_end(leaves: &[Region], column: usize) -> End
+    requires { 0 < length leaves.now }
+    ensures greatest { result.number ≡ greatest_high column leaves.now }
+    ensures there { result.leaf < length leaves.now }
+    ensures held { result.number ≡ high_at column (leaf_at leaves.now result.leaf) }
+{
+    let mut end = End {
+        number: high_at(&leaves[0], column),
+        leaf: 0,
+    };
+    for (leaf, region) in leaves.iter().enumerate() {
+        end = higher_end(end, leaf, region, column);
+    }
+    end
+}
+
+fn lower_end(end: End, leaf: usize, region: &Region, column: usize) -> End
+    ensures { result ≡ cond (int_lt (low_at column region.now) end.number) (record { number = low_at column region.now; leaf = leaf }) end }
+{
+    let number = low_at(region, column);
+    if number < end.number {
+        return End { number, leaf };
+    }
+    end
+}
+
+fn higher_end(end: End, leaf: usize, region: &Region, column: usize) -> End
+    ensures { result ≡ cond (int_lt end.number (high_at column region.now)) (record { number = high_at column region.now; leaf = leaf }) end }
+{
+    let number = high_at(region, column);
+    if number > end.number {
+        return End { number, leaf };
+    }
+    end
+}
+
+fn low_at(region: &Region, column: usize) -> i64
+    ensures { result ≡ low_at column region.now }
+{
+    match region.sides.as_slice().get(column) {
+        Some(Side::Span { low, .. }) => *low,
+        _ => 0,
+    }
+}
+
+fn high_at(region: &Region, column: usize) -> i64
+    ensures { result ≡ high_at column region.now }
+{
+    match region.sides.as_slice().get(column) {
+        Some(Side::Span { high, .. }) => *high,
+        _ => 0,
+    }
+}

@@ -1,0 +1,98 @@
+ghost use Rattle.std.specs.Prelude.{◌≡◌, ◌<◌, true, length, All, IfOk, IfSome, Some, slice_get, slice_set};
+ghost use Rattle.std.specs.Cmp.Lexicographic.{pointwise};
+ghost use Rattle.pc_model.specs.Membership.{has, holds};
+ghost use Rattle.pc_model.specs.CutTrees.{side_at};
+ghost use Rattle.pc_model.specs.Places.{is_place_of};
+ghost use Rattle.pc_box.specs.Boxes.{are_like, IsBox};
+ghost use Rattle.pc_cells.specs.Found.{IsFilled, leaves_at, leaf_at, HoldsNumber};
+
+use crate::cells::Cells;
+use pc_list::Seq;
+use pc_model::{Region, Row, Side};
+use pc_num::Memory;
+use std::alloc::Global;
+
+impl Cells {
+    /// A row of a leaf of a cell, with this number in the column, if one is named.
+    pub fn row_at(
+        &self,
+        alloc: Global,
+        cell: usize,
+        leaf: u32,
+        column: Option<u8>,
+        value: i64,
+    ) -> Result<Row, Memory>
+        requires there { cell < length self.now.cells }
+        requires leaf_there { leaf < length (leaves_at self.now.cells cell) }
+        requires filled { All IsFilled self.now.cells }
+        requires held { IfSome column (λ named. HoldsNumber (leaves_at self.now.cells cell) leaf named value) }
+        ensures row { IfOk result (λ row. has (leaf_at (leaves_at self.now.cells cell) leaf) row ≡ true) }
+        ensures number { IfOk result (λ row. IfSome column (λ named. slice_get row.cells named ≡ Some value)) }
+    {
+        let leaves = self.leaves(cell);
+        row_in(alloc, &leaves[leaf as usize], column, value)
+    }
+}
+
+fn row_in(alloc: Global, region: &Region, column: Option<u8>, value: i64) -> Result<Row, Memory>
+    requires filled { IsBox region.now }
+    requires held { IfSome column (λ named. holds (side_at region.now named) value ≡ true) }
+    ensures row { IfOk result (λ row. has region.now row ≡ true) }
+    ensures number { IfOk result (λ row. IfSome column (λ named. slice_get row.cells named ≡ Some value)) }
+{
+    let cells = numbers_of(alloc, region.sides.as_slice())?;
+    match column {
+        None => Ok(row_of(cells)),
+        Some(named) => Ok(row_of(with_number(cells, named as usize, value))),
+    }
+}
+
+fn row_of(cells: Vec<i64>) -> Row
+    ensures { result.cells ≡ cells.items }
+{
+    Row {
+        cells: Seq::from_vec(cells),
+    }
+}
+
+fn with_number(cells: Vec<i64>, column: usize, value: i64) -> Vec<i64>
+    requires { column < length cells.items }
+    ensures { result.items ≡ slice_set cells.items column value }
+{
+    let mut cells = cells;
+    cells[column] = value;
+    cells
+}
+
+/// A number of each side.
+#[tactic(auto, using(crate::proofs::Picks::steps))]
+fn numbers_of(alloc: Global, sides: &[Side]) -> Result<Vec<i64>, Memory>
+    requires { pointwise are_like sides.now sides.now ≡ true }
+    ensures { IfOk result (λ cells. pointwise holds sides.now cells.items ≡ true) }
+{
+    let mut cells = Vec::new(alloc);
+    for side in sides {
+        cells.push(number_of(side))?;
+    }
+    Ok(cells)
+}
+
+/// The least number of a side that is not empty.
+#[tactic(auto, using(crate::proofs::Picks::least_of_span), unfolding(pc_model::specs::Membership::holds))]
+fn number_of(side: &Side) -> i64
+    requires { are_like side.now side.now ≡ true }
+    ensures { holds side.now result ≡ true }
+{
+    match side {
+        Side::Span { low, .. } => *low,
+        Side::Names { bits } => lowest_place(*bits),
+    }
+}
+
+#[tactic(auto, using(crate::proofs::Picks::lowest_is_place))]
+fn lowest_place(bits: u128) -> i64
+    requires { 0 < bits }
+    ensures { is_place_of bits result ≡ true }
+{
+    bits.trailing_zeros() as i64
+}

@@ -1,0 +1,137 @@
+ghost use Rattle.std.specs.Prelude.{All};
+ghost use Rattle.pc_cells.specs.Found.{IsFilled};
+
+mod plain;
+
+use crate::{Cells, decompose, pairwise_apart};
+use pc_lang::{read_constraints, read_query};
+use pc_schema::read_schema;
+use std::test::Fail;
+
+const SHOP: &[u8] = b"branch,cat,Chicago,NewYork,Trenton\nday,int,1,31\nprice,dec,2,0.00,1000.00\n";
+
+// Constraints, a query, how many cells there are, and whether no row is under two constraints.
+const CASES: [(&str, &str, usize, bool); 9] = [
+    ("", "count", 0, true),
+    (
+        "c1: branch = Chicago => price in 0.00..149.99, 0..5\nc2: true => price in 0.00..100.00, 0..3\n",
+        "count",
+        2,
+        false,
+    ),
+    (
+        "c: price >= 500.00 => price in 0.00..100.00, 1..2\n",
+        "count",
+        0,
+        true,
+    ),
+    (
+        "a: day in 1..10 => true, 0..1\nb: day in 11..20 => true, 0..1\n",
+        "count",
+        2,
+        true,
+    ),
+    (
+        "a: day in 1..10 => true, 0..1\nb: day in 10..20 => true, 0..1\n",
+        "count",
+        3,
+        false,
+    ),
+    (
+        "a: day in 10..20 => true, 0..1\nb: day in 5..31 and branch = Trenton => price = 2, 0..1\n",
+        "count",
+        3,
+        false,
+    ),
+    (
+        "a: branch in {Chicago, Trenton} => day in 3..4, 0..1\nb: branch = NewYork => day >= 30, 0..1\nc: branch = Trenton and day = 2 => true, 0..1\n",
+        "count",
+        2,
+        false,
+    ),
+    (
+        "a: day in 1..10 => true, 0..1\nb: day in 11..20 => true, 0..1\n",
+        "sum(price) where day <= 5",
+        3,
+        true,
+    ),
+    (
+        "a: day in 1..10 => price <= 1, 0..1\n",
+        "count where price > 1",
+        1,
+        true,
+    ),
+];
+
+// Of each cell the number of its case, its mask, whether the query chooses it, and the ends of days and of prices.
+const CELLS: [(usize, u32, bool, (i64, i64), (i64, i64)); 16] = [
+    (1, 3, true, (1, 31), (0, 10000)),
+    (1, 2, true, (1, 31), (0, 10000)),
+    (3, 1, true, (1, 10), (0, 100000)),
+    (3, 2, true, (11, 20), (0, 100000)),
+    (4, 1, true, (1, 9), (0, 100000)),
+    (4, 3, true, (10, 10), (0, 100000)),
+    (4, 2, true, (11, 20), (0, 100000)),
+    (5, 1, true, (10, 20), (0, 100000)),
+    (5, 2, true, (5, 31), (200, 200)),
+    (5, 3, true, (10, 20), (200, 200)),
+    (6, 1, true, (3, 4), (0, 100000)),
+    (6, 2, true, (30, 31), (0, 100000)),
+    (7, 1, true, (1, 5), (0, 100000)),
+    (7, 1, false, (6, 10), (0, 100000)),
+    (7, 2, false, (11, 20), (0, 100000)),
+    (8, 1, false, (1, 10), (0, 100)),
+];
+
+// Whether the ends of a column of numbers are these over a cell, and its leaves hold them.
+fn has_ends(found: &Cells, place: usize, column: u8, ends: (i64, i64)) -> bool
+    requires { All IsFilled found.now.cells }
+{
+    if found.cells.len() <= place || !found.has_numbers(column) {
+        return false;
+    }
+    let extreme = found.extreme(place, column);
+    (extreme.low, extreme.high) == ends
+}
+
+fn place_of(found: &Cells, mask: u32, chosen: bool) -> Option<usize> {
+    found
+        .cells
+        .as_slice()
+        .iter()
+        .position(|cell| cell.mask == mask && cell.chosen == chosen)
+}
+
+#[test]
+fn cells_of_a_shop(rt: HostRuntime) -> Result<(), Fail> {
+    let alloc = rt.alloc();
+    let Ok(schema) = read_schema(alloc, SHOP) else {
+        assert!(rt; false, "no schema");
+        return Ok(());
+    };
+    for (number, (text, question, count, disjoint)) in CASES.into_iter().enumerate() {
+        let Ok(constraints) = read_constraints(alloc, &schema, text.as_bytes()) else {
+            assert!(rt; false, "case {number}");
+            return Ok(());
+        };
+        let Ok(query) = read_query(alloc, &schema, question, 1) else {
+            assert!(rt; false, "case {number}");
+            return Ok(());
+        };
+        let constraints = constraints.as_slice();
+        assert!(rt; pairwise_apart(constraints) == disjoint, "case {number}");
+        let found = decompose(alloc, &schema, constraints, &query.chosen)?;
+        assert!(rt; found.cells.len() == count, "case {number}");
+        for (case, mask, chosen, days, prices) in CELLS {
+            if case == number {
+                let Some(place) = place_of(&found, mask, chosen) else {
+                    assert!(rt; false, "case {number}");
+                    return Ok(());
+                };
+                assert!(rt; has_ends(&found, place, 1, days), "case {number}");
+                assert!(rt; has_ends(&found, place, 2, prices), "case {number}");
+            }
+        }
+    }
+    Ok(())
+}
