@@ -1,0 +1,57 @@
+use pc_model::Refusal;
+use pc_num::Memory;
+use std::alloc::AllocError;
+use std::io;
+use thiserror::Error;
+
+/// Why a run ends without its line.
+#[derive(Clone, Copy, Debug, PartialEq, Eq, Error)]
+pub(crate) enum Trouble {
+    #[error("usage: pc_bench nested|three|twelve CONSTRAINTS TIMES")]
+    Usage,
+    #[error("a generated file is refused")]
+    Refused,
+    #[error("out of memory")]
+    Memory,
+    #[error("input or output failed")]
+    Host,
+}
+
+impl Trouble {
+    /// The status that the run ends with.
+    pub(crate) fn status(&self) -> u8 {
+        match self {
+            Trouble::Usage => 2,
+            Trouble::Refused => 3,
+            Trouble::Host => 5,
+            Trouble::Memory => 6,
+        }
+    }
+}
+
+impl From<AllocError> for Trouble {
+    fn from(_: AllocError) -> Self {
+        Trouble::Memory
+    }
+}
+
+impl From<Memory> for Trouble {
+    fn from(_: Memory) -> Self {
+        Trouble::Memory
+    }
+}
+
+impl From<io::Error> for Trouble {
+    fn from(_: io::Error) -> Self {
+        Trouble::Host
+    }
+}
+
+impl From<Refusal> for Trouble {
+    fn from(refusal: Refusal) -> Self {
+        match refusal {
+            Refusal::Fault(_) => Trouble::Refused,
+            Refusal::Memory => Trouble::Memory,
+        }
+    }
+}
