@@ -20,7 +20,7 @@ times run = run.times
 abbrev row : Run → Row
 row run = run.row
 
-All-rows_of : (P : Row → Type 0) (runs : List Run) → All (λ run. P (row run)) runs → All P (rows_of runs)
+pub All-rows_of : (P : Row → Type 0) (runs : List Run) → All (λ run. P (row run)) runs → All P (rows_of runs)
 unfolding rows_of
 All-rows_of P runs each = All-repeats times row P runs each
 
@@ -28,7 +28,7 @@ All-from_rows_of : (P : Row → Type 0) (runs : List Run) → AreRuns runs → A
 unfolding rows_of
 All-from_rows_of P runs stand each = All-from_repeats times row P runs stand each
 
-count-rows_of : (c : Constraint) (runs : List Run) → count_of c (rows_of runs) ≡ rows_under c runs
+pub count-rows_of : (c : Constraint) (runs : List Run) → count_of c (rows_of runs) ≡ rows_under c runs
 unfolding rows_of
 count-rows_of c runs = count_by-repeats times row (is_under c) runs
 

@@ -1,8 +1,12 @@
-//! Whether runs of rows stand for a list of lost rows that the constraints allow.
+//! Runs of rows: whether they stand for a list of lost rows that the constraints allow, and those of an allocation.
 #![tactic(auto)]
 
+mod laws;
+mod rebuilt;
 #[cfg(test)]
 mod tests;
 mod witness;
 
+pub use laws::{allocations_are_possible, allocations_are_worth_their_rows};
+pub use rebuilt::rebuild;
 pub use witness::meets;

@@ -1,4 +1,4 @@
-use crate::meets;
+use crate::{meets, rebuild};
 use pc_list::{Seq, Text};
 use pc_model::{Column, Constraint, Kind, Region, Row, Run, Schema, Side};
 use std::alloc::{AllocError, Global};
@@ -55,6 +55,17 @@ fn runs_of(alloc: Global, listed: &[(u64, i64, i64)]) -> Result<Vec<Run>, AllocE
     Ok(runs)
 }
 
+// Rows of these items, in week 1.
+fn rows_of(alloc: Global, items: &[i64]) -> Result<Vec<Row>, AllocError> {
+    let mut rows = Vec::new(alloc);
+    for &item in items {
+        rows.push(Row {
+            cells: Seq::from_slice(alloc, &[item, 1])?,
+        })?;
+    }
+    Ok(rows)
+}
+
 #[test]
 fn possible_runs(rt: HostRuntime) -> Result<(), Fail> {
     let alloc = rt.alloc();
@@ -98,6 +109,27 @@ fn possible_runs(rt: HostRuntime) -> Result<(), Fail> {
             meets(&schema, constraints, &runs) == possible,
             "case {number}"
         );
+    }
+    Ok(())
+}
+
+#[test]
+fn runs_of_counts(rt: HostRuntime) -> Result<(), Fail> {
+    let alloc = rt.alloc();
+    let cases: [(&[i64], &[u64], &[(u64, i64, i64)]); 6] = [
+        (&[], &[], &[]),
+        (&[1, 2, 3], &[0, 0, 0], &[]),
+        (&[4], &[2], &[(2, 4, 1)]),
+        (&[4, 3, 2, 1], &[0, 3, 0, 1], &[(3, 3, 1), (1, 1, 1)]),
+        (&[1, 2, 3], &[1, 2, 0], &[(1, 1, 1), (2, 2, 1)]),
+        (&[5, 5], &[1, u64::MAX], &[(1, 5, 1), (u64::MAX, 5, 1)]),
+    ];
+    for (number, (items, counts, listed)) in cases.into_iter().enumerate() {
+        let picks = rows_of(alloc, items)?;
+        let wanted = runs_of(alloc, listed)?;
+        assert!(rt; picks.len() == counts.len());
+        let runs = rebuild(alloc, &picks, counts)?;
+        assert!(rt; runs.as_slice() == wanted.as_slice(), "case {number}");
     }
     Ok(())
 }

@@ -1,0 +1,5 @@
+pub mod Allocation
+pub mod Bound
+pub mod CellPrograms
+pub mod Parts
+pub mod Sums

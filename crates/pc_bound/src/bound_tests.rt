@@ -1,0 +1,239 @@
+ghost use Rattle.std.specs.Prelude.{◌≡◌, IsTrue, All, ℕ, ◌<◌, ◌≤◌, length};
+ghost use Rattle.pc_bound.specs.Sums.{nat_at};
+ghost use Rattle.pc_bound.specs.Allocation.{IsProgram, IsBox};
+ghost use Rattle.pc_bound.specs.Bound.{IsFit};
+
+use crate::tests::is_program;
+use crate::{Program, dual_bound};
+use pc_list::Seq;
+use pc_model::Mult;
+use std::alloc::{AllocError, Global};
+use std::process::Abort;
+use std::test::Fail;
+
+const MAX: i128 = i128::MAX;
+// Twice this does not fit.
+const HALF: i128 = 1 << 126;
+
+// The masks, caps and gains of two cells, and the least and the most of two constraints.
+type Numbers = ([u32; 2], [u64; 2], [i128; 2], [u64; 2], [u64; 2]);
+
+const SHARED: Numbers = ([1, 3], [5, 4], [3, 7], [1, 2], [5, 4]);
+
+const LOSSES: Numbers = ([1, 3], [5, 4], [-3, -7], [1, 2], [5, 4]);
+// No rows at all, so that only the numbers of the cells can be too wide.
+const NONE: Numbers = ([1, 3], [0, 0], [3, 7], [0, 0], [0, 0]);
+// Cells of no constraint.
+const APART: Numbers = ([0, 0], [0, 0], [0, 0], [0, 0], [1, 1]);
+
+// A program, the floors and caps of a box, multipliers, their denominator, and the bound.
+type Case = (Numbers, [u64; 2], [u64; 2], [i128; 2], i128, Option<i128>);
+
+const BOUNDS: [Case; 9] = [
+    (SHARED, [0, 0], [5, 4], [3, 4], 1, Some(31)),
+    (SHARED, [0, 0], [5, 4], [0, 0], 1, Some(43)),
+    // 3 * 5 - 1 * 2 of the constraints, and 5 * 4 of the second cell.
+    (SHARED, [0, 0], [5, 4], [3, -1], 1, Some(33)),
+    // 5 + 4 of the constraints, 2 * 2 and 5 * 3 of the cells.
+    (SHARED, [1, 1], [2, 3], [1, 1], 1, Some(28)),
+    // 15 + 24 of the constraints, and -2 * 1 of the second cell.
+    (SHARED, [0, 1], [2, 3], [3, 6], 1, Some(37)),
+    // 63 halves, and 65 with other multipliers.
+    (SHARED, [0, 0], [5, 4], [7, 7], 2, Some(31)),
+    (SHARED, [2, 0], [5, 4], [7, 8], 2, Some(32)),
+    // -5 halves, and -22 thirds.
+    (LOSSES, [0, 0], [5, 4], [-5, 0], 2, Some(-3)),
+    (LOSSES, [0, 1], [5, 4], [-9, -1], 3, Some(-8)),
+];
+
+const WIDTHS: [Case; 19] = [
+    // A gain times the denominator.
+    (
+        ([0, 0], [0, 0], [HALF, 0], [0, 0], [0, 0]),
+        [0, 0],
+        [0, 0],
+        [0, 0],
+        2,
+        None,
+    ),
+    (
+        ([0, 0], [0, 0], [0, -HALF], [0, 0], [0, 0]),
+        [0, 0],
+        [0, 0],
+        [0, 0],
+        2,
+        None,
+    ),
+    (
+        ([0, 0], [0, 0], [HALF - 1, 0], [0, 0], [0, 0]),
+        [0, 0],
+        [0, 0],
+        [0, 0],
+        2,
+        Some(0),
+    ),
+    // The multipliers of a cell together.
+    (NONE, [0, 0], [0, 0], [MAX, 1], 1, None),
+    (NONE, [0, 0], [0, 0], [MAX, -1], 1, Some(0)),
+    (NONE, [0, 0], [0, 0], [-MAX + 9, -10], 1, None),
+    // What is left of a gain.
+    (NONE, [0, 0], [0, 0], [3 - MAX, 0], 1, None),
+    (NONE, [0, 0], [0, 0], [7 - MAX, 0], 1, Some(0)),
+    // A constraint's product.
+    (
+        ([0, 0], [0, 0], [0, 0], [0, 0], [2, 0]),
+        [0, 0],
+        [0, 0],
+        [HALF, 0],
+        1,
+        None,
+    ),
+    (
+        ([0, 0], [0, 0], [0, 0], [0, 0], [0, 2]),
+        [0, 0],
+        [0, 0],
+        [0, -HALF],
+        1,
+        None,
+    ),
+    (
+        ([0, 0], [0, 0], [0, 0], [0, 0], [2, 0]),
+        [0, 0],
+        [0, 0],
+        [HALF - 1, 0],
+        1,
+        Some(MAX - 1),
+    ),
+    // A cell's product, with the program's cap.
+    (
+        ([0, 0], [2, 0], [HALF, 0], [0, 0], [0, 0]),
+        [0, 0],
+        [1, 0],
+        [0, 0],
+        1,
+        None,
+    ),
+    (
+        ([0, 0], [0, 2], [0, -HALF], [0, 0], [0, 0]),
+        [0, 0],
+        [0, 1],
+        [0, 0],
+        1,
+        None,
+    ),
+    (
+        ([0, 0], [1, 0], [HALF, 0], [0, 0], [0, 0]),
+        [0, 0],
+        [1, 0],
+        [0, 0],
+        1,
+        Some(HALF),
+    ),
+    // The constraints' products together.
+    (APART, [0, 0], [0, 0], [HALF, HALF], 1, None),
+    (APART, [0, 0], [0, 0], [HALF, -HALF], 1, None),
+    (APART, [0, 0], [0, 0], [HALF, HALF - 1], 1, Some(MAX)),
+    // And the cells' after them.
+    (
+        ([0, 0], [0, 1], [0, HALF], [0, 0], [1, 0]),
+        [0, 0],
+        [0, 1],
+        [HALF, 0],
+        1,
+        None,
+    ),
+    (
+        ([0, 0], [0, 1], [0, HALF - 1], [0, 0], [1, 0]),
+        [0, 0],
+        [0, 1],
+        [HALF, 0],
+        1,
+        Some(MAX),
+    ),
+];
+
+fn program(alloc: Global, numbers: &Numbers) -> Result<Program, AllocError> {
+    let (masks, cap, gain, least, most) = numbers;
+    Ok(Program {
+        masks: Seq::from_slice(alloc, masks)?,
+        least: Seq::from_slice(alloc, least)?,
+        most: Seq::from_slice(alloc, most)?,
+        floor: Seq::from_slice(alloc, &[0, 0])?,
+        cap: Seq::from_slice(alloc, cap)?,
+        gain: Seq::from_slice(alloc, gain)?,
+    })
+}
+
+/// Whether the ends are those of a box inside the program's.
+fn is_box(p: &Program, floor: &[u64], cap: &[u64]) -> bool
+    requires { IsProgram p.now }
+    ensures { IsTrue result → IsBox p.now floor.now cap.now }
+{
+    let cells = p.masks.len();
+    if floor.len() != cells || cap.len() != cells {
+        return false;
+    }
+    are_inside(p.floor.as_slice(), floor, cap, p.cap.as_slice())
+}
+
+fn are_inside(lows: &[u64], floor: &[u64], cap: &[u64], highs: &[u64]) -> bool
+    requires floors { length lows.now ≡ length floor.now }
+    requires caps { length cap.now ≡ length floor.now }
+    requires highs { length highs.now ≡ length floor.now }
+    ensures { IsTrue result → (i : ℕ) → i < length floor.now → (nat_at lows.now i ≤ nat_at floor.now i) × (nat_at floor.now i ≤ nat_at cap.now i) × (nat_at cap.now i ≤ nat_at highs.now i) }
+{
+    for (cell, low) in floor.iter().enumerate() {
+        if *low < lows[cell] || *low > cap[cell] || cap[cell] > highs[cell] {
+            return false;
+        }
+    }
+    true
+}
+
+fn are_fit(numbers: &[i128]) -> bool
+    ensures { IsTrue result → All IsFit numbers.now }
+{
+    for (place, number) in numbers.iter().enumerate() {
+        if !is_fit(*number) {
+            return false;
+        }
+    }
+    true
+}
+
+fn is_fit(number: i128) -> bool
+    ensures { IsTrue result → IsFit number }
+{
+    number > i128::MIN
+}
+
+fn bound_of(rt: &impl Abort, alloc: Global, case: &Case) -> Result<Option<i128>, AllocError> {
+    let (numbers, floor, cap, by, den) = (&case.0, &case.1, &case.2, &case.3, case.4);
+    let program = program(alloc, numbers)?;
+    let mult = Mult {
+        by: Seq::from_slice(alloc, by)?,
+        den,
+    };
+    assert!(rt; is_program(&program) && mult.by.len() == program.least.len());
+    assert!(rt; is_box(&program, floor, cap));
+    assert!(rt; den >= 1 && are_fit(mult.by.as_slice()));
+    Ok(dual_bound(&program, floor, cap, &mult))
+}
+
+#[test]
+fn bounds_are_rounded_down(rt: HostRuntime) -> Result<(), Fail> {
+    let alloc = rt.alloc();
+    for (place, case) in BOUNDS.iter().enumerate() {
+        assert_eq!(rt; bound_of(&rt, alloc, case)?, case.5, "bound {place}");
+    }
+    Ok(())
+}
+
+#[test]
+fn numbers_too_wide_give_none(rt: HostRuntime) -> Result<(), Fail> {
+    let alloc = rt.alloc();
+    for (place, case) in WIDTHS.iter().enumerate() {
+        assert_eq!(rt; bound_of(&rt, alloc, case)?, case.5, "width {place}");
+    }
+    Ok(())
+}

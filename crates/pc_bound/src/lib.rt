@@ -1,0 +1,19 @@
+//! Programs of counts: which counts they allow, what these are worth, and the bound that multipliers prove.
+#![tactic(auto)]
+
+mod allocation;
+mod bound;
+#[cfg(test)]
+mod bound_tests;
+mod laws;
+mod program;
+mod rest;
+mod running;
+#[cfg(test)]
+mod tests;
+mod width;
+
+pub use allocation::lawful;
+pub use bound::dual_bound;
+pub use laws::{bounds_hold, relaxed_bounds_hold, void_means_none};
+pub use program::Program;

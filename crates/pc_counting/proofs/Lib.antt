@@ -1,0 +1,5 @@
+pub mod Allocations
+pub mod Caps
+pub mod Counts
+pub mod PossibleRows
+pub mod Sums
