@@ -1,0 +1,21 @@
+-- When all constraints of a program are settled, and when the program is solved.
+use Rattle.std.specs.Prelude.{◌≡◌, ◌<◌}
+use Rattle.pc_bound.specs.declared.program.Program.{Program}
+use Rattle.pc_bound.specs.Allocation.{constraints_of, worth, IsAllocation}
+use Rattle.pc_bound.specs.Bound.{bound_of, IsMultiplier, IsVoid}
+use Rattle.pc_program.specs.Settled.{IsShort, AreSettled}
+use Rattle.pc_program.specs.declared.solving.Settled.{Settled}
+use Rattle.pc_program.specs.declared.solving.Settled.TheVariants.{All, Short}
+use Rattle.pc_program.specs.declared.solving.Solved.{Solved}
+use Rattle.pc_program.specs.declared.solving.Solved.TheVariants.{Best, Nothing}
+
+-- each constraint is settled by its multiplier, or one is short
+abbrev pub IsSettling : Program → Settled → Type 0
+IsSettling p (All counts multipliers) = AreSettled p counts multipliers (constraints_of p)
+IsSettling p (Short place) = (place < constraints_of p) × IsShort p place
+
+-- an allocation whose value its multipliers prove the greatest, or multipliers that show that there is none
+abbrev pub IsSolved : Program → Solved → Type 0
+IsSolved p (Best counts value mult) =
+    IsAllocation p p.floor p.cap counts × (value ≡ worth p counts) × IsMultiplier p mult × (value ≡ bound_of p p.floor p.cap mult)
+IsSolved p (Nothing mult) = IsVoid p p.floor p.cap mult
