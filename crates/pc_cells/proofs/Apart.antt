@@ -36,7 +36,7 @@ module _ {X : Type 0} (test : X → Bool) where
   one_passes (x ∷ xs) (suc i) d inside passes = omega (arith, one_passes xs i d (omega arith) passes, count_more x xs)
 
   -- two of the list pass
-  two_pass : (xs : List X) (i j : ℕ) (d : X) → i < j → j < length xs → test (get_or xs i d) ≡ true → test (get_or xs j d) ≡ true → 2 ≤ count_by test xs
+  pub two_pass : (xs : List X) (i j : ℕ) (d : X) → i < j → j < length xs → test (get_or xs i d) ≡ true → test (get_or xs j d) ≡ true → 2 ≤ count_by test xs
   two_pass [] i j d before inside one other = absurd (omega arith)
   two_pass (x ∷ xs) i zero d before inside one other = absurd (omega arith)
   two_pass (x ∷ xs) zero (suc j) d before inside one other = omega (arith, count_passing x xs one, one_passes xs j d (omega arith) other)

@@ -1,38 +1,32 @@
 -- The cells of a settled tree: their classes, their rows and their leaves.
-use Rattle.std.proofs.Common.{◌≡◌, ◌↔◌, ℕ, zero, suc, ◌<◌, ◌^◌, cond, true, List, [], ◌∷◌, length, map, All, Contains, count_by, slice_get, slice_index_or, IsSomeAnd, refl, sym, ap, subst, ◌∙◌, true≢false, arith}
-use Rattle.std.specs.Cmp.Lexicographic.{pointwise}
-use Rattle.std.proofs.lemmas.Bool.{and_parts}
+use Rattle.std.proofs.Common.{◌≡◌, ◌↔◌, ℕ, ◌<◌, ◌^◌, cond, true, List, [], ◌∷◌, length, map, All, Contains, count_by, refl, sym, ap, subst, ◌∙◌, arith}
 use Rattle.std.proofs.lemmas.List.Elements.{All-map, All-weaker, All-contains_itself}
-use Rattle.pc_model.specs.declared.schema.Kind.{Kind}
-use Rattle.pc_model.specs.declared.schema.Kind.TheVariants.{Int, Dec, Cat}
-use Rattle.pc_model.specs.declared.schema.Column.{Column}
 use Rattle.pc_model.specs.declared.schema.Schema.{Schema}
 use Rattle.pc_model.specs.declared.row.Row.{Row}
-use Rattle.pc_model.specs.declared.region.Side.{Side}
-use Rattle.pc_model.specs.declared.region.Side.TheVariants.{Span, Names}
 use Rattle.pc_model.specs.declared.region.Region.{Region}
 use Rattle.pc_model.specs.declared.constraint.Constraint.{Constraint}
 use Rattle.pc_model.specs.declared.tree.CutNode.{CutNode}
 use Rattle.pc_model.specs.declared.tree.Leaf.{Leaf}
 use Rattle.pc_model.specs.Accepted.{IsNumeric, IsColumnWhere}
 use Rattle.pc_model.specs.Membership.{in_domain, has}
-use Rattle.pc_model.specs.Regions.{whole_region, is_side_of, is_region_of}
+use Rattle.pc_model.specs.Regions.{whole_region, is_region_of}
 use Rattle.pc_model.specs.WellFormed.{IsWellFormed}
 use Rattle.pc_model.specs.CutTrees.{shape_of, side_at}
-use Rattle.pc_model.specs.Cells.{Class, IsRowOf, HasRowOf, IsSettledTree, classes_of, boxes_of, leaves_in}
+use Rattle.pc_model.specs.Cells.{Class, IsRowOf, HasRowOf, IsSettledTree, classes_of, boxes_of, leaves_in, IsInSome, IsSpanned}
 use Rattle.pc_box.specs.Boxes.{IsBox}
 use Rattle.pc_box.proofs.Schemas.{IsBox-from_schema}
 use Rattle.pc_class.proofs.Cells.{boxes_of-some, boxes_of-few, boxes_of-all}
+use Rattle.pc_class.proofs.Spans.{spanned_leaf}
 use Rattle.pc_class.proofs.SettledTrees.{classes_of_tree, rows_of_tree}
 use Rattle.pc_class.proofs.TreesLeaves.{one_leaf}
 use Rattle.pc_model.proofs.WholeDomain.{in_whole}
 use Rattle.pc_class.proofs.TreesDomain.{domain_regions}
 use Rattle.pc_cells.specs.declared.cells.Cell.{Cell}
-use Rattle.pc_cells.specs.Found.{class_of_cell, cell_of, cells_of, IsInSome, IsFilled, IsSpanned, HasNumbers}
+use Rattle.pc_cells.specs.Found.{class_of_cell, cell_of, cells_of, IsFilled, HasNumbers}
 
 -- ---- the cells of leaves
 
-classes_of_cells : (leaves : List Leaf) (classes : List Class) → map class_of_cell (map (cell_of leaves) classes) ≡ classes
+pub classes_of_cells : (leaves : List Leaf) (classes : List Class) → map class_of_cell (map (cell_of leaves) classes) ≡ classes
 classes_of_cells leaves [] = refl
 classes_of_cells leaves (class ∷ classes) = ap (λ (later : List Class). class ∷ later) (classes_of_cells leaves classes)
 
@@ -41,27 +35,6 @@ each_cell : (P : Cell → Type 0) (leaves : List Leaf) → ((class : Class) → 
 each_cell P leaves each =
     All-map P (cell_of leaves) (classes_of leaves)
     (All-weaker (Contains (classes_of leaves)) (λ (class : Class). P (cell_of leaves class)) each (classes_of leaves) (All-contains_itself (classes_of leaves)))
-
--- ---- a column of numbers
-
-spanned_side : (kind : Kind) (side : Side) → IsNumeric kind → is_side_of kind side ≡ true → IsSpanned side
-spanned_side (Int low high) (Span from to) numeric h = tt
-spanned_side (Int low high) (Names bits) numeric h = absurd (true≢false (sym h))
-spanned_side (Dec scale low high) (Span from to) numeric h = tt
-spanned_side (Dec scale low high) (Names bits) numeric h = absurd (true≢false (sym h))
-spanned_side (Cat names) side numeric h = absurd numeric
-
-spanned_at : (columns : List Column) (sides : List Side) (column : ℕ) → IsSomeAnd (slice_get columns column) (λ (c : Column). IsNumeric c.kind) →
-    pointwise (λ (c : Column). is_side_of c.kind) columns sides ≡ true → IsSpanned (slice_index_or sides column (Names 0))
-spanned_at [] sides column numeric h = absurd numeric
-spanned_at (c ∷ columns) [] column numeric h = absurd (true≢false (sym h))
-spanned_at (c ∷ columns) (side ∷ sides) zero numeric h = spanned_side c.kind side numeric (and_parts (is_side_of c.kind side) (pointwise (λ (x : Column). is_side_of x.kind) columns sides) h).0
-spanned_at (c ∷ columns) (side ∷ sides) (suc column) numeric h =
-    spanned_at columns sides column numeric (and_parts (is_side_of c.kind side) (pointwise (λ (x : Column). is_side_of x.kind) columns sides) h).1
-
-spanned_leaf : (schema : Schema) (leaf : Region) (column : ℕ) → IsColumnWhere IsNumeric schema column → is_region_of schema leaf ≡ true → IsSpanned (side_at leaf column)
-unfolding is_region_of
-spanned_leaf schema leaf column numeric h = spanned_at schema.columns leaf.sides column numeric h
 
 -- ---- the cells of a settled tree
 

@@ -1,5 +1,5 @@
 -- The numbers of a column in the leaves of a cell.
-use Rattle.std.proofs.Common.{◌≡◌, ℕ, zero, suc, ◌<◌, int_le, true, false, ℤ, pos, ◌≤ℤ◌, List, [], ◌∷◌, length, get_or, All, sym, subst, true≢false, arith}
+use Rattle.std.proofs.Common.{◌≡◌, ℕ, zero, suc, ◌<◌, int_le, true, false, ℤ, ◌≤ℤ◌, List, [], ◌∷◌, length, get_or, All, sym, subst, arith}
 use Rattle.std.specs.Cmp.Lexicographic.{pointwise}
 use Rattle.std.proofs.lemmas.Bool.{and_parts}
 use Rattle.std.proofs.lemmas.Int.{ints}
@@ -7,21 +7,17 @@ use Rattle.pc_model.specs.declared.row.Row.{Row}
 use Rattle.pc_model.specs.declared.region.Side.{Side}
 use Rattle.pc_model.specs.declared.region.Side.TheVariants.{Span, Names}
 use Rattle.pc_model.specs.declared.region.Region.{Region}
-use Rattle.pc_model.specs.Membership.{holds, has}
+use Rattle.pc_model.specs.Membership.{holds}
 use Rattle.pc_model.specs.CutTrees.{side_at}
-use Rattle.pc_model.specs.Cells.{low_of, high_of, low_at, high_at, least_low, greatest_high}
-use Rattle.pc_model.proofs.Between.{le_from_test, between_parts, between_from}
+use Rattle.pc_model.specs.Aggregate.{number_at}
+use Rattle.pc_model.specs.Cells.{IsInSome, IsSpanned, low_of, high_of, low_at, high_at, least_low, greatest_high}
+use Rattle.pc_model.proofs.Between.{le_from_test, between_from}
 use Rattle.pc_box.specs.Boxes.{are_like, IsBox}
 use Rattle.pc_cells.specs.declared.cells.Cell.{Cell}
-use Rattle.pc_cells.specs.Found.{IsFilled, IsInSome, leaves_at, leaf_at, number_at, IsSpanned, HoldsNumber, HasNumbers}
-use Rattle.pc_cells.proofs.Extremes.{least_under, greatest_over}
+use Rattle.pc_cells.specs.Found.{IsFilled, leaves_at, leaf_at, HoldsNumber, HasNumbers}
+use Rattle.pc_class.proofs.Spans.{spanned_inside, above_least, below_greatest}
 
 -- ---- one side
-
-between_ends : (side : Side) (n : ℤ) → IsSpanned side → holds side n ≡ true → (low_of side ≤ℤ n) × (n ≤ℤ high_of side)
-unfolding holds
-between_ends (Span low high) n spanned held = between_parts low high n held
-between_ends (Names bits) n spanned held = absurd spanned
 
 low_held : (side : Side) → IsSpanned side → are_like side side ≡ true → holds side (low_of side) ≡ true
 unfolding holds
@@ -35,55 +31,21 @@ high_held (Names bits) spanned like = absurd spanned
 
 -- ---- the side of a column
 
--- the sides of a row hold its numbers
-held_at : (sides : List Side) (cells : List ℤ) (column : ℕ) (d : Side) → column < length sides → pointwise holds sides cells ≡ true → holds (get_or sides column d) (get_or cells column (pos 0)) ≡ true
-held_at [] cells column d inside held = absurd (omega arith)
-held_at (side ∷ sides) [] column d inside held = absurd (true≢false (sym held))
-held_at (side ∷ sides) (n ∷ cells) zero d inside held = (and_parts (holds side n) (pointwise holds sides cells) held).0
-held_at (side ∷ sides) (n ∷ cells) (suc column) d inside held = held_at sides cells column d (omega arith) (and_parts (holds side n) (pointwise holds sides cells) held).1
-
 -- no side of a box is empty
 pub like_at : (sides : List Side) (column : ℕ) (d : Side) → column < length sides → pointwise are_like sides sides ≡ true → are_like (get_or sides column d) (get_or sides column d) ≡ true
 like_at [] column d inside like = absurd (omega arith)
 like_at (side ∷ sides) zero d inside like = (and_parts (are_like side side) (pointwise are_like sides sides) like).0
 like_at (side ∷ sides) (suc column) d inside like = like_at sides column d (omega arith) (and_parts (are_like side side) (pointwise are_like sides sides) like).1
 
--- a span stands at a column that is there
-spanned_inside : (sides : List Side) (column : ℕ) → IsSpanned (get_or sides column (Names 0)) → column < length sides
-spanned_inside [] column spanned = absurd spanned
-spanned_inside (side ∷ sides) zero spanned = omega arith
-spanned_inside (side ∷ sides) (suc column) spanned = let rest = spanned_inside sides column spanned in omega arith
-
 -- ---- a leaf
 
 module _ (column : ℕ) (leaf : Region) (spanned : IsSpanned (side_at leaf column)) where
-  row_between : (row : Row) → has leaf row ≡ true → (low_at column leaf ≤ℤ number_at row column) × (number_at row column ≤ℤ high_at column leaf)
-  unfolding has
-  row_between row held =
-      between_ends (side_at leaf column) (number_at row column) spanned (held_at leaf.sides row.cells column (Names 0) (spanned_inside leaf.sides column spanned) held)
-
   leaf_like : IsBox leaf → are_like (side_at leaf column) (side_at leaf column) ≡ true
   leaf_like filled = like_at leaf.sides column (Names 0) (spanned_inside leaf.sides column spanned) filled
 
 -- ---- the leaves of a cell
 
 module _ (column : ℕ) (leaves : List Region) (spans : All (λ (leaf : Region). IsSpanned (side_at leaf column)) leaves) where
-  above_least : (row : Row) → IsInSome leaves row → least_low column leaves ≤ℤ number_at row column
-  above_least row found =
-      let leaf = found.1 in
-      let spanned = subst (λ (x : Region). IsSpanned (side_at x column)) found.3 (spans found.0 leaf found.2) in
-      let own = (row_between column leaf spanned row found.4).0 in
-      let least = subst (λ (x : Region). least_low column leaves ≤ℤ low_at column x) found.3 (least_under (low_at column) leaves found.0 leaf found.2) in
-      omega (arith, ints)
-
-  below_greatest : (row : Row) → IsInSome leaves row → number_at row column ≤ℤ greatest_high column leaves
-  below_greatest row found =
-      let leaf = found.1 in
-      let spanned = subst (λ (x : Region). IsSpanned (side_at x column)) found.3 (spans found.0 leaf found.2) in
-      let own = (row_between column leaf spanned row found.4).1 in
-      let greatest = subst (λ (x : Region). high_at column x ≤ℤ greatest_high column leaves) found.3 (greatest_over (high_at column) leaves found.0 leaf found.2) in
-      omega (arith, ints)
-
   module _ (filled : All IsBox leaves) (place : ℕ) (number : ℤ) (there : place < length leaves) where
     holds_low : number ≡ low_at column (leaf_at leaves place) → HoldsNumber leaves place column number
     holds_low is =

@@ -1,16 +1,13 @@
 -- The cells of leaves, their rows, and what is asked of them.
-use Rattle.std.specs.Prelude.{◌≡◌, ℕ, ◌<◌, ◌^◌, ℤ, pos, ⊤, true, false, List, [], length, map, All, Any, slice_index_or}
+use Rattle.std.specs.Prelude.{◌≡◌, ℕ, ◌<◌, ◌^◌, ℤ, true, false, List, [], length, map, All, slice_index_or}
 use Rattle.pc_model.specs.declared.schema.Schema.{Schema}
-use Rattle.pc_model.specs.declared.row.Row.{Row}
-use Rattle.pc_model.specs.declared.region.Side.{Side}
-use Rattle.pc_model.specs.declared.region.Side.TheVariants.{Span, Names}
 use Rattle.pc_model.specs.declared.region.Region.{Region}
 use Rattle.pc_model.specs.declared.constraint.Constraint.{Constraint}
 use Rattle.pc_model.specs.declared.tree.Leaf.{Leaf}
 use Rattle.pc_model.specs.Boxes.{IsServable}
-use Rattle.pc_model.specs.Membership.{has, holds}
+use Rattle.pc_model.specs.Membership.{holds}
 use Rattle.pc_model.specs.CutTrees.{side_at}
-use Rattle.pc_model.specs.Cells.{Class, classes_of, boxes_of}
+use Rattle.pc_model.specs.Cells.{Class, classes_of, boxes_of, IsSpanned}
 use Rattle.pc_box.specs.Boxes.{IsBox}
 use Rattle.pc_cells.specs.declared.cells.Cell.{Cell}
 
@@ -23,10 +20,6 @@ cell_of leaves class = record { mask = class.mask; chosen = class.chosen; leaves
 
 abbrev pub cells_of : List Leaf → List Cell
 cells_of leaves = map (cell_of leaves) (classes_of leaves)
-
--- the row is in one of the boxes
-abbrev pub IsInSome : List Region → Row → Type 0
-IsInSome boxes row = Any (λ (box : Region). has box row ≡ true) boxes
 
 -- a cell has leaves, and each has rows
 pub record IsFilled (cell : Cell) : Type 0 where
@@ -42,19 +35,12 @@ leaves_at cells place = (slice_index_or cells place (record { mask = 0; chosen =
 abbrev pub leaf_at : List Region → ℕ → Region
 leaf_at leaves place = slice_index_or leaves place (record { sides = [] })
 
-abbrev pub number_at : Row → ℕ → ℤ
-number_at row column = slice_index_or row.cells column (pos 0)
-
 -- the leaf is there, and its side of the column holds the number
 pub record HoldsNumber (leaves : List Region) (leaf column : ℕ) (number : ℤ) : Type 0 where
   pub there : leaf < length leaves
   pub held : holds (side_at (leaf_at leaves leaf) column) number ≡ true
 
 -- a column of numbers, in each leaf
-abbrev pub IsSpanned : Side → Type 0
-IsSpanned (Span low high) = ⊤
-IsSpanned (Names bits) = ⊥
-
 abbrev pub HasNumbers : ℕ → Cell → Type 0
 HasNumbers column cell = All (λ (leaf : Region). IsSpanned (side_at leaf column)) cell.leaves
 

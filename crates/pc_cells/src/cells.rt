@@ -7,9 +7,9 @@ ghost use Rattle.pc_model.specs.Boxes.{IsServable};
 ghost use Rattle.pc_model.specs.Membership.{in_domain, has};
 ghost use Rattle.pc_model.specs.Regions.{is_region_of};
 ghost use Rattle.pc_model.specs.WellFormed.{IsWellFormed};
-ghost use Rattle.pc_model.specs.Cells.{Class, IsRowOf, HasRowOf, IsSettledTree, leaves_in};
+ghost use Rattle.pc_model.specs.Cells.{Class, IsRowOf, HasRowOf, IsSettledTree, leaves_in, IsInSome};
 ghost use Rattle.pc_cells.specs.declared.cells.Cell.{Cell};
-ghost use Rattle.pc_cells.specs.Found.{class_of_cell, cells_of, leaves_at, IsInSome, IsFilled, HasNumbers};
+ghost use Rattle.pc_cells.specs.Found.{class_of_cell, cells_of, leaves_at, IsFilled, HasNumbers};
 
 use crate::gather::gather;
 use pc_list::Seq;

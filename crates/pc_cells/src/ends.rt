@@ -1,7 +1,8 @@
 ghost use Rattle.std.specs.Prelude.{◌≡◌, ◌<◌, ◌≤ℤ◌, ◌^◌, int_lt, cond, length, All};
 ghost use Rattle.pc_model.specs.declared.row.Row.{Row};
-ghost use Rattle.pc_model.specs.Cells.{low_at, high_at, least_low, greatest_high};
-ghost use Rattle.pc_cells.specs.Found.{IsFilled, IsInSome, leaves_at, leaf_at, number_at, HoldsNumber, HasNumbers};
+ghost use Rattle.pc_model.specs.Aggregate.{number_at};
+ghost use Rattle.pc_model.specs.Cells.{low_at, high_at, least_low, greatest_high, IsInSome};
+ghost use Rattle.pc_cells.specs.Found.{IsFilled, leaves_at, leaf_at, HoldsNumber, HasNumbers};
 
 use crate::cells::Cells;
 use pc_model::{Region, Side};

@@ -1,7 +1,8 @@
 ghost use Rattle.std.specs.Prelude.{◌↔◌, All, IsTrue};
 ghost use Rattle.pc_model.specs.declared.region.Region.{Region};
 ghost use Rattle.pc_model.specs.CutTrees.{side_at};
-ghost use Rattle.pc_cells.specs.Found.{IsSpanned, HasNumbers};
+ghost use Rattle.pc_model.specs.Cells.{IsSpanned};
+ghost use Rattle.pc_cells.specs.Found.{HasNumbers};
 
 use crate::cells::{Cell, Cells};
 use pc_model::{Region, Side};

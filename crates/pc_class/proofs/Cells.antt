@@ -45,7 +45,7 @@ classes_of-any class (leaf ∷ leaves) = by_mark leaf.mark ∙ ap (λ later. is_
     by_mark marks.Barren = refl
     by_mark (marks.Class mask chosen) = let first : Class = record { mask = mask; chosen = chosen } in by_first first (is_class class first) refl
 
-listed-from_contained : (class : Class) (classes : List Class) → Contains classes class → is_listed class classes ≡ true
+pub listed-from_contained : (class : Class) (classes : List Class) → Contains classes class → is_listed class classes ≡ true
 listed-from_contained class classes found = list_any-from_Any (is_class class) classes (found.0, class, found.1, found.2, is_class-itself class)
 
 pub classes_of-listed : (leaves : List Leaf) (class : Class) → Any (λ (leaf : Leaf). is_leaf_of class leaf ≡ true) leaves → Contains (classes_of leaves) class

@@ -1,8 +1,10 @@
 pub mod Cells
 pub mod Classes
 pub mod LeafRows
+pub mod Leasts
 pub mod Masks
 pub mod SettledTrees
+pub mod Spans
 pub mod Trees
 pub mod TreesDomain
 pub mod TreesLeaves

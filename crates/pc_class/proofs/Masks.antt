@@ -13,7 +13,7 @@ use Rattle.pc_model.specs.Cells.{mask_of}
 lowest_bit : (n : ℕ) → has_bit n 0 ≡ (n % 2 == 1)
 lowest_bit n = ap (λ x. x == 1) (bit_at_lowest n)
 
-later_bit : (n place : ℕ) → has_bit n (suc place) ≡ has_bit (n / 2) place
+pub later_bit : (n place : ℕ) → has_bit n (suc place) ≡ has_bit (n / 2) place
 later_bit n place = ap (λ x. x == 1) (bit_at-suc n place)
 
 half_joined : (bit : Bool) (n : ℕ) → (cond bit 1 0 + 2 * n) / 2 ≡ n

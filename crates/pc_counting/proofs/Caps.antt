@@ -1,8 +1,7 @@
 -- No more rows of a possible list are in a cell than its cap.
-use Rattle.std.proofs.Common.{◌≡◌, ◌≢◌, ℕ, zero, suc, ◌/◌, ◌<◌, ◌≤◌, ◌==◌, min, Bool, true, false, cond, List, [], ◌∷◌, length, map, get_or, All, count_by, fold, ◌⊎◌, inl, inr, refl, sym, ap, subst, ◌∙◌, arith}
+use Rattle.std.proofs.Common.{◌≡◌, ◌≢◌, ℕ, zero, suc, ◌/◌, ◌<◌, ◌≤◌, min, Bool, true, false, cond, List, [], ◌∷◌, length, map, get_or, All, count_by, fold, ◌⊎◌, inl, inr, refl, sym, ap, subst, ◌∙◌, arith}
 use Rattle.std.specs.Prelude.{unwrap_or}
 use Rattle.std.specs.List.{AllPass, reduce}
-use Rattle.std.proofs.lemmas.Nat.Bits.{bit_at-suc}
 use Rattle.std.proofs.lemmas.List.Elements.{All-head, All-tail, All-nil, All-cons, All-map}
 use Rattle.std.proofs.lemmas.List.Folds.{Any-from_list_any}
 use Rattle.pc_model.specs.declared.row.Row.{Row}
@@ -12,7 +11,7 @@ use Rattle.pc_model.specs.Membership.{is_under}
 use Rattle.pc_model.specs.Places.{has_bit}
 use Rattle.pc_model.specs.Possible.{is_covered, Meets}
 use Rattle.pc_model.specs.Cells.{Class, class_of, mask_of, is_class}
-use Rattle.pc_class.proofs.Masks.{mask_of-bit}
+use Rattle.pc_class.proofs.Masks.{later_bit, mask_of-bit}
 use Rattle.pc_class.proofs.Classes.{is_class-same}
 use Rattle.pc_bound.specs.CellPrograms.{members, cap_of, count_in}
 use Rattle.pc_counting.proofs.Sums.{count_by-skips, count_by-weaker}
@@ -35,14 +34,11 @@ map_some (c ∷ cs) some = λ same. absurd (omega (arith, ap length same))
 
 -- ---- the constraints of a mask
 
-later_bit : (mask place : ℕ) → has_bit (mask / 2) place ≡ has_bit mask (suc place)
-later_bit mask place = ap (λ bit. bit == 1) (sym (bit_at-suc mask place))
-
 members_all : (P : Constraint → Type 0) (mask : ℕ) (cs : List Constraint) → ((place : ℕ) (d : Constraint) → place < length cs → has_bit mask place ≡ true → P (get_or cs place d)) →
     All P (members mask cs)
 members_all P mask [] each = All-nil P
 members_all P mask (c ∷ cs) each =
-    by_bit (has_bit mask 0) (λ set. each 0 c (omega arith) set) (members_all P (mask / 2) cs (λ place d inside set. each (suc place) d (omega arith) (sym (later_bit mask place) ∙ set)))
+    by_bit (has_bit mask 0) (λ set. each 0 c (omega arith) set) (members_all P (mask / 2) cs (λ place d inside set. each (suc place) d (omega arith) (later_bit mask place ∙ set)))
   where
     by_bit : (bit : Bool) → (bit ≡ true → P c) → All P (members (mask / 2) cs) → All P (cond bit (c ∷ members (mask / 2) cs) (members (mask / 2) cs))
     by_bit true first later = All-cons P c (members (mask / 2) cs) (first refl) later
@@ -55,7 +51,7 @@ members_some mask (c ∷ cs) zero inside set = λ none. cons_is_some (sym (ap (�
   where
     cons_is_some : c ∷ members (mask / 2) cs ≢ []
     cons_is_some same = absurd (omega (arith, ap length same))
-members_some mask (c ∷ cs) (suc place) inside set = by_bit (has_bit mask 0) (members_some (mask / 2) cs place (omega arith) (later_bit mask place ∙ set))
+members_some mask (c ∷ cs) (suc place) inside set = by_bit (has_bit mask 0) (members_some (mask / 2) cs place (omega arith) (sym (later_bit mask place) ∙ set))
   where
     by_bit : (bit : Bool) → members (mask / 2) cs ≢ [] → cond bit (c ∷ members (mask / 2) cs) (members (mask / 2) cs) ≢ []
     by_bit true later = λ same. absurd (omega (arith, ap length same))

@@ -4,14 +4,14 @@ use lib.IntN.{*ℤ-zero, +ℤ_idl}
 use Rattle.std.specs.List.{list_any}
 use Rattle.std.proofs.lemmas.Int.{ints}
 use Rattle.std.proofs.lemmas.List.Elements.{All-head, All-tail}
-use Rattle.std.proofs.lemmas.List.Folds.{list_any-from_Any}
 use Rattle.pc_model.specs.declared.row.Row.{Row}
 use Rattle.pc_model.specs.declared.region.Region.{Region}
 use Rattle.pc_model.specs.declared.constraint.Constraint.{Constraint}
 use Rattle.pc_model.specs.Aggregate.{int_sum}
 use Rattle.pc_model.specs.Cells.{Class, class_of, is_class}
 use Rattle.pc_model.proofs.Lists.{AllPairs-head, AllPairs-tail}
-use Rattle.pc_class.proofs.Classes.{is_class-same, is_class-itself}
+use Rattle.pc_class.proofs.Classes.{is_class-same}
+use Rattle.pc_class.proofs.Cells.{listed-from_contained}
 use Rattle.pc_bound.specs.CellPrograms.{count_in}
 use Rattle.pc_bound.proofs.Ring.{mul-more}
 use Rattle.pc_counting.proofs.Sums.{int_sum-same, int_sum-add, int_sum-none, count_by-cons}
@@ -47,9 +47,6 @@ sum_of_listed gain class (c ∷ classes) differ listed =
         omega (arith, ints, ap gain same, no_other gain class classes others)
     by_first false e found later = omega (arith, ints, later found)
 
-listed_from_contained : (class : Class) (classes : List Class) → Contains classes class → list_any (is_class class) classes ≡ true
-listed_from_contained class classes found = list_any-from_Any (is_class class) classes (found.0, class, found.1, found.2, is_class-itself class)
-
 -- ---- the rows of all classes
 
 -- the class of each row is listed
@@ -80,7 +77,7 @@ module _ (constraints : List Constraint) (chosen : Region) (classes : List Class
   gains_of_rows gain [] inside = int_sum-none (gain_by_count gain []) classes (λ i d within. *ℤ-zero (gain (slice_index_or classes i d)))
   gains_of_rows gain (row ∷ rows) inside =
       let class = class_of constraints chosen row in
-      let listed = listed_from_contained class classes (All-head (λ (r : Row). Contains classes (class_of constraints chosen r)) row rows inside) in
+      let listed = listed-from_contained class classes (All-head (λ (r : Row). Contains classes (class_of constraints chosen r)) row rows inside) in
       let later = gains_of_rows gain rows (All-tail (λ (r : Row). Contains classes (class_of constraints chosen r)) row rows inside) in
       int_sum-same (gain_by_count gain (row ∷ rows)) (λ (c : Class). gain_if gain class c +ℤ gain_by_count gain rows c) classes (one_more_row gain row rows)
       ∙ int_sum-add (gain_if gain class) (gain_by_count gain rows) classes

@@ -1,5 +1,6 @@
 pub mod Between
 pub mod FewNames
+pub mod Folds
 pub mod Lists
 pub mod Names
 pub mod Pairs

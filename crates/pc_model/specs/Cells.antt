@@ -1,5 +1,5 @@
 -- Classes of rows by the constraints that hold of them, settled leaves, and the cells of a tree of cuts.
-use Rattle.std.specs.Prelude.{◌≡◌, ℕ, ◌+◌, ◌*◌, ◌^◌, ◌<◌, ◌==◌, ℤ, pos, Bool, true, false, cond, not, ◌&&◌, ◌⊎◌, List, [], ◌∷◌, length, map, filter, All, Any, unwrap_or, slice_index_or}
+use Rattle.std.specs.Prelude.{◌≡◌, ℕ, ◌+◌, ◌*◌, ◌^◌, ◌<◌, ◌==◌, ℤ, pos, ⊤, Bool, true, false, cond, not, ◌&&◌, ◌⊎◌, List, [], ◌∷◌, length, map, filter, All, Any, unwrap_or, slice_index_or}
 use Rattle.std.specs.List.{reduce}
 use Rattle.std.specs.Int.{int_min, int_max}
 use Rattle.pc_model.specs.declared.schema.Schema.{Schema}
@@ -121,7 +121,16 @@ classes_of (leaf ∷ leaves) = with_mark leaf.mark (classes_of leaves)
 abbrev pub boxes_of : List Leaf → Class → List Region
 boxes_of leaves class = map (λ (leaf : Leaf). leaf.region) (filter (is_leaf_of class) leaves)
 
+-- the row is in one of the boxes
+abbrev pub IsInSome : List Region → Row → Type 0
+IsInSome boxes row = Any (λ (box : Region). has box row ≡ true) boxes
+
 -- ---- the ends of a cell
+
+-- a side of numbers
+abbrev pub IsSpanned : Side → Type 0
+IsSpanned (Span low high) = ⊤
+IsSpanned (Names bits) = ⊥
 
 abbrev pub low_of : Side → ℤ
 low_of (Span low high) = low

@@ -4,6 +4,7 @@ pub mod Boxes
 pub mod Cells
 pub mod CutTrees
 pub mod FaultTexts
+pub mod Folds
 pub mod Membership
 pub mod Numbers
 pub mod Places

@@ -1,3 +1,7 @@
+ghost use Rattle.std.specs.Prelude.{◌≡◌};
+ghost use Rattle.std.specs.Int.{int_max, int_min};
+ghost use Rattle.pc_model.specs.Folds.{better};
+
 use crate::region::Region;
 
 /// An aggregate.
@@ -27,4 +31,18 @@ pub struct Folded {
     pub sum: i128,
     pub least: Option<i64>,
     pub greatest: Option<i64>,
+}
+
+/// The lesser of a number and of the least of those before it, where there is one.
+pub fn least_of(before: Option<i64>, number: i64) -> i64
+    ensures { result ≡ better int_min before number }
+{
+    before.map_or(number, |least| least.min(number))
+}
+
+/// The greater of a number and of the greatest of those before it, where there is one.
+pub fn greatest_of(before: Option<i64>, number: i64) -> i64
+    ensures { result ≡ better int_max before number }
+{
+    before.map_or(number, |greatest| greatest.max(number))
 }

@@ -1,17 +1,17 @@
 -- The fold of the rows up to a place, from the fold of those before it.
 use Rattle.std.proofs.Common.{◌≡◌, ◌∙◌, ℕ, ◌+◌, ◌<◌, ◌≤◌, ◌&&◌, true, false, ℤ, pos, ◌+ℤ◌, List, [], ◌∷◌, ◌++◌, length, map, take, Option, Some, None, refl, ap, sym, arith}
-use Rattle.std.specs.List.{reduce}
 use Rattle.std.specs.Int.{int_min, int_max}
 use Rattle.std.proofs.lemmas.Int.{ints}
 use Rattle.std.proofs.lemmas.List.{length-append, map-append, append-nil, take_more, take_all}
 use Rattle.std.proofs.lemmas.List.Elements.{filter-append}
-use Rattle.std.proofs.lemmas.List.Sums.{fold-append}
 use Rattle.pc_model.specs.declared.row.Row.{Row}
 use Rattle.pc_model.specs.declared.query.Query.{Query}
 use Rattle.pc_model.specs.declared.query.Folded.{Folded}
-use Rattle.pc_model.specs.Aggregate.{int_sum, is_in_group, kept, number_at}
+use Rattle.pc_model.specs.Aggregate.{is_in_group, kept, number_at}
 use Rattle.pc_model.specs.Membership.{has}
-use Rattle.pc_rows.specs.Folds.{sum_at, best_at, better, sum_with, best_with, IsFold, IsWithRow, IsSmall}
+use Rattle.pc_model.specs.Folds.{sum_at, best_at, better, IsFold}
+use Rattle.pc_model.proofs.Folds.{int_sum-push, reduce-push}
+use Rattle.pc_rows.specs.Folds.{sum_with, best_with, IsWithRow, IsSmall}
 use Rattle.pc_rows.specs.Stored.{row_at}
 use Rattle.pc_model.specs.Membership.{row_from as row}
 
@@ -20,14 +20,6 @@ pub record IsFoldedTo (query : Query) (rows : List Row) (place : ℕ) (folded : 
   pub few : folded.count ≤ place
   pub small : IsSmall folded
   pub before : IsFold query (take place rows) folded
-
-int_sum-push : (xs : List ℤ) (x : ℤ) → int_sum (xs ++ x ∷ []) ≡ int_sum xs +ℤ x
-int_sum-push [] x = omega (arith, ints)
-int_sum-push (y ∷ ys) x = omega (arith, ints, int_sum-push ys x)
-
-reduce-push : (pick : ℤ → ℤ → ℤ) (xs : List ℤ) (x : ℤ) → reduce pick (xs ++ x ∷ []) ≡ Some (better pick (reduce pick xs) x)
-reduce-push pick [] x = refl
-reduce-push pick (y ∷ ys) x = ap Some (fold-append pick y ys (x ∷ []))
 
 sum_at-push : (column : Option ℕ) (rows : List Row) (extra : Row) → sum_at column (rows ++ extra ∷ []) ≡ sum_with column (sum_at column rows) extra
 sum_at-push None rows extra = refl

@@ -1,10 +1,9 @@
-ghost use Rattle.std.specs.Prelude.{◌≡◌, ◌<◌, length};
-ghost use Rattle.std.specs.Int.{int_max, int_min};
-ghost use Rattle.pc_rows.specs.Folds.{better, IsSmall, IsWithRow};
+ghost use Rattle.std.specs.Prelude.{◌<◌, length};
+ghost use Rattle.pc_rows.specs.Folds.{IsSmall, IsWithRow};
 ghost use Rattle.pc_rows.specs.Stored.{row_at, row_limit};
 
 use crate::rows::Rows;
-use pc_model::Folded;
+use pc_model::{Folded, greatest_of, least_of};
 
 // The fold with the row at a place as well.
 pub(crate) fn with_row(folded: Folded, column: Option<u8>, rows: &Rows, place: usize) -> Folded
@@ -25,16 +24,4 @@ pub(crate) fn with_row(folded: Folded, column: Option<u8>, rows: &Rows, place: u
         least: Some(least_of(folded.least, number)),
         greatest: Some(greatest_of(folded.greatest, number)),
     }
-}
-
-fn least_of(before: Option<i64>, number: i64) -> i64
-    ensures { result ≡ better int_min before number }
-{
-    before.map_or(number, |least| least.min(number))
-}
-
-fn greatest_of(before: Option<i64>, number: i64) -> i64
-    ensures { result ≡ better int_max before number }
-{
-    before.map_or(number, |greatest| greatest.max(number))
 }

@@ -1,7 +1,7 @@
-ghost use Rattle.std.specs.Prelude.{◌≡◌, ◌<◌, ◌≤◌, List, [], ◌∷◌, ◌++◌, length, OnOk, OnErr, All};
+ghost use Rattle.std.specs.Prelude.{◌≡◌, ◌<◌, ◌≤◌, List, [], ◌∷◌, ◌++◌, length, OnOk, OnErr, All, nat_abs, ◌^◌};
 ghost use Rattle.pc_model.specs.Aggregate.{number_at};
 ghost use Rattle.pc_model.specs.Membership.{has, row_from as row};
-ghost use Rattle.pc_rows.specs.Folds.{IsFold};
+ghost use Rattle.pc_model.specs.Folds.{IsFold};
 ghost use Rattle.pc_rows.specs.Stored.{row_at, row_limit};
 
 use crate::fold::with_row;
@@ -95,7 +95,9 @@ impl Rows {
 
     /// What the rows in the query's region come to. Where the query has no column, the sum is 0.
     pub fn fold(&self, query: &Query) -> Folded
-        ensures { IsFold query.now self.now result }
+        ensures folded { IsFold query.now self.now result }
+        ensures few { result.count ≤ row_limit }
+        ensures small { nat_abs result.sum ≤ 2 ^ 83 }
     {
         let mut folded = Folded {
             count: 0,

@@ -21,7 +21,7 @@ loop-place-preserved c =
       | else-has_row w ↦ rw w.folded-is (fold_no _ _ _ _ below c.loop-place.invariant (sym c.has_row.ensures ∙ w.if-has_row.false))
     ]
 
-pub returns : goal.returns
-returns c =
+pub returns-clause-folded : goal.returns-clause-folded
+returns-clause-folded c =
     let past : length c.args.self.now ≤ c.loop-place.place = rw (← c.self.view_is, length-rows_in) c.loop-place-test.false in
     fold_all _ _ _ _ past c.loop-place.invariant
