@@ -4,4 +4,6 @@ pub mod Ring
 pub mod Steps
 pub mod SumBelow
 pub mod Totals
+pub mod TreeBounds
+pub mod TreeNodes
 pub mod Widths

@@ -2,4 +2,5 @@ pub mod Allocation
 pub mod Bound
 pub mod CellPrograms
 pub mod Parts
+pub mod SplitTrees
 pub mod Sums

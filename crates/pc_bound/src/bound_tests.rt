@@ -3,8 +3,7 @@ ghost use Rattle.pc_bound.specs.Sums.{nat_at};
 ghost use Rattle.pc_bound.specs.Allocation.{IsProgram, IsBox};
 ghost use Rattle.pc_bound.specs.Bound.{IsFit};
 
-use crate::tests::is_program;
-use crate::{Program, dual_bound};
+use crate::{Program, dual_bound, is_program};
 use pc_list::Seq;
 use pc_model::Mult;
 use std::alloc::{AllocError, Global};

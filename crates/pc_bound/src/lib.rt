@@ -15,5 +15,8 @@ mod width;
 
 pub use allocation::lawful;
 pub use bound::dual_bound;
-pub use laws::{bounds_hold, relaxed_bounds_hold, void_means_none};
-pub use program::Program;
+pub use laws::{
+    bounds_hold, nodes_spell_their_splits, relaxed_bounds_hold, trees_bound_allocations,
+    void_means_none,
+};
+pub use program::{Program, is_program};

@@ -1,8 +1,4 @@
-ghost use Rattle.std.specs.Prelude.{◌≡◌, IsTrue, ℕ, ◌<◌, ◌≤◌, length};
-ghost use Rattle.pc_bound.specs.Sums.{nat_at};
-ghost use Rattle.pc_bound.specs.Allocation.{IsProgram};
-
-use crate::{Program, lawful};
+use crate::{Program, is_program, lawful};
 use pc_list::Seq;
 use std::alloc::{AllocError, Global};
 use std::test::Fail;
@@ -60,37 +56,6 @@ fn program(alloc: Global, numbers: &Numbers) -> Result<Program, AllocError> {
         cap: Seq::from_slice(alloc, cap)?,
         gain: Seq::from_slice(alloc, &[1, 1, 1])?,
     })
-}
-
-/// Whether each list has its length, the ends are in order, and no end is too great.
-pub fn is_program(p: &Program) -> bool
-    ensures { IsTrue result → IsProgram p.now }
-{
-    let cells = p.masks.len();
-    let constraints = p.least.len();
-    if p.gain.len() != cells || p.floor.len() != cells || p.cap.len() != cells {
-        return false;
-    }
-    if p.most.len() != constraints || constraints > 20 {
-        return false;
-    }
-    are_ordered(p.least.as_slice(), p.most.as_slice())
-        && are_ordered(p.floor.as_slice(), p.cap.as_slice())
-}
-
-fn are_ordered(lows: &[u64], highs: &[u64]) -> bool
-    requires { length lows.now ≡ length highs.now }
-    ensures { IsTrue result → (i : ℕ) → i < length lows.now → (nat_at lows.now i ≤ nat_at highs.now i) × (nat_at highs.now i ≤ 1_000_000_000) }
-{
-    for (place, low) in lows.iter().enumerate() {
-        if *low > highs[place] {
-            return false;
-        }
-        if highs[place] > 1_000_000_000 {
-            return false;
-        }
-    }
-    true
 }
 
 #[test]

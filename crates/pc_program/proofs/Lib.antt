@@ -1,7 +1,10 @@
 pub mod AllSettled
 pub mod FewCells
+pub mod Gathering
+pub mod OneBits
 pub mod Optimal
 pub mod Slack
 pub mod Spikes
 pub mod Void
+pub mod WholeBox
 pub mod Widths

@@ -37,16 +37,23 @@ pub record IsKept (p : Program) (k : ℕ) (before after : List ℕ) : Type 0 whe
   pub long : length after ≡ length before
   pub others : (i : ℕ) → i < cells_of p → is_in p i k ≡ false → nat_at after i ≡ nat_at before i
 
--- the first cell of the constraint from a place on
-pub record IsFirstFrom (p : Program) (k from i : ℕ) : Type 0 where
+-- no cell from a place up to another is in the constraint
+abbrev pub HasNoneIn : Program → ℕ → ℕ → ℕ → Type 0
+HasNoneIn p k from to = (j : ℕ) → from ≤ j → j < to → is_in p j k ≡ false
+
+-- the first cell of the constraint there
+pub record IsFirstIn (p : Program) (k from to i : ℕ) : Type 0 where
   pub past : from ≤ i
-  pub there : i < cells_of p
+  pub there : i < to
   pub member : is_in p i k ≡ true
   pub before : (j : ℕ) → from ≤ j → j < i → is_in p j k ≡ false
 
--- no cell from that place on is in the constraint
+-- the same from a place on
 abbrev pub HasNoneFrom : Program → ℕ → ℕ → Type 0
-HasNoneFrom p k from = (j : ℕ) → from ≤ j → j < cells_of p → is_in p j k ≡ false
+HasNoneFrom p k from = HasNoneIn p k from (cells_of p)
+
+abbrev pub IsFirstFrom : Program → ℕ → ℕ → ℕ → Type 0
+IsFirstFrom p k from i = IsFirstIn p k from (cells_of p) i
 
 -- the constraint is settled by its multiplier, and what the others have stays
 pub record IsSettled (p : Program) (before after : List ℕ) (by : ℤ) (k : ℕ) : Type 0 where

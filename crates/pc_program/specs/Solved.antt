@@ -1,5 +1,5 @@
 -- When all constraints of a program are settled, and when the program is solved.
-use Rattle.std.specs.Prelude.{◌≡◌, ◌<◌}
+use Rattle.std.specs.Prelude.{◌≡◌, ◌*◌, ◌<◌, ◌≤◌, ◌^◌, ⊤, nat_abs}
 use Rattle.pc_bound.specs.declared.program.Program.{Program}
 use Rattle.pc_bound.specs.Allocation.{constraints_of, worth, IsAllocation}
 use Rattle.pc_bound.specs.Bound.{bound_of, IsMultiplier, IsVoid}
@@ -19,3 +19,8 @@ abbrev pub IsSolved : Program → Solved → Type 0
 IsSolved p (Best counts value mult) =
     IsAllocation p p.floor p.cap counts × (value ≡ worth p counts) × IsMultiplier p mult × (value ≡ bound_of p p.floor p.cap mult)
 IsSolved p (Nothing mult) = IsVoid p p.floor p.cap mult
+
+-- the value is at most what the rows of 40 cells can be worth
+abbrev pub IsSmall : Solved → Type 0
+IsSmall (Best counts value mult) = nat_abs value ≤ 40 * 2 ^ 117
+IsSmall (Nothing mult) = ⊤

@@ -1,10 +1,13 @@
 //! The allocation of greatest worth of a program whose constraints share no cell.
 #![tactic(auto)]
 
+mod conditions;
+mod members;
 mod settling;
 mod sharing;
 mod solving;
 #[cfg(test)]
 mod tests;
 
+pub use conditions::has_one_bits;
 pub use solving::{Solved, greedy};

@@ -1,26 +1,33 @@
 ghost use Rattle.std.specs.Prelude.{◌≡◌, ◌+◌, ℕ, ◌<◌, ◌≤◌, List, length, MatchOption};
-ghost use Rattle.pc_model.specs.Places.{has_bit};
 ghost use Rattle.pc_bound.specs.Sums.{nat_at, int_at};
 ghost use Rattle.pc_bound.specs.Allocation.{cells_of, constraints_of, IsProgram};
+ghost use Rattle.pc_program.specs.Gathered.{AreFirstTwo};
 ghost use Rattle.pc_program.specs.Sharing.{IsSharedOut};
 ghost use Rattle.pc_program.specs.Settled.{HasOneBits, IsDone, IsShort, IsSettled, IsFirstFrom, HasNoneFrom};
 
+use crate::members::Members;
 use crate::sharing::{Shared, Supply, share_out};
 use pc_bound::Program;
 
 /// Gives a constraint's cells the counts that the greatest worth wants, and the multiplier that proves it; `None`
 /// where even full they have too few.
-pub(crate) fn settle(p: &Program, constraint: usize, counts: &mut Vec<u64>) -> Option<i128>
+pub(crate) fn settle(
+    p: &Program,
+    constraint: usize,
+    members: Members,
+    counts: &mut Vec<u64>,
+) -> Option<i128>
     requires program { IsProgram p.now }
     requires one_bits { HasOneBits p.now }
     requires there { constraint < constraints_of p.now }
+    requires members { AreFirstTwo p.now constraint (cells_of p.now) members }
     requires sized { length counts.old.items ≡ cells_of p.now }
     ensures { MatchOption result (IsShort p.now constraint) (λ by. IsSettled p.now counts.old.items counts.new.items by constraint) }
 {
-    let Some(first) = first_from(p, constraint, 0) else {
+    let Some(first) = members.first else {
         return settle_none(p, constraint);
     };
-    let Some(second) = first_from(p, constraint, first + 1) else {
+    let Some(second) = members.second else {
         return settle_one(p, constraint, first, counts);
     };
     settle_two(p, constraint, first, second, counts)
@@ -113,26 +120,4 @@ fn supply_of(p: &Program, cell: usize) -> Supply
         cap: p.cap.as_slice()[cell],
         gain: p.gain.as_slice()[cell],
     }
-}
-
-/// The first cell of a constraint from a place on.
-fn first_from(p: &Program, constraint: usize, from: usize) -> Option<usize>
-    requires few { constraint < 32 }
-    requires start { from ≤ cells_of p.now }
-    ensures { MatchOption result (HasNoneFrom p.now constraint from) (IsFirstFrom p.now constraint from) }
-{
-    let masks = p.masks.as_slice();
-    for cell in from..masks.len() {
-        if has_bit(masks[cell], constraint) {
-            return Some(cell);
-        }
-    }
-    None
-}
-
-fn has_bit(mask: u32, place: usize) -> bool
-    requires few { place < 32 }
-    ensures { result ≡ has_bit mask place }
-{
-    (mask >> place as u32) & 1 == 1
 }

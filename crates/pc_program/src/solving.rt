@@ -1,8 +1,9 @@
-ghost use Rattle.std.specs.Prelude.{◌≡◌, ◌<◌, ◌≤◌, ◌^◌, length, IfOk, slice_set, replicate, pos, negsuc, ◌*ℤ◌, nat_abs};
+ghost use Rattle.std.specs.Prelude.{◌≡◌, ◌*◌, ◌<◌, ◌≤◌, ◌^◌, length, IfOk, slice_set, replicate, pos, negsuc, ◌*ℤ◌, nat_abs};
 ghost use Rattle.pc_bound.specs.Allocation.{cells_of, worth, IsProgram, IsAllocation};
 ghost use Rattle.pc_program.specs.Settled.{HasOneBits};
-ghost use Rattle.pc_program.specs.Solved.{IsSettling, IsSolved};
+ghost use Rattle.pc_program.specs.Solved.{IsSettling, IsSolved, IsSmall};
 
+use crate::members::gather;
 use crate::settling::settle;
 use pc_bound::Program;
 use pc_list::Seq;
@@ -41,7 +42,8 @@ enum Settled {
 pub fn greedy(alloc: Global, p: &Program) -> Result<Solved, Memory>
     requires program { IsProgram p.now }
     requires one_bits { HasOneBits p.now }
-    ensures { IfOk result (IsSolved p.now) }
+    ensures solved { IfOk result (IsSolved p.now) }
+    ensures small { IfOk result IsSmall }
 {
     match settle_all(alloc, p)? {
         Settled::All {
@@ -74,10 +76,11 @@ fn settle_all(alloc: Global, p: &Program) -> Result<Settled, Memory>
     requires one_bits { HasOneBits p.now }
     ensures { IfOk result (IsSettling p.now) }
 {
+    let members = gather(alloc, p)?;
     let mut counts = vec![in alloc; 0; p.masks.len()]?;
     let mut multipliers = Seq::new(alloc);
     for place in 0..p.least.len() {
-        let Some(by) = settle(p, place, &mut counts) else {
+        let Some(by) = settle(p, place, members[place], &mut counts) else {
             return Ok(Settled::Short { place });
         };
         multipliers.push(by)?;
@@ -94,7 +97,8 @@ fn worth_of(p: &Program, counts: &[u64]) -> i128
     requires program { IsProgram p.now }
     requires one_bits { HasOneBits p.now }
     requires allowed { IsAllocation p.now p.now.floor p.now.cap counts.now }
-    ensures { result ≡ worth p.now counts.now }
+    ensures value { result ≡ worth p.now counts.now }
+    ensures small { nat_abs result ≤ 40 * 2 ^ 117 }
 {
     let gains = p.gain.as_slice();
     let mut worth = 0;

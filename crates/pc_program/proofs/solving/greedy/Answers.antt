@@ -4,8 +4,8 @@ use mir.Syntax.{w128}
 use Rattle.pc_program.proofs.Optimal.{IsSolved-all}
 use Rattle.pc_program.proofs.solving.greedy.Goals as goal
 
-pub returns-in-All : goal.returns-in-All
-returns-in-All c =
+pub returns-in-All-clause-solved : goal.returns-in-All-clause-solved
+returns-in-All-clause-solved c =
     let same : to_z w128 (of_z w128 c.worth_of-value.result) ≡ c.worth_of-value.result = omega (arith, ints) in
     IsSolved-all c.args.p.now c.in-All.counts c.in-All.multipliers _ c.requires.program c.requires.one_bits (rw c.in-All.is at c.in_ok-counts.ensures)
-    (same ∙ (rw c.as_slice.ensures at c.worth_of-value.ensures))
+    (same ∙ (rw c.as_slice.ensures at c.worth_of-value.ensures.value))
