@@ -5,3 +5,6 @@ pub mod RunsFrom
 pub mod Zipped
 pub mod Allocations
 pub mod Worth
+pub mod Totals
+pub mod RunSums
+pub mod RunFolds

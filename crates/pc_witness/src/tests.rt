@@ -1,6 +1,6 @@
-use crate::{meets, rebuild};
+use crate::{fold_runs, meets, rebuild, total_times};
 use pc_list::{Seq, Text};
-use pc_model::{Column, Constraint, Kind, Region, Row, Run, Schema, Side};
+use pc_model::{Agg, Column, Constraint, Folded, Kind, Query, Region, Row, Run, Schema, Side};
 use std::alloc::{AllocError, Global};
 use std::test::Fail;
 
@@ -130,6 +130,94 @@ fn runs_of_counts(rt: HostRuntime) -> Result<(), Fail> {
         assert!(rt; picks.len() == counts.len());
         let runs = rebuild(alloc, &picks, counts)?;
         assert!(rt; runs.as_slice() == wanted.as_slice(), "case {number}");
+    }
+    Ok(())
+}
+
+// A query of the rows of weeks 2 and 3, of any item.
+fn query(alloc: Global, column: Option<u8>) -> Result<Query, AllocError> {
+    let sides = [
+        Side::Span {
+            low: i64::MIN,
+            high: i64::MAX,
+        },
+        Side::Span { low: 2, high: 3 },
+    ];
+    Ok(Query {
+        agg: Agg::Sum,
+        column,
+        chosen: Region {
+            sides: Seq::from_slice(alloc, &sides)?,
+        },
+        group: None,
+    })
+}
+
+fn folded(count: u64, sum: i128, least: Option<i64>, greatest: Option<i64>) -> Folded {
+    Folded {
+        count,
+        sum,
+        least,
+        greatest,
+    }
+}
+
+#[test]
+fn folds_of_runs(rt: HostRuntime) -> Result<(), Fail> {
+    let alloc = rt.alloc();
+    let nothing = folded(0, 0, None, None);
+    let mixed = [(3, 5, 2), (2, -7, 3), (4, 9, 1), (0, -8, 2)];
+    let most = 68_719_476_736;
+    let cases: [(Option<u8>, &[(u64, i64, i64)], Folded); 10] = [
+        (None, &[], nothing),
+        (Some(0), &[], nothing),
+        (Some(0), &[(4, 9, 1)], nothing),
+        (Some(0), &[(0, -8, 2)], nothing),
+        (None, &mixed, folded(5, 0, None, None)),
+        (Some(0), &mixed, folded(5, 1, Some(-7), Some(5))),
+        (Some(1), &mixed, folded(5, 12, Some(2), Some(3))),
+        (Some(2), &mixed, folded(5, 0, Some(0), Some(0))),
+        (
+            Some(0),
+            &[(2, -4, 2), (1, -9, 3), (2, -4, 2)],
+            folded(5, -25, Some(-9), Some(-4)),
+        ),
+        (
+            Some(0),
+            &[(most, i64::MIN, 2)],
+            folded(
+                most,
+                -633_825_300_114_114_700_748_351_602_688,
+                Some(i64::MIN),
+                Some(i64::MIN),
+            ),
+        ),
+    ];
+    for (number, (column, listed, wanted)) in cases.into_iter().enumerate() {
+        let query = query(alloc, column)?;
+        let runs = runs_of(alloc, listed)?;
+        assert!(rt; total_times(&runs).is_some());
+        assert!(rt; fold_runs(&query, &runs) == wanted, "case {number}");
+    }
+    Ok(())
+}
+
+#[test]
+fn totals_of_runs(rt: HostRuntime) -> Result<(), Fail> {
+    let alloc = rt.alloc();
+    let most = 68_719_476_736;
+    let cases: [(&[(u64, i64, i64)], Option<u64>); 7] = [
+        (&[], Some(0)),
+        (&[(0, 1, 1)], Some(0)),
+        (&[(5, 1, 1), (0, 1, 1), (7, 2, 1)], Some(12)),
+        (&[(most, 1, 1), (0, 1, 1)], Some(most)),
+        (&[(most, 1, 1), (1, 1, 1)], None),
+        (&[(most + 1, 1, 1)], None),
+        (&[(u64::MAX, 1, 1), (u64::MAX, 1, 1)], None),
+    ];
+    for (number, (listed, wanted)) in cases.into_iter().enumerate() {
+        let runs = runs_of(alloc, listed)?;
+        assert!(rt; total_times(&runs) == wanted, "case {number}");
     }
     Ok(())
 }
