@@ -1,2 +1,10 @@
-pub mod Fields
-pub mod Scales
+pub mod BlockLines
+pub mod Ends
+pub mod Fractions
+pub mod Gains
+pub mod Groups
+pub mod Parts
+pub mod Seen
+pub mod Shown
+pub mod Sound
+pub mod TreeLines

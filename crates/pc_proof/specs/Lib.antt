@@ -1,1 +1,4 @@
-pub mod RunLines
+pub mod Demands
+pub mod Setting
+pub mod Table
+pub mod Unbroken

@@ -1,8 +1,12 @@
-//! The texts of answers: today the lines of the runs that reach them.
+//! Answers with what shows them, the rules that such answers keep, and the law that an answer that breaks none is right.
 #![tactic(auto)]
 
-mod runs;
-#[cfg(test)]
-mod tests;
+mod answer;
+mod document;
+mod laws;
+mod verdicts;
 
-pub use runs::put_runs;
+pub use answer::{AlwaysBy, Answer, Bounded, End, Lack, Mark, NeverBy, Proof, Relation, Why};
+pub use document::{Block, BlockTree, Document};
+pub use laws::unbroken_is_right;
+pub use verdicts::{demands_are_the_rules, one_verdict};

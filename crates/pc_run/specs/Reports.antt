@@ -7,7 +7,7 @@ use Rattle.pc_model.specs.declared.fault.Fault.{Fault}
 use Rattle.pc_model.specs.FaultTexts.{number_of, name_of, file_name_of}
 use Rattle.pc_lang.specs.Canonical.{constraints_text}
 use Rattle.pc_run.specs.declared.listing.Listing.{Listing}
-use Rattle.pc_proof.specs.RunLines.{run_lines}
+use Rattle.pc_report.specs.RunLines.{run_lines}
 use Rattle.pc_count.specs.declared.answer.CountAnswer.{CountAnswer}
 use Rattle.pc_count.specs.declared.answer.CountAnswer.TheVariants.{Possible, Impossible}
 

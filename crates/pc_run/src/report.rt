@@ -5,11 +5,11 @@ ghost use Rattle.pc_run.specs.Reports.{end_lines, impossible_report, possible_re
 use pc_count::CountAnswer;
 use pc_model::Schema;
 use pc_num::Memory;
-use pc_proof::put_runs;
+use pc_report::put_runs;
 use std::alloc::Global;
 
 /// The report of a count.
-#[tactic(auto, using(pc_proof::proofs::Scales::scales))]
+#[tactic(auto, using(pc_report::proofs::Scales::scales))]
 pub(crate) fn report(
     alloc: Global,
     schema: &Schema,

@@ -1,5 +1,5 @@
 ghost use Rattle.std.specs.Prelude.{◌≡◌, ◌++◌, codes, IfOk, OnErr, OnOk};
-ghost use Rattle.pc_proof.specs.RunLines.{HasScale, HaveScales, field_text, fields_text, name_at, next_fields_text, run_line, run_lines};
+ghost use Rattle.pc_report.specs.RunLines.{HasScale, HaveScales, field_text, fields_text, name_at, next_fields_text, run_line, run_lines};
 
 use pc_list::Text;
 use pc_model::{Column, Kind, Run, Schema};
@@ -114,7 +114,7 @@ fn put_field(alloc: Global, out: &mut Vec<u8>, kind: &Kind, cell: i64) -> Result
 }
 
 // The name at a place, or no text where there is none.
-fn name_at(names: &[Text], place: i64) -> &str
+pub(crate) fn name_at(names: &[Text], place: i64) -> &str
     ensures { result.now ≡ name_at names.now place }
 {
     if place < 0 {

@@ -2,7 +2,7 @@
 use Rattle.std.proofs.Common.{◌≡◌, ℕ, ℤ, ◌+◌, ◌<◌, ◌≤◌, List, [], ◌∷◌, ◌++◌, length, get_or, drop, codes, refl, add-one, drop-cons, append_assoc}
 use Rattle.std.proofs.lemmas.List.{append-nil, drop_all}
 use Rattle.pc_model.specs.declared.schema.Column.{Column}
-use Rattle.pc_proof.specs.RunLines.{field_text, next_fields_text}
+use Rattle.pc_report.specs.RunLines.{field_text, next_fields_text}
 
 pub fields_step : (items : List ℕ) (columns : List Column) (cells : List ℤ) (i : ℕ) (column : Column) (cell : ℤ) → i < length columns → i < length cells → (items ++ (codes ", " ++ field_text (get_or columns i column).kind (get_or cells i cell))) ++ next_fields_text (drop (i + 1) columns) (drop (i + 1) cells) ≡ items ++ next_fields_text (drop i columns) (drop i cells)
 unfolding next_fields_text

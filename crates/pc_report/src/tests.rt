@@ -1,3 +1,5 @@
+mod report;
+
 use crate::put_runs;
 use pc_list::Seq;
 use pc_model::{Row, Run};
@@ -5,10 +7,12 @@ use pc_schema::read_schema;
 use std::alloc::{AllocError, Global};
 use std::test::Fail;
 
-const SCHEMA: &str =
+/// The columns of the tests.
+pub(crate) const SCHEMA: &str =
     "branch,cat,Chicago,New York,in,\"a\"\"b\"\nday,int,-31,31\nprice,dec,2,-1000.00,1000.00\n";
 
-fn run_of(alloc: Global, times: u64, cells: [i64; 3]) -> Result<Run, AllocError> {
+/// A run of rows with these cells.
+pub(crate) fn run_of(alloc: Global, times: u64, cells: [i64; 3]) -> Result<Run, AllocError> {
     let mut row = Seq::new(alloc);
     for cell in cells {
         row.push(cell)?;

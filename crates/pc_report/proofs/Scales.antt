@@ -5,7 +5,7 @@ use Rattle.pc_model.specs.declared.schema.Kind.TheVariants.{Int, Dec, Cat}
 use Rattle.pc_model.specs.declared.schema.Column.{Column}
 use Rattle.pc_model.specs.declared.schema.Schema.{Schema}
 use Rattle.pc_model.specs.WellFormed.{IsKind, IsColumn, IsWellFormed}
-use Rattle.pc_proof.specs.RunLines.{HasScale, HaveScales}
+use Rattle.pc_report.specs.RunLines.{HasScale, HaveScales}
 
 HasScale-from_kind : (kind : Kind) → IsKind kind → HasScale kind
 HasScale-from_kind (Int low high) h = tt

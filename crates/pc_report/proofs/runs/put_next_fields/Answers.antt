@@ -1,7 +1,7 @@
 use Rattle.std.proofs.Common.{◌≡◌, pos, get_or, arith, w64, to_z, of_z, ◌∙◌}
 use Rattle.std.proofs.lemmas.Int.{ints}
-use Rattle.pc_proof.proofs.Fields.{fields_step}
-use Rattle.pc_proof.proofs.runs.put_next_fields.Goals as goal
+use Rattle.pc_report.proofs.Fields.{fields_step}
+use Rattle.pc_report.proofs.runs.put_next_fields.Goals as goal
 
 pub loop-place-preserved : goal.loop-place-preserved
 loop-place-preserved c =

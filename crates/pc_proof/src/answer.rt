@@ -1,0 +1,84 @@
+use pc_list::Seq;
+use pc_model::{Run, Tree};
+use pc_num::Frac;
+
+/// What shows that a value is an end: the observed rows, a search tree, a search tree at a ratio, or the values that
+/// rows can have.
+#[derive(Clone, Debug, PartialEq, Eq, Drop)]
+pub enum Proof {
+    Rows,
+    Tree(Tree),
+    At(Frac, Tree),
+    Values,
+}
+
+/// A value that is not passed, with what shows it.
+#[derive(Clone, Debug, PartialEq, Eq, Drop)]
+pub struct Bounded {
+    pub value: Frac,
+    pub proof: Proof,
+}
+
+/// Why no lost rows meet the constraints: a tree whose leaves are void, a greatest number of lost rows that is below
+/// the least one, or a low end above the high one.
+#[derive(Clone, Debug, PartialEq, Eq, Drop)]
+pub enum Why {
+    Void(Tree),
+    Cross(Tree, Tree),
+    Ends(Bounded, Bounded),
+}
+
+/// Whether lost rows can meet the constraints, with runs of such rows.
+#[derive(Clone, Debug, PartialEq, Eq, Drop)]
+pub enum Relation {
+    Possible(Seq<Run>),
+    Impossible(Why),
+    Undecided,
+}
+
+/// What shows that the aggregate always has a value.
+#[derive(Clone, Debug, PartialEq, Eq, Drop)]
+pub enum NeverBy {
+    Rows,
+    Tree(Tree),
+}
+
+/// What shows that the aggregate never has a value.
+#[derive(Clone, Debug, PartialEq, Eq, Drop)]
+pub enum AlwaysBy {
+    Tree(Tree),
+    Ends(Bounded, Bounded),
+}
+
+/// Whether the aggregate can lack a value. An aggregate that always has one is silent of it.
+#[derive(Clone, Debug, PartialEq, Eq, Drop)]
+pub enum Lack {
+    Silent,
+    Never(NeverBy),
+    Sometimes { without: Seq<Run>, with: Seq<Run> },
+    Always(AlwaysBy),
+    Undecided,
+}
+
+/// Whether an end is reached, with runs of lost rows that reach it.
+#[derive(Clone, Debug, PartialEq, Eq, Drop)]
+pub enum Mark {
+    Exact(Seq<Run>),
+    Outer,
+}
+
+/// An end of a range, in units of the last place of the query's column.
+#[derive(Clone, Debug, PartialEq, Eq, Drop)]
+pub struct End {
+    pub value: Frac,
+    pub mark: Mark,
+    pub proof: Proof,
+}
+
+/// The answer to a query. There are no ends where the relation is impossible or the aggregate never has a value.
+#[derive(Clone, Debug, PartialEq, Eq, Drop)]
+pub struct Answer {
+    pub relation: Relation,
+    pub lack: Lack,
+    pub ends: Option<(End, End)>,
+}

@@ -1,0 +1,12 @@
+//! The texts of answers: the report of a document, and the lines of runs.
+#![tactic(auto)]
+
+mod answer;
+mod report;
+mod runs;
+#[cfg(test)]
+mod tests;
+mod value;
+
+pub use report::put_report;
+pub use runs::put_runs;
