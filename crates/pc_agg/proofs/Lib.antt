@@ -1,0 +1,10 @@
+pub mod Answering
+pub mod Attained
+pub mod CellGains
+pub mod CellPrograms
+pub mod CellTargets
+pub mod Filling
+pub mod OneBits
+pub mod ProgramEnds
+pub mod Reaching
+pub mod SettledPrograms

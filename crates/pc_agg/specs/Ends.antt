@@ -1,0 +1,57 @@
+-- The ends of a range, and what the cells gain towards them.
+use Rattle.std.specs.Prelude.{◌≡◌, ℤ, pos, neg_ℤ, cond}
+use Rattle.pc_model.specs.declared.row.Row.{Row}
+use Rattle.pc_model.specs.declared.query.Agg.{Agg}
+use Rattle.pc_model.specs.declared.query.Agg.TheVariants.{Count, Sum}
+use Rattle.pc_model.specs.declared.query.Query.{Query}
+use Rattle.pc_model.specs.Membership.{has}
+use Rattle.pc_model.specs.Aggregate.{asked}
+use Rattle.pc_model.specs.Cells.{Class, IsRowOf}
+use Rattle.pc_proof.specs.Setting.{Setting, seen_count, seen_sum, high_in, on_chosen}
+use Rattle.pc_proof.specs.Table.{one, minus_one, minus_low}
+use Rattle.pc_proof.specs.Unbroken.{HoldsLow, HoldsHigh, ShowsImpossible, IsExact}
+use Rattle.pc_proof.specs.declared.answer.End.{End as AnswerEnd}
+use Rattle.pc_agg.specs.declared.extreme.Extreme.{Extreme}
+use Rattle.pc_agg.specs.declared.extreme.Extreme.TheVariants.{Low, High}
+use Rattle.pc_agg.specs.declared.ends.Reached.{Reached}
+use Rattle.pc_agg.specs.declared.ends.Reached.TheVariants.{At, Nothing}
+
+-- what a row of a cell gains towards an end of a count or a sum; nothing for other aggregates
+abbrev pub gain_towards : Setting → Agg → Extreme → Class → ℤ
+gain_towards s Count High class = on_chosen one class
+gain_towards s Count Low class = on_chosen minus_one class
+gain_towards s Sum High class = on_chosen (high_in s) class
+gain_towards s Sum Low class = on_chosen (minus_low s) class
+gain_towards s agg extreme class = pos 0
+
+-- what a row adds to the aggregate
+abbrev pub adds : Agg → Query → Row → ℤ
+adds Count query row = cond (has query.chosen row) (pos 1) (pos 0)
+adds Sum query row = cond (has query.chosen row) (asked query row) (pos 0)
+adds agg query row = pos 0
+
+-- towards the low end a row gains what it does not add
+abbrev pub signed : Extreme → ℤ → ℤ
+signed High number = number
+signed Low number = neg_ℤ number
+
+-- a row of the cell that adds what the cell gains
+pub record IsPick (s : Setting) (agg : Agg) (extreme : Extreme) (class : Class) (row : Row) : Type 0 where
+  pub of_cell : IsRowOf s.question.schema s.question.constraints s.question.query.chosen class row
+  pub adds : signed extreme (adds agg s.question.query row) ≡ gain_towards s agg extreme class
+
+-- the aggregate of the observed rows
+abbrev pub seen_value : Agg → Setting → ℤ
+seen_value Count s = seen_count s.question
+seen_value Sum s = seen_sum s.question
+seen_value agg s = pos 0
+
+-- an end that breaks no rule
+abbrev pub HoldsEnd : Setting → Extreme → AnswerEnd → Type 0
+HoldsEnd s Low end = HoldsLow s end
+HoldsEnd s High end = HoldsHigh s end
+
+-- the end is reached and breaks no rule, or no lost rows meet the constraints
+abbrev pub IsReached : Setting → Extreme → Reached → Type 0
+IsReached s extreme (At end) = HoldsEnd s extreme end × IsExact end.mark × (end.value.den ≡ pos 1)
+IsReached s extreme (Nothing why) = ShowsImpossible s why

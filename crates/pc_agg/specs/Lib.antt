@@ -1,0 +1,6 @@
+pub mod Answered
+pub mod Ends
+pub mod Observed
+pub mod Programs
+pub mod Settings
+pub mod Targets
