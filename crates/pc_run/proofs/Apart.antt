@@ -7,7 +7,7 @@ use Rattle.pc_model.specs.declared.fault.Reason.TheVariants as reasons
 use Rattle.pc_model.specs.declared.fault.Refusal.{Refusal}
 use Rattle.pc_model.specs.declared.fault.Refusal.TheVariants as refusals
 use Rattle.pc_model.specs.Refusals.{fault_at, RefusesAs}
-use Rattle.pc_count.specs.Overlap.{first_overlap}
+use Rattle.pc_overlap.specs.Overlap.{first_overlap}
 use Rattle.pc_lang.specs.Files.{constraints_of, line_number}
 use Rattle.pc_run.specs.Outcome.{apart_of}
 

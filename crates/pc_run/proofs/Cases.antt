@@ -1,6 +1,5 @@
 -- What reading the files of a command answers, exit by exit.
-use Rattle.std.proofs.Common.{◌≡◌, ℕ, ◌+◌, ◌*◌, ◌^◌, ◌<◌, ◌≤◌, ◌⊎◌, ⊎_elim, inl, inr, subst, refl, List, [], ◌∷◌, length, All, sum_by, Option, Some, None, Result, Ok, Err, IfSome, arith}
-use Rattle.std.proofs.lemmas.List.Sums.{sum_by-le}
+use Rattle.std.proofs.Common.{◌≡◌, ℕ, ◌≤◌, ◌⊎◌, ⊎_elim, inl, inr, subst, refl, List, [], ◌∷◌, Option, Some, None, Result, Ok, Err, IfSome, arith}
 use Rattle.pc_model.specs.declared.schema.Schema.{Schema}
 use Rattle.pc_model.specs.declared.row.Row.{Row}
 use Rattle.pc_model.specs.declared.constraint.Constraint.{Constraint}
@@ -105,9 +104,3 @@ pub at_end : (told : Option Files) (names : BoundNames) (schema : Schema) (rows 
 unfolding case_under
 at_end None names schema rows constraints query read accepts = tt
 at_end (Some files) names schema rows constraints query read accepts = rw (read.rows_read.has_schema, read.rows_read.has_rows, read.has_constraints, accepts) refl
-
--- the numbers of rows that the limits allow fit
-pub fits : (observed : ℕ) (constraints : List Constraint) → observed ≤ 1000000 → length constraints ≤ 20 → All (λ (c : Constraint). c.most ≤ 10000000) constraints → observed + sum_by (λ (c : Constraint). c.most) constraints < 2 ^ 64
-fits observed constraints few_rows few small =
-    let total : sum_by (λ (c : Constraint). c.most) constraints ≤ length constraints * 10000000 = sum_by-le (λ (c : Constraint). c.most) 10000000 constraints small in
-    omega arith

@@ -6,3 +6,4 @@ pub mod Apart
 pub mod Listings
 pub mod Queries
 pub mod StopReplies
+pub mod Blocks

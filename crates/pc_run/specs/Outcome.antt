@@ -15,7 +15,7 @@ use Rattle.pc_base.specs.Files.{Files, file_of}
 use Rattle.pc_schema.specs.SchemaFile.{schema_of}
 use Rattle.pc_rows.specs.RowFile.{rows_of}
 use Rattle.pc_lang.specs.Files.{constraints_of, line_number, query_at}
-use Rattle.pc_count.specs.Overlap.{first_overlap}
+use Rattle.pc_overlap.specs.Overlap.{first_overlap}
 use Rattle.pc_run.specs.declared.listing.Listing.{Listing}
 use Rattle.pc_run.specs.Words.{BoundNames, ShowNames, Asked, bound, show}
 use Rattle.pc_run.specs.Queries.{built}
@@ -63,7 +63,7 @@ apart_under schema name files = and_then (bytes_under kinds.Constraints name fil
 
 -- the query of a text, which is one that is built
 unfoldable pub built_query : Schema → List ℕ → Result Query Fault
-built_query schema text = query_at schema 1 text >>= built schema
+built_query schema text = query_at schema 1 text >>= built
 
 -- of `bound`: the files in their order, with the overlap of two predicates after the constraints, then the query
 unfoldable pub case_under : BoundNames → Files → Result Case Obstacle

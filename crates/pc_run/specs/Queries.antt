@@ -1,25 +1,23 @@
--- Which queries are built: the count of all rows, ungrouped.
-use Rattle.std.specs.Prelude.{◌&&◌, Bool, true, false, is_none, Result, Ok, Err, if◌then◌else◌}
+-- Which queries are built: counts and sums that are not grouped.
+use Rattle.std.specs.Prelude.{◌≡◌, ◌&&◌, Bool, true, is_none, None, Result, Ok, Err, if◌then◌else◌}
 use Rattle.pc_model.specs.declared.schema.Schema.{Schema}
-use Rattle.pc_model.specs.declared.query.Agg.{Agg}
-use Rattle.pc_model.specs.declared.query.Agg.TheVariants.{Count, Sum, Min, Max, Avg}
 use Rattle.pc_model.specs.declared.query.Query.{Query}
 use Rattle.pc_model.specs.declared.fault.FileKind.TheVariants as kinds
 use Rattle.pc_model.specs.declared.fault.Reason.TheVariants as reasons
 use Rattle.pc_model.specs.declared.fault.Fault.{Fault}
+use Rattle.pc_model.specs.Accepted.{IsQuery}
 use Rattle.pc_model.specs.Refusals.{fault_at}
-use Rattle.pc_lang.specs.Canonical.{is_whole}
+use Rattle.pc_model.specs.Right.{always_has_value}
 
-abbrev pub is_count : Agg → Bool
-is_count Count = true
-is_count Sum = false
-is_count Min = false
-is_count Max = false
-is_count Avg = false
-
-unfoldable pub counts_all : Schema → Query → Bool
-counts_all schema query = is_count query.agg && (is_none query.group && is_whole schema query.chosen)
+unfoldable pub is_built : Query → Bool
+is_built query = always_has_value query.agg && is_none query.group
 
 -- the query where it is built
-abbrev pub built : Schema → Query → Result Query Fault
-built schema query = if counts_all schema query then Ok query else Err (fault_at kinds.Query 1 reasons.NotBuilt)
+abbrev pub built : Query → Result Query Fault
+built query = if is_built query then Ok query else Err (fault_at kinds.Query 1 reasons.NotBuilt)
+
+-- a query of the schema that is built
+pub record IsAsked (schema : Schema) (query : Query) : Type 0 where
+  pub query_of : IsQuery schema query
+  pub has_value : always_has_value query.agg ≡ true
+  pub ungrouped : query.group ≡ None

@@ -1,36 +1,34 @@
 -- With which status and text a run replies to the files of a command.
-use Rattle.std.specs.Prelude.{◌≡◌, ◌↔◌, ℕ, ◌≤◌, ◌⊎◌, ⊤, Bool, IsTrue, List, length, All, Option, Some, None, Result, Ok, Err, IsOk, IsOkAnd, IfSome}
-use Rattle.std.specs.List.{AllPass}
-use Rattle.pc_model.specs.declared.constraint.Constraint.{Constraint}
+use Rattle.std.specs.Prelude.{◌≡◌, ◌↔◌, ℕ, ◌⊎◌, ⊤, Bool, IsTrue, List, All, Option, Some, None, Result, Ok, Err, IsOk, IsOkAnd, IfSome}
+use Rattle.std.specs.List.{AllPass, AllZip}
 use Rattle.pc_model.specs.declared.fault.FileKind.{FileKind}
 use Rattle.pc_model.specs.declared.fault.FileKind.TheVariants as kinds
 use Rattle.pc_model.specs.Membership.{in_domain, AreDisjoint}
 use Rattle.pc_model.specs.Accepted.{AreConstraints}
-use Rattle.pc_model.specs.Boxes.{IsServable}
 use Rattle.pc_model.specs.WellFormed.{IsWellFormed}
 use Rattle.pc_base.specs.declared.status.Status.{Status}
 use Rattle.pc_base.specs.declared.status.Status.TheVariants as ended
 use Rattle.pc_base.specs.Counts.{Rose}
 use Rattle.pc_base.specs.Files.{Files, IsAbsent}
-use Rattle.pc_count.specs.declared.answer.CountAnswer.{CountAnswer}
-use Rattle.pc_count.specs.Counting.{CountsAll, IsRightCount}
+use Rattle.pc_proof.specs.declared.document.Document.{Document}
+use Rattle.pc_report.specs.Report.{report_text}
 use Rattle.pc_rows.specs.declared.case.Case.{Case}
 use Rattle.pc_run.specs.declared.stop.Stop.{Stop}
 use Rattle.pc_run.specs.declared.stop.Stop.TheVariants as stops
 use Rattle.pc_run.specs.Words.{Asked, bound, show, name_of, command_of}
 use Rattle.pc_run.specs.Outcome.{Obstacle, refused, absent, Input, asks, shows, schema_under, rows_under, accepted_under}
-use Rattle.pc_run.specs.Reports.{usage_line, fault_line, malformed_line, report_of, listing_of}
+use Rattle.pc_run.specs.Reports.{usage_line, fault_line, malformed_line, listing_of}
+use Rattle.pc_run.specs.Answers.{AnswersQuery}
+use Rattle.pc_run.specs.Queries.{IsAsked}
 use Rattle.pc_run.specs.declared.listing.Listing.{Listing}
 
--- what the count and its report need of what was read
+-- what the answer and its report need of what was read
 pub record IsSound (case : Case) : Type 0 where
   pub well_formed : IsWellFormed case.schema
   pub seen : AllPass (in_domain case.schema) case.rows
   pub disjoint : AreDisjoint case.schema case.constraints
-  pub servable : All (IsServable case.schema) case.constraints
-  pub few : length case.constraints ≤ 20
-  pub small : All (λ (c : Constraint). c.most ≤ 10000000) case.constraints
-  pub asked : All (CountsAll case.schema) case.queries
+  pub accepted : AreConstraints case.schema case.constraints
+  pub asked : All (IsAsked case.schema) case.queries
 
 -- what the text of constraints needs of what was read
 pub record IsShowable (listing : Listing) : Type 0 where
@@ -67,13 +65,11 @@ abbrev pub InputAgrees : {X : Type 0} → (X → Input) → Option Files → Ask
 InputAgrees input told asked before now (Ok x) = IfSome told (λ files. accepted_under asked files ≡ Ok (input x))
 InputAgrees input told asked before now (Err stop) = StopAgrees told asked before now stop
 
--- the text is the report of a right answer, over disjoint predicates
-pub record SaysCount (case : Case) (text : List ℕ) : Type 0 where
-  pub disjoint : AreDisjoint case.schema case.constraints
-  pub asked : All (CountsAll case.schema) case.queries
-  pub answer : CountAnswer
-  pub right : IsRightCount case.schema case.rows case.constraints answer
-  pub reported : text ≡ report_of case.schema answer
+-- the text is the report of a document that answers each query
+pub record SaysReport (case : Case) (text : List ℕ) : Type 0 where
+  pub document : Document
+  pub answers : AllZip (AnswersQuery case.schema case.rows case.constraints) case.queries document.blocks
+  pub reported : text ≡ report_text case.schema document
 
 -- the text is that of the constraints, and then it says whether no two of them speak of one row
 pub record SaysListing (listing : Listing) (text : List ℕ) : Type 0 where
@@ -82,7 +78,7 @@ pub record SaysListing (listing : Listing) (text : List ℕ) : Type 0 where
   pub listed : text ≡ listing_of listing disjoint
 
 abbrev pub SaysInput : Input → List ℕ → Type 0
-SaysInput (asks case) text = SaysCount case text
+SaysInput (asks case) text = SaysReport case text
 SaysInput (shows listing) text = SaysListing listing text
 
 -- the reply to files that are accepted, or refused

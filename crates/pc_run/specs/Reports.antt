@@ -1,15 +1,11 @@
 -- The texts that a run writes.
 use Rattle.std.specs.Prelude.{ℕ, Bool, if◌then◌else◌, List, [], ◌∷◌, ◌++◌, codes, decimal}
 use Rattle.std.specs.List.{concat}
-use Rattle.pc_model.specs.declared.schema.Schema.{Schema}
 use Rattle.pc_model.specs.declared.fault.FileKind.{FileKind}
 use Rattle.pc_model.specs.declared.fault.Fault.{Fault}
 use Rattle.pc_model.specs.FaultTexts.{number_of, name_of, file_name_of}
 use Rattle.pc_lang.specs.Canonical.{constraints_text}
 use Rattle.pc_run.specs.declared.listing.Listing.{Listing}
-use Rattle.pc_report.specs.RunLines.{run_lines}
-use Rattle.pc_count.specs.declared.answer.CountAnswer.{CountAnswer}
-use Rattle.pc_count.specs.declared.answer.CountAnswer.TheVariants.{Possible, Impossible}
 
 -- a text that ends with a line break
 abbrev pub line_break : List ℕ
@@ -25,24 +21,6 @@ fault_line file = concat (codes "read fault: " ∷ file_name_of file ∷ line_br
 abbrev pub malformed_line : Fault → List ℕ
 malformed_line fault =
     concat (codes "malformed " ∷ file_name_of fault.file ∷ codes " at " ∷ decimal fault.place ∷ codes ": reason " ∷ decimal (number_of fault.reason) ∷ codes " " ∷ name_of fault.reason ∷ line_break ∷ [])
-
--- an end with the lines of the runs that reach it
-unfoldable pub end_lines : List ℕ → ℕ → List ℕ → List ℕ
-end_lines name value lines = concat (name ∷ codes " " ∷ decimal value ∷ codes " exact" ∷ line_break ∷ []) ++ lines
-
--- the relation has the runs of the low end
-unfoldable pub possible_report : ℕ → List ℕ → ℕ → List ℕ → List ℕ
-possible_report low low_lines high high_lines =
-    (codes "query count" ++ line_break ++ codes "relation possible" ++ line_break)
-    ++ low_lines ++ end_lines (codes "low") low low_lines ++ end_lines (codes "high") high high_lines
-
-abbrev pub impossible_report : List ℕ
-impossible_report = concat (codes "query count" ∷ line_break ∷ codes "relation impossible" ∷ line_break ∷ [])
-
--- the report of a count
-abbrev pub report_of : Schema → CountAnswer → List ℕ
-report_of schema (Possible low low_runs high high_runs) = possible_report low (run_lines schema low_runs) high (run_lines schema high_runs)
-report_of schema Impossible = impossible_report
 
 abbrev pub disjoint_line : Bool → List ℕ
 disjoint_line answer = if answer then codes "disjoint yes" ++ line_break else codes "disjoint no" ++ line_break

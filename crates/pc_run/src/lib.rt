@@ -5,6 +5,7 @@ ghost use Rattle.std.specs.Prelude.{◌≡◌, ◌≤◌, ◌+◌, map, string_b
 ghost use Rattle.pc_run.specs.Words.{command_of, file_count};
 ghost use Rattle.pc_run.specs.Meaning.{Call, Means, IsAnswerable, IsDoneUnlessMemory, call_of, after_failed_put};
 
+mod answers;
 mod case;
 mod command;
 mod line;
@@ -12,7 +13,6 @@ mod listing;
 mod loading;
 mod query;
 mod reply;
-mod report;
 mod show;
 mod stop;
 #[cfg(test)]

@@ -13,10 +13,10 @@ ghost use Rattle.pc_run.specs.Loading.{Agrees, HasCause};
 
 use crate::stop::Stop;
 use pc_base::{Loaded, Shelf};
-use pc_count::find_overlap;
 use pc_lang::{line_number, read_constraints};
 use pc_list::Seq;
 use pc_model::{Constraint, FILE_LIMIT, Fault, FileKind, Reason, Refusal, Schema};
+use pc_overlap::find_overlap;
 use pc_rows::{Rows, read_rows};
 use pc_schema::read_schema;
 use std::alloc::Global;

@@ -1,27 +1,27 @@
-ghost use Rattle.std.specs.Prelude.{◌≡◌, true, is_none, IfOk};
-ghost use Rattle.pc_count.specs.Counting.{CountsAll};
+ghost use Rattle.std.specs.Prelude.{◌≡◌, IfOk};
 ghost use Rattle.pc_model.specs.Refusals.{fault_at, Gives};
+ghost use Rattle.pc_model.specs.Right.{always_has_value};
 ghost use Rattle.pc_model.specs.declared.fault.FileKind.TheVariants as kinds;
 ghost use Rattle.pc_model.specs.declared.fault.Reason.TheVariants as reasons;
 ghost use Rattle.pc_model.specs.declared.fault.Refusal.TheVariants as refusals;
 ghost use Rattle.pc_model.specs.WellFormed.{IsWellFormed, HaveFewNames};
 ghost use Rattle.pc_run.specs.Outcome.{built_query};
-ghost use Rattle.pc_run.specs.Queries.{built, counts_all, is_count};
+ghost use Rattle.pc_run.specs.Queries.{built, is_built, IsAsked};
 
-use pc_lang::{is_whole, read_query};
+use pc_lang::read_query;
 use pc_model::{Agg, Fault, FileKind, Query, Reason, Refusal, Schema};
 use std::alloc::Global;
 
-/// Reads a query, which is refused unless it is the count of all rows.
+/// Reads a query, which is refused unless it is a count or a sum that is not grouped.
 #[tactic(auto, using(crate::proofs::Queries::steps))]
 pub(crate) fn read_built(alloc: Global, schema: &Schema, text: &str) -> Result<Query, Refusal>
     requires well_formed { IsWellFormed schema.now }
     requires few_names { HaveFewNames schema.now.columns }
     ensures gives { Gives result (built_query schema.now text.now) }
-    ensures counts { IfOk result (CountsAll schema.now) }
+    ensures asked { IfOk result (IsAsked schema.now) }
 {
     let query = read_query(alloc, schema, text, 1)?;
-    if !counts_all(schema, &query) {
+    if !is_built(&query) {
         return Err(not_built());
     }
     Ok(query)
@@ -37,19 +37,18 @@ fn not_built() -> Refusal
     })
 }
 
-#[tactic(auto, unfolding(crate::specs::Queries::counts_all))]
-fn counts_all(schema: &Schema, query: &Query) -> bool
-    requires { HaveFewNames schema.now.columns }
-    ensures { result ≡ counts_all schema.now query.now }
+#[tactic(auto, unfolding(crate::specs::Queries::is_built))]
+fn is_built(query: &Query) -> bool
+    ensures { result ≡ is_built query.now }
 {
-    is_count(query.agg) && query.group.is_none() && is_whole(schema, &query.chosen)
+    always_has_value(query.agg) && query.group.is_none()
 }
 
-fn is_count(agg: Agg) -> bool
-    ensures { result ≡ is_count agg }
+fn always_has_value(agg: Agg) -> bool
+    ensures { result ≡ always_has_value agg }
 {
     match agg {
-        Agg::Count => true,
-        Agg::Sum | Agg::Min | Agg::Max | Agg::Avg => false,
+        Agg::Count | Agg::Sum => true,
+        Agg::Min | Agg::Max | Agg::Avg => false,
     }
 }

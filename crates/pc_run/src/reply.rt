@@ -1,18 +1,18 @@
 ghost use Rattle.std.specs.Prelude.{◌≡◌, ◌≤◌, ◌+◌, map, IfOk, string_bytes};
 ghost use Rattle.pc_run.specs.Commands.{bound_names, show_names};
-ghost use Rattle.pc_run.specs.Replies.{IsSound, RepliesTo, RepliesToStop, Responds, SaysCount};
+ghost use Rattle.pc_run.specs.Replies.{IsSound, RepliesTo, RepliesToStop, Responds, SaysReport};
 ghost use Rattle.pc_run.specs.Words.{bound, show, command_of, file_count};
 
+use crate::answers::answer_case;
 use crate::case::read_case;
 use crate::command::{Bound, Command, Show, read_command};
 use crate::line::{fault_line, malformed_line, usage_line};
 use crate::listing::read_listing;
-use crate::report::report;
 use crate::show::report_listing;
 use crate::stop::Stop;
 use pc_base::{Shelf, Status};
-use pc_count::bound_count;
 use pc_num::Memory;
+use pc_report::put_report;
 use pc_rows::Case;
 use std::alloc::Global;
 
@@ -93,12 +93,13 @@ fn reply_to_stop(alloc: Global, stop: Stop) -> Result<Reply, Memory>
     }
 }
 
-/// The report of the count over the files.
+/// The report of the answers to the queries.
 fn report_case(alloc: Global, case: &Case) -> Result<Vec<u8>, Memory>
     requires { IsSound case.now }
-    ensures { IfOk result (λ text. SaysCount case.now text.items) }
+    ensures { IfOk result (λ text. SaysReport case.now text.items) }
 {
-    let observed = case.rows.count();
-    let answer = bound_count(alloc, &case.schema, observed, case.constraints.as_slice())?;
-    report(alloc, &case.schema, &answer)
+    let document = answer_case(alloc, case)?;
+    let mut text = Vec::new(alloc);
+    put_report(alloc, &case.schema, &mut text, &document)?;
+    Ok(text)
 }

@@ -4,6 +4,7 @@ use std::test::Fail;
 
 mod refused;
 mod shown;
+mod sums;
 
 const SCHEMA: &str = "item,int,1,9\nweek,int,1,4\n";
 

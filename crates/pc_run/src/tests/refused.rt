@@ -301,22 +301,7 @@ fn queries(rt: HostRuntime) -> Result<(), Fail> {
             "malformed query at 1: reason 4 UnknownColumn\n",
             Status::Malformed,
         ),
-        // what is accepted, and no count of all rows
-        (
-            "sum(price)",
-            "malformed query at 1: reason 21 NotBuilt\n",
-            Status::Malformed,
-        ),
-        (
-            "count where day >= 20",
-            "malformed query at 1: reason 21 NotBuilt\n",
-            Status::Malformed,
-        ),
-        (
-            "count(*) where branch in {Chicago, NewYork}",
-            "malformed query at 1: reason 21 NotBuilt\n",
-            Status::Malformed,
-        ),
+        // what is accepted, and neither a count nor a sum, or grouped
         (
             "count group by branch",
             "malformed query at 1: reason 21 NotBuilt\n",
@@ -324,6 +309,21 @@ fn queries(rt: HostRuntime) -> Result<(), Fail> {
         ),
         (
             "min(day) where true",
+            "malformed query at 1: reason 21 NotBuilt\n",
+            Status::Malformed,
+        ),
+        (
+            "sum(price) group by branch",
+            "malformed query at 1: reason 21 NotBuilt\n",
+            Status::Malformed,
+        ),
+        (
+            "max(price)",
+            "malformed query at 1: reason 21 NotBuilt\n",
+            Status::Malformed,
+        ),
+        (
+            "avg(price) where day = 3",
             "malformed query at 1: reason 21 NotBuilt\n",
             Status::Malformed,
         ),

@@ -6,7 +6,7 @@ use Rattle.pc_model.specs.declared.fault.FileKind.TheVariants as kinds
 use Rattle.pc_run.specs.Commands.{bound_names}
 use Rattle.pc_run.specs.Outcome.{rows_under, apart_under}
 use Rattle.pc_run.proofs.Cases.{moved, moved_cause, HasRows, HasFiles, at_schema, at_rows, at_constraints, at_query, at_end}
-use Rattle.pc_run.proofs.Queries.{one_counts}
+use Rattle.pc_run.proofs.Queries.{one_asked}
 use Rattle.pc_run.proofs.case.read_case.Goals as goal
 
 pub returns-in_err-schema-clause-agrees : goal.returns-in_err-schema-clause-agrees
@@ -54,8 +54,6 @@ returns-clause-sound g c = record {
   well_formed = c.in_ok-schema.ensures.well_formed;
   seen = c.in_ok-rows.ensures.seen;
   disjoint = c.in_ok-constraints.ensures.apart;
-  servable = c.in_ok-constraints.ensures.accepted.servable;
-  few = c.in_ok-constraints.ensures.accepted.few;
-  small = c.in_ok-constraints.ensures.accepted.small;
-  asked = rw c.in_ok-queries.ensures (one_counts c.in_ok-schema.schema c.in_ok-query.query c.in_ok-query.ensures.counts);
+  accepted = c.in_ok-constraints.ensures.accepted;
+  asked = rw c.in_ok-queries.ensures (one_asked c.in_ok-schema.schema c.in_ok-query.query c.in_ok-query.ensures.asked);
 }
