@@ -1,0 +1,84 @@
+-- The objective row and its weight, divided by what they have in common.
+use Rattle.std.proofs.Common.{◌≡◌, ◌≤ℤ◌, ◌-ℤ◌, ◌*ℤ◌, ◌&&◌, ℕ, ℤ, Bool, true, false, length, take, pos, unsigned_abs, List, [], ◌∷◌, map, arith, refl, ap, ap₂, sym, ◌∙◌, to_z, of_z}
+use Rattle.std.specs.Int.{◌∣◌, IsGcd, w128}
+use Rattle.std.proofs.lemmas.Int.{ints}
+use Rattle.std.proofs.lemmas.List.Elements.{All-head, All-tail}
+use Rattle.std.proofs.Math.Nat.{eq-zero_of_zero-dvd}
+use Rattle.pc_num.specs.Divisor.{DividesRow, IsRowGcd}
+use Rattle.pc_num.proofs.Rows.{size_of_positive}
+use Rattle.pc_num.proofs.Signed.{as_passed, passed}
+use Rattle.pc_bound.specs.Bound.{IsFit}
+use Rattle.pc_tableau.specs.Numbers.{common, combined, does_combined_fit, does_fit}
+use Rattle.pc_tableau.specs.Conditions.{divided, freed_entries, freed_weight}
+use Rattle.pc_tableau.proofs.Coded.{fits-true, true-fits}
+use Rattle.pc_tableau.proofs.Divisors.{common_is, gcd_row-cons, same_row_gcd}
+
+pub divisor_is : (weight d g : ℤ) (entries : List ℤ) → IsRowGcd entries (unsigned_abs d) → IsGcd (unsigned_abs weight) (unsigned_abs d) (unsigned_abs g) → pos 0 ≤ℤ g →
+    g ≡ pos (common (weight ∷ entries))
+divisor_is weight d g entries rest h sign =
+    size_of_positive g sign
+    ∙ ap pos (same_row_gcd (weight ∷ entries) (unsigned_abs g) (common (weight ∷ entries)) (gcd_row-cons (unsigned_abs g) (unsigned_abs d) weight entries h rest) (common_is (weight ∷ entries)))
+
+undivided_number : (x : ℤ) → 0 ∣ unsigned_abs x → x ≡ divided 0 x
+undivided_number x h = let e = eq-zero_of_zero-dvd h in let zero_is : x ≡ pos 0 = omega (arith, ints) in rw zero_is refl
+
+undivided_all : (entries : List ℤ) → DividesRow 0 entries → entries ≡ map (divided 0) entries
+undivided_all [] h = refl
+undivided_all (x ∷ entries) h =
+    ap₂ ◌∷◌ (undivided_number x (All-head (λ (y : ℤ). 0 ∣ unsigned_abs y) x entries h)) (undivided_all entries (All-tail (λ (y : ℤ). 0 ∣ unsigned_abs y) x entries h))
+
+module _ (weight : ℤ) (entries : List ℤ) (none : common (weight ∷ entries) ≡ 0) where
+  zeros : DividesRow 0 (weight ∷ entries)
+  zeros = rw none at (common_is (weight ∷ entries)).common
+
+  pub undivided_entries : entries ≡ map (divided (common (weight ∷ entries))) entries
+  undivided_entries = rw none (undivided_all entries (All-tail (λ (y : ℤ). 0 ∣ unsigned_abs y) weight entries zeros))
+
+  pub undivided_weight : weight ≡ divided (common (weight ∷ entries)) weight
+  undivided_weight = rw none (undivided_number weight (All-head (λ (y : ℤ). 0 ∣ unsigned_abs y) weight entries zeros))
+
+pub nothing_common : (z : ℤ) (g : ℕ) → IsFit z → of_z w128 z ≡ 0 → z ≡ pos g → g ≡ 0
+nothing_common z g fits e is =
+    let same : pos g ≡ pos 0 = sym is ∙ sym (passed z fits) ∙ ap (to_z w128) e in
+    omega (arith, ints)
+
+-- ---- a row that is longer counts as far as the first one goes
+pub take_combined : (p t : ℤ) (row other : List ℤ) → combined p row t (take (length row) other) ≡ combined p row t other
+unfolding combined
+take_combined p t [] other = refl
+take_combined p t (a ∷ row) [] = refl
+take_combined p t (a ∷ row) (b ∷ other) = ap (λ l. (p *ℤ a -ℤ t *ℤ b) ∷ l) (take_combined p t row other)
+
+pub take_fit : (p t : ℤ) (row other : List ℤ) → does_combined_fit p row t (take (length row) other) ≡ does_combined_fit p row t other
+unfolding does_combined_fit
+take_fit p t [] other = refl
+take_fit p t (a ∷ row) [] = refl
+take_fit p t (a ∷ row) (b ∷ other) = ap (λ rest. does_fit (p *ℤ a) && does_fit (t *ℤ b) && does_fit (p *ℤ a -ℤ t *ℤ b) && rest) (take_fit p t row other)
+
+flip : (b : Bool) → (b ≡ true → ⊥) → b ≡ false
+flip true h = absurd (h refl)
+flip false h = refl
+
+unfit : (z : ℤ) → (IsFit z → ⊥) → does_fit z ≡ false
+unfit z h = flip (does_fit z) (λ e. h (true-fits z e))
+
+-- ---- the parts of the clauses
+pub first_fails : (a b : Bool) → false ≡ a → false ≡ (a && b)
+first_fails a b e = rw (← e) refl
+
+pub second_fails : (a : Bool) (z x : ℤ) → z ≡ x → true ≡ a → (IsFit z → ⊥) → false ≡ (a && does_fit x)
+second_fails a z x e passes h = rw (← passes, ← e) (sym (unfit z h))
+
+pub second_fits : (a : Bool) (z x : ℤ) → z ≡ x → true ≡ a → IsFit z → true ≡ (a && does_fit x)
+second_fits a z x e passes h = rw (← passes, ← e) (sym (fits-true z h))
+
+-- ---- what is left after the division
+module _ (p t weight product : ℤ) (row made other : List ℤ) (fits : IsFit (p *ℤ weight)) (product_is : product ≡ p *ℤ weight) (made_is : made ≡ combined p row t (take (length row) other)) where
+  clean : as_passed product ≡ p *ℤ weight
+  clean = rw product_is (passed (p *ℤ weight) fits)
+
+  pub entries_are : (entries : List ℤ) → entries ≡ map (divided (common (as_passed product ∷ made))) made → entries ≡ freed_entries p row t other weight
+  entries_are entries e = let h = rw (clean, made_is, take_combined p t row other) at e in h
+
+  pub weight_is : (left : ℤ) → left ≡ divided (common (as_passed product ∷ made)) (as_passed product) → left ≡ freed_weight p row t other weight
+  weight_is left e = let h = rw (clean, made_is, take_combined p t row other) at e in h

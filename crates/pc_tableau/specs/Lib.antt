@@ -1,0 +1,11 @@
+pub mod Conditions
+pub mod Freed
+pub mod Limits
+pub mod Numbers
+pub mod Point
+pub mod Relaxation
+pub mod Runs
+pub mod Standing
+pub mod Tableau
+pub mod Wanting
+pub mod Ways
