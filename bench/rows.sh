@@ -1,8 +1,8 @@
 #!/usr/bin/env bash
 # Times `pc bound` on 1,000,000 rows of 12 columns, once of whole numbers and once of 128 names each, and prints time
-# and peak memory as ratios to sqlite3's import of the same file in the same run. Then it times the sum of a column of
-# the numbers under 20 disjoint constraints beside the same run with a query that is no query, which ends after the
-# files are read, and prints the share of the answer in the whole. Run ./build first.
+# and peak memory as ratios to sqlite3's import of the same file in the same run. Then it takes the processor seconds of
+# answers over the numbers under 20 disjoint constraints beside those of the same command with a query that is no query,
+# which ends after the files are read, and prints the share of the answer in the whole. Run ./build first.
 # Usage: bench/rows.sh [RUNS]
 set -eu
 top=$(cd "$(dirname "$0")/.." && pwd)
@@ -71,19 +71,31 @@ rows n%d 128 > names.csv
 printf 'p: true => true, 1..3\n' > names.constraints
 compare names
 
-# answer QUERY: the share of the answer to a query over numbers.csv in the whole run
-answer() {
-  for run in $(seq "$runs"); do
-    read_only=$(measure "$top/pc" bound numbers.schema numbers.csv twenty.constraints nothing || true)
-    whole=$(measure "$top/pc" bound numbers.schema numbers.csv twenty.constraints "$1")
-    share=$(awk "BEGIN { printf \"%.3f\", (${whole% *} - ${read_only% *}) / ${whole% *} }")
-    echo "  run $run: $1 ${whole% *} s, ${whole#* } kB; reading alone ${read_only% *} s; share of the answer $share"
-  done
+# least COMMAND..: the least processor seconds of the runs, whatever the command's status
+least() {
+  python3 - "$runs" "$@" <<'PY'
+import resource, subprocess, sys
+seconds = []
+for run in range(int(sys.argv[1])):
+    before = resource.getrusage(resource.RUSAGE_CHILDREN)
+    subprocess.run(sys.argv[2:], stdin=subprocess.DEVNULL, stdout=subprocess.DEVNULL)
+    after = resource.getrusage(resource.RUSAGE_CHILDREN)
+    seconds.append(after.ru_utime + after.ru_stime - before.ru_utime - before.ru_stime)
+print(f"{min(seconds):.3f}")
+PY
 }
 
-echo "numbers, 20 disjoint constraints"
+# answer QUERY: the share of the answer to a query over numbers.csv in the whole run
+answer() {
+  reading=$(least "$top/pc" bound numbers.schema numbers.csv twenty.constraints nothing)
+  whole=$(least "$top/pc" bound numbers.schema numbers.csv twenty.constraints "$1")
+  echo "  $1: processor seconds $whole, of reading alone $reading; share of the answer $(awk "BEGIN { printf \"%.3f\", ($whole - $reading) / $whole }")"
+}
+
+echo "numbers, 20 disjoint constraints, least of $runs runs"
 for part in $(seq 0 19); do
   echo "c$part: a in $((part * 5000))..$((part * 5000 + 4999)) and b >= 100 => c in $((part * 10))..$((part * 10 + 500)), 1..$((part + 5))"
 done > twenty.constraints
+answer count
 answer 'sum(c)'
 answer 'sum(c) where d < 5000 and e >= 100'
