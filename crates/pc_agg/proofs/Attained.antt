@@ -1,5 +1,5 @@
 -- The aggregate over the observed rows and the rows of runs that add what their cells gain.
-use Rattle.std.proofs.Common.{◌≡◌, ℕ, ℤ, pos, ◌+ℤ◌, ◌*ℤ◌, true, cond, ◌&&◌, List, [], ◌∷◌, length, map, All, Option, Some, None, IsSomeAnd, refl, sym, ap, ap₂, subst, ◌∙◌, true≢false, arith}
+use Rattle.std.proofs.Common.{◌≡◌, ℕ, ℤ, pos, ◌+ℤ◌, ◌*ℤ◌, true, cond, ◌&&◌, List, [], ◌∷◌, length, map, All, Some, IsSomeAnd, refl, sym, ap, ap₂, subst, ◌∙◌, true≢false, arith}
 use Rattle.std.specs.List.{AllZip}
 use Rattle.std.proofs.Math.Bool.{and-true}
 use Rattle.std.proofs.lemmas.Int.{ints}
@@ -12,11 +12,12 @@ use Rattle.pc_model.specs.declared.query.Agg.{Agg}
 use Rattle.pc_model.specs.declared.query.Agg.TheVariants.{Count, Sum, Min, Max, Avg}
 use Rattle.pc_model.specs.declared.query.Query.{Query}
 use Rattle.pc_model.specs.Membership.{has}
-use Rattle.pc_model.specs.Aggregate.{whole, IsSame, asked, is_in_group, int_sum}
+use Rattle.pc_model.specs.Aggregate.{whole, IsSame, asked, int_sum}
 use Rattle.pc_model.specs.Right.{IsAttained, value_for, always_has_value}
 use Rattle.pc_model.specs.Runs.{rows_of, runs_from}
 use Rattle.pc_model.specs.Cells.{Class, class_of, IsRowOf}
 use Rattle.pc_bound.specs.Allocation.{cells_of, worth, IsAllocation}
+use Rattle.pc_model.proofs.Folds.{any_group}
 use Rattle.pc_bound.specs.CellPrograms.{program_of}
 use Rattle.pc_counting.proofs.Sums.{int_sum-same}
 use Rattle.pc_witness.proofs.Allocations.{allocation-possible}
@@ -45,10 +46,6 @@ sum_alike : (f g : Row → ℤ) (rows : List Row) → All (λ row. f row ≡ g r
 sum_alike f g [] same = refl
 sum_alike f g (row ∷ rows) same = ap₂ (λ a b. a +ℤ b) (All-head (λ r. f r ≡ g r) row rows same) (sum_alike f g rows (All-tail (λ r. f r ≡ g r) row rows same))
 
-in_no_group : (group : Option ℕ) (row : Row) → is_in_group group None row ≡ true
-in_no_group (Some column) row = refl
-in_no_group None row = refl
-
 module _ (schema : Schema) (observed : List Row) (constraints : List Constraint) (query : Query) (nodes : List CutNode) where
   abbrev s : Setting
   s = setting_of schema observed constraints query nodes
@@ -56,7 +53,7 @@ module _ (schema : Schema) (observed : List Row) (constraints : List Constraint)
   -- ---- the aggregate
 
   keeps_chosen : (row : Row) → keeps s.question row ≡ has query.chosen row
-  keeps_chosen row = ap (λ test. has query.chosen row && test) (in_no_group query.group row) ∙ and-true (has query.chosen row)
+  keeps_chosen row = ap (λ test. has query.chosen row && test) (any_group query.group row) ∙ and-true (has query.chosen row)
 
   value_is : (agg : Agg) (lost : List Row) → query.agg ≡ agg → always_has_value agg ≡ true →
       value_for s.question lost ≡ Some (whole (seen_value agg s +ℤ int_sum (map (adds agg query) lost)))

@@ -6,7 +6,7 @@ use Rattle.std.specs.Prelude.{unwrap_or, if◌then◌else◌}
 use Rattle.std.specs.List.{reduce}
 use Rattle.pc_model.specs.declared.constraint.Constraint.{Constraint}
 use Rattle.pc_cells.specs.declared.cells.Cell.{Cell}
-use Rattle.pc_agg.specs.Programs.{program_with}
+use Rattle.pc_bound.specs.CellPrograms.{program_with}
 use Rattle.pc_cells.specs.Found.{class_of_cell}
 use Rattle.pc_model.specs.Cells.{Class}
 use Rattle.pc_model.specs.Places.{has_bit}

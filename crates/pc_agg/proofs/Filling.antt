@@ -23,7 +23,7 @@ use Rattle.pc_cells.specs.declared.cells.Cell.{Cell}
 use Rattle.pc_cells.specs.Found.{class_of_cell, cell_of, cells_of, IsFilled, leaves_at, leaf_at}
 use Rattle.pc_witness.proofs.Allocations.{allocation-possible}
 use Rattle.pc_proof.specs.Table.{none}
-use Rattle.pc_agg.specs.Programs.{program_with}
+use Rattle.pc_bound.specs.CellPrograms.{program_with}
 use Rattle.pc_agg.specs.Settings.{question_of}
 
 -- ---- as far as a loop has come

@@ -16,10 +16,10 @@ use Rattle.pc_model.specs.Places.{has_bit}
 use Rattle.pc_model.specs.Possible.{is_covered}
 use Rattle.pc_model.specs.Cells.{Class, mask_of, is_class, HasRowOf}
 use Rattle.pc_class.proofs.Classes.{is_class-from_same}
-use Rattle.pc_class.proofs.Masks.{mask_of-bit, mask_of-small, mask_of-is}
+use Rattle.pc_class.proofs.Masks.{bit_small, mask_of-bit, mask_of-small, mask_of-is}
 use Rattle.pc_cells.proofs.Apart.{two_pass}
 use Rattle.pc_program.specs.Conditions.{HasOneBit}
-use Rattle.pc_agg.proofs.ProgramEnds.{no_class, no_constraint}
+use Rattle.pc_bound.proofs.CellPlaces.{no_class, no_constraint}
 
 -- ---- the mask of a row that one constraint speaks of
 
@@ -108,10 +108,6 @@ bit_below-set (suc n) mask k below set = by_test (has_bit mask n) refl (bit_belo
 abbrev number_of : ℕ → Class → ℕ
 number_of n class = 2 * bit_below n class.mask + cond class.chosen 1 0
 
-side_small : (side : Bool) → cond side 1 0 < 2
-side_small true = omega arith
-side_small false = omega arith
-
 same_side : (x y : Bool) → ◌≡◌ {A = ℕ} (cond x 1 0) (cond y 1 0) → x ≡ y
 same_side true true e = refl
 same_side true false e = absurd (omega (arith, e))
@@ -120,10 +116,10 @@ same_side false false e = refl
 
 module _ (n : ℕ) (a b : Class) (same : number_of n a ≡ number_of n b) where
   same_bits : bit_below n a.mask ≡ bit_below n b.mask
-  same_bits = omega (arith, same, side_small a.chosen, side_small b.chosen)
+  same_bits = omega (arith, same, bit_small a.chosen, bit_small b.chosen)
 
   same_sides : a.chosen ≡ b.chosen
-  same_sides = same_side a.chosen b.chosen (omega (arith, same, side_small a.chosen, side_small b.chosen))
+  same_sides = same_side a.chosen b.chosen (omega (arith, same, bit_small a.chosen, bit_small b.chosen))
 
 -- ---- the cells of disjoint constraints
 
@@ -175,7 +171,7 @@ module _ (schema : Schema) (constraints : List Constraint) (chosen : Region) (cl
       other_side i j (bit_below (length constraints) (class_at i).mask) before inside set other_set (same_sides (length constraints) (class_at i) (class_at j) same)
 
   number_small : (i : ℕ) → i < length classes → number (class_at i) < 2 * length constraints
-  number_small i h = omega (arith, (found_bit i h).0, side_small (class_at i).chosen)
+  number_small i h = omega (arith, (found_bit i h).0, bit_small (class_at i).chosen)
 
   number_at : (i d : ℕ) → i < length classes → get_or (map number classes) i d ≡ number (class_at i)
   number_at i d h = get_or-map number classes i no_class d h

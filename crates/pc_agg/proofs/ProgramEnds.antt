@@ -1,54 +1,19 @@
 -- The program of cells has lists of the right lengths, and ends in order.
-use Rattle.std.proofs.Common.{◌≡◌, ℕ, ◌<◌, ℤ, false, List, [], length, get_or, sym, ◌∙◌, arith}
-use Rattle.std.proofs.lemmas.List.{length-map, get_or-map}
+use Rattle.std.proofs.Common.{◌≡◌, ℤ, List, length, get_or, sym, ◌∙◌, arith}
+use Rattle.std.proofs.lemmas.List.{length-map}
 use Rattle.pc_model.specs.declared.schema.Schema.{Schema}
 use Rattle.pc_model.specs.declared.constraint.Constraint.{Constraint}
 use Rattle.pc_model.specs.Accepted.{AreConstraints, frequency_limit}
 use Rattle.pc_model.specs.Cells.{Class}
 use Rattle.pc_bound.specs.declared.program.Program.{Program}
-use Rattle.pc_bound.specs.Sums.{nat_at}
-use Rattle.pc_bound.specs.Allocation.{cells_of, constraints_of, IsProgram}
-use Rattle.pc_bound.specs.CellPrograms.{cap_of}
-use Rattle.pc_agg.specs.Programs.{program_with}
+use Rattle.pc_bound.specs.Allocation.{IsProgram}
+use Rattle.pc_bound.specs.CellPrograms.{cap_of, program_with}
+use Rattle.pc_bound.proofs.CellPlaces.{no_class, no_constraint, cell_inside, constraint_inside, cap_is, floor_is, least_is, most_is}
 use Rattle.pc_agg.proofs.CellPrograms.{cap_small}
-
--- stand-ins past the end of a list
-abbrev pub no_class : Class
-no_class = record { mask = 0; chosen = false }
-
-abbrev pub no_constraint : Constraint
-no_constraint = record { name = []; when = record { sides = [] }; values = record { sides = [] }; least = 0; most = 0 }
 
 module _ (constraints : List Constraint) (classes : List Class) (gains : List ℤ) where
   abbrev program : Program
   program = program_with constraints classes gains
-
-  abbrev class_at : ℕ → Class
-  class_at place = get_or classes place no_class
-
-  abbrev constraint_at : ℕ → Constraint
-  constraint_at place = get_or constraints place no_constraint
-
-  pub cell_inside : (i : ℕ) → i < cells_of program → i < length classes
-  cell_inside i inside = omega (arith, length-map classes (λ (class : Class). class.mask))
-
-  constraint_inside : (j : ℕ) → j < constraints_of program → j < length constraints
-  constraint_inside j inside = omega (arith, length-map constraints (λ (c : Constraint). c.least))
-
-  pub mask_is : (i : ℕ) → i < length classes → nat_at program.masks i ≡ (class_at i).mask
-  mask_is i inside = get_or-map (λ (class : Class). class.mask) classes i no_class 0 inside
-
-  pub floor_is : (i : ℕ) → i < length classes → nat_at program.floor i ≡ 0
-  floor_is i inside = get_or-map (λ (class : Class). 0) classes i no_class 0 inside
-
-  cap_is : (i : ℕ) → i < length classes → nat_at program.cap i ≡ cap_of constraints (class_at i)
-  cap_is i inside = get_or-map (cap_of constraints) classes i no_class 0 inside
-
-  least_is : (j : ℕ) → j < length constraints → nat_at program.least j ≡ (constraint_at j).least
-  least_is j inside = get_or-map (λ (c : Constraint). c.least) constraints j no_constraint 0 inside
-
-  most_is : (j : ℕ) → j < length constraints → nat_at program.most j ≡ (constraint_at j).most
-  most_is j inside = get_or-map (λ (c : Constraint). c.most) constraints j no_constraint 0 inside
 
   pub is_program : (schema : Schema) → AreConstraints schema constraints → length gains ≡ length classes → IsProgram program
   is_program schema are sized = record {
@@ -58,16 +23,16 @@ module _ (constraints : List Constraint) (classes : List Class) (gains : List �
     gains = sized ∙ sym (length-map classes (λ (class : Class). class.mask));
     few = omega (arith, are.few, length-map constraints (λ (c : Constraint). c.least));
     ordered = λ j h.
-        let there = constraint_inside j h in
+        let there = constraint_inside constraints classes gains j h in
         let servable = are.servable j no_constraint there in
-        omega (arith, servable.ordered, least_is j there, most_is j there);
-    boxed = λ i h. omega (arith, floor_is i (cell_inside i h));
+        omega (arith, servable.ordered, least_is constraints classes gains j there, most_is constraints classes gains j there);
+    boxed = λ i h. omega (arith, floor_is constraints classes gains i (cell_inside constraints classes gains i h));
     small_most = λ j h.
-        let there = constraint_inside j h in
+        let there = constraint_inside constraints classes gains j h in
         let small = are.small j no_constraint there in
-        omega (arith, small, most_is j there);
+        omega (arith, small, most_is constraints classes gains j there);
     small_cap = λ i h.
-        let there = cell_inside i h in
-        let small = cap_small frequency_limit (class_at i) constraints are.small in
-        omega (arith, small, cap_is i there);
+        let there = cell_inside constraints classes gains i h in
+        let small = cap_small frequency_limit (get_or classes i no_class) constraints are.small in
+        omega (arith, small, cap_is constraints classes gains i there);
   }

@@ -46,7 +46,7 @@ use Rattle.pc_agg.specs.declared.extreme.Extreme.TheVariants.{Low, High}
 use Rattle.pc_agg.specs.declared.ends.Reached.TheVariants as reached
 use Rattle.pc_agg.specs.Ends.{gain_towards, signed, IsPick, seen_value, HoldsEnd, IsReached}
 use Rattle.pc_agg.specs.Observed.{folded_value}
-use Rattle.pc_agg.specs.Programs.{program_with}
+use Rattle.pc_bound.specs.CellPrograms.{program_with}
 use Rattle.pc_agg.specs.Settings.{setting_of}
 use Rattle.pc_agg.proofs.Attained.{attained}
 

@@ -20,9 +20,10 @@ use Rattle.pc_program.specs.Settled.{is_in, HasOneBits}
 use Rattle.pc_cells.specs.declared.cells.Cell.{Cell}
 use Rattle.pc_cells.specs.Found.{class_of_cell, cells_of}
 use Rattle.pc_cells.proofs.Decomposed.{classes_of_cells}
-use Rattle.pc_agg.specs.Programs.{program_with}
+use Rattle.pc_bound.specs.CellPrograms.{program_with}
 use Rattle.pc_agg.proofs.OneBits.{Differ, cell_bit, no_third, few_cells}
-use Rattle.pc_agg.proofs.ProgramEnds.{no_class, cell_inside, mask_is, floor_is, is_program}
+use Rattle.pc_bound.proofs.CellPlaces.{no_class, cell_inside, mask_is, floor_is}
+use Rattle.pc_agg.proofs.ProgramEnds.{is_program}
 
 -- ---- of classes with rows that differ
 

@@ -1,6 +1,5 @@
 pub mod Answered
 pub mod Ends
 pub mod Observed
-pub mod Programs
 pub mod Settings
 pub mod Targets

@@ -9,7 +9,7 @@ ghost use Rattle.pc_bound.specs.CellPrograms.{cap_of};
 ghost use Rattle.pc_program.specs.Solved.{IsSolved, IsSmall};
 ghost use Rattle.pc_cells.specs.declared.cells.Cell.{Cell};
 ghost use Rattle.pc_cells.specs.Found.{class_of_cell, cells_of};
-ghost use Rattle.pc_agg.specs.Programs.{program_with};
+ghost use Rattle.pc_bound.specs.CellPrograms.{program_with};
 
 use pc_bound::Program;
 use pc_cells::{Cell, Cells};

@@ -140,7 +140,7 @@ no_gain zero i = refl
 no_gain (suc n) zero = refl
 no_gain (suc n) (suc i) = no_gain n i
 
-worth-none : (p : Program) (counts : List ℕ) → worth (without_gain p) counts ≡ pos 0
+pub worth-none : (p : Program) (counts : List ℕ) → worth (without_gain p) counts ≡ pos 0
 worth-none p counts =
     sum_below-same (cells_of p) (λ i. int_at (without_gain p).gain i *ℤ pos (nat_at counts i)) (λ i. pos 0)
     (λ i h. ap (λ x. x *ℤ pos (nat_at counts i)) (no_gain (cells_of p) i) ∙ nothing (nat_at counts i))

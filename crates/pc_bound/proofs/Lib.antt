@@ -1,4 +1,5 @@
 pub mod Around
+pub mod CellPlaces
 pub mod Duality
 pub mod Ring
 pub mod Steps

@@ -1,7 +1,8 @@
 -- Sums over the numbers below one.
-use Rattle.std.proofs.Common.{◌≡◌, ℕ, zero, suc, ◌+◌, ◌<◌, refl, ap, sym, ◌∙◌, arith, add-one}
+use Rattle.std.proofs.Common.{◌≡◌, ◌≢◌, ℕ, zero, suc, ◌+◌, ◌<◌, Bool, true, false, cond, inl, inr, refl, ap, sym, ◌∙◌, arith, add-one}
 use Rattle.std.specs.Prelude.{ℤ, pos, ◌+ℤ◌, ◌*ℤ◌, ◌≤ℤ◌}
 use Rattle.std.proofs.lemmas.Int.{ints}
+use Rattle.std.proofs.lemmas.Bool.{cases_eq}
 use Rattle.pc_bound.specs.Sums.{sum_below}
 use Rattle.pc_bound.proofs.Ring.{mul-add}
 
@@ -38,6 +39,29 @@ sum_below-scale a (suc n) f =
 pub sum_below-zeros : (n : ℕ) → sum_below n (λ i. pos 0) ≡ pos 0
 sum_below-zeros zero = sum_below-zero (λ i. pos 0)
 sum_below-zeros (suc n) = sum_below-suc n (λ i. pos 0) ∙ ap (λ x. x +ℤ pos 0) (sum_below-zeros n)
+
+-- a sum of which no number counts
+pub sum_below-none : (n : ℕ) (f : ℕ → ℤ) → ((i : ℕ) → i < n → f i ≡ pos 0) → sum_below n f ≡ pos 0
+sum_below-none n f none = sum_below-same n f (λ i. pos 0) none ∙ sum_below-zeros n
+
+-- a sum of which one number alone counts
+pub sum_below-one : (n a : ℕ) (f : ℕ → ℤ) → a < n → ((i : ℕ) → i < n → i ≢ a → f i ≡ pos 0) → sum_below n f ≡ f a
+sum_below-one zero a f below none = absurd (omega arith)
+sum_below-one (suc n) a f below none = elim (cases_eq n a) [
+  | inl e ↦
+      let before = sum_below-none n f (λ i h. none i (omega arith) (λ same. omega arith)) in
+      let last : f n ≡ f a = ap f e in
+      omega (arith, ints, sum_below-suc n f, before, last)
+  | inr other ↦
+      let before = sum_below-one n a f (omega arith) (λ i h apart. none i (omega arith) apart) in
+      let last = none n (omega arith) other in
+      omega (arith, ints, sum_below-suc n f, before, last)
+]
+
+-- a number that does not count, whether it is chosen or not
+pub none_chosen : (test : Bool) (x : ℤ) → x ≡ pos 0 → cond test x (pos 0) ≡ pos 0
+none_chosen true x e = e
+none_chosen false x e = refl
 
 -- two sums exchanged
 pub sum_below-swap : (n m : ℕ) (f : ℕ → ℕ → ℤ) → sum_below n (λ i. sum_below m (f i)) ≡ sum_below m (λ j. sum_below n (λ i. f i j))

@@ -1,6 +1,7 @@
 -- The bound that multipliers prove, and the numbers that are formed on the way to it.
-use Rattle.std.specs.Prelude.{◌≡◌, ℕ, ◌<◌, ◌≤◌, ◌^◌, ◌<ℤ◌, ◌≤ℤ◌, length, ℤ, pos, ◌+ℤ◌, ◌-ℤ◌, ◌*ℤ◌, nat_abs, int_lt, cond, List, replicate}
+use Rattle.std.specs.Prelude.{◌≡◌, ℕ, ◌<◌, ◌≤◌, ◌<ℤ◌, ◌≤ℤ◌, length, ℤ, pos, ◌+ℤ◌, ◌-ℤ◌, ◌*ℤ◌, nat_abs, int_lt, cond, List, replicate}
 use Rattle.std.specs.Int.{int_max, int_div_euclid}
+use Rattle.pc_num.specs.Signs.{Fits}
 use Rattle.pc_bound.specs.declared.program.Program.{Program}
 use Rattle.pc_model.specs.declared.tree.Mult.{Mult}
 use Rattle.pc_model.specs.Places.{has_bit}
@@ -36,7 +37,7 @@ bound_of p floors caps mult = int_div_euclid (raw_bound p floors caps mult) mult
 
 -- a number that fits
 abbrev pub IsFit : ℤ → Type 0
-IsFit z = nat_abs z < 2 ^ 127
+IsFit z = Fits z
 
 -- the numbers up to the place n fit
 pub record AreFit (number : ℕ → ℤ) (n : ℕ) : Type 0 where

@@ -17,16 +17,20 @@ members mask (c ∷ cs) = if has_bit mask 0 then c ∷ members (mask / 2) cs els
 abbrev pub cap_of : List Constraint → Class → ℕ
 cap_of constraints class = unwrap_or (reduce min (map (λ (c : Constraint). c.most) (members class.mask constraints))) 0
 
--- the program of the counts of rows in the cells, with a gain for each
-abbrev pub program_of : List Constraint → List Class → (Class → ℤ) → Program
-program_of constraints classes gain = record {
+-- the program of the counts of rows in the cells, with these gains
+abbrev pub program_with : List Constraint → List Class → List ℤ → Program
+program_with constraints classes gains = record {
   masks = map (λ (class : Class). class.mask) classes;
   least = map (λ (c : Constraint). c.least) constraints;
   most = map (λ (c : Constraint). c.most) constraints;
   floor = map (λ (class : Class). 0) classes;
   cap = map (cap_of constraints) classes;
-  gain = map gain classes;
+  gain = gains;
 }
+
+-- the same with the gain of each class
+abbrev pub program_of : List Constraint → List Class → (Class → ℤ) → Program
+program_of constraints classes gain = program_with constraints classes (map gain classes)
 
 -- how many of the rows are in the cell
 abbrev pub count_in : List Constraint → Region → List Row → Class → ℕ

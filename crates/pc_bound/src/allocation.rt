@@ -4,6 +4,7 @@ ghost use Rattle.pc_bound.specs.Sums.{nat_at};
 ghost use Rattle.pc_bound.specs.Allocation.{cells_of, constraints_of, total, IsProgram, IsAllocation};
 
 use crate::program::Program;
+use pc_model::has_bit;
 
 /// Whether the program allows the counts: each from the floor to the cap of its cell, and the total of each
 /// constraint from its least to its most.
@@ -55,7 +56,7 @@ fn is_between(low: u128, number: u128, high: u128) -> bool
 
 /// The sum of the counts of a constraint's cells. It fits, as there are fewer than 2^64 counts, each less than 2^64.
 #[tactic(auto, using(crate::proofs::Totals::total_steps))]
-fn total_of(p: &Program, counts: &[u64], constraint: usize) -> u128
+pub fn total_of(p: &Program, counts: &[u64], constraint: usize) -> u128
     requires few { constraint < 32 }
     requires sized { length counts.now ≡ cells_of p.now }
     ensures { pos result ≡ total p.now counts.now constraint }
@@ -73,7 +74,7 @@ fn count_in(mask: u32, count: u64, constraint: usize) -> u64
     requires few { constraint < 32 }
     ensures { pos result ≡ cond (has_bit mask constraint) (pos count) (pos 0) }
 {
-    if (mask >> constraint as u32) & 1 == 1 {
+    if has_bit(u128::from(mask), constraint) {
         return count;
     }
     0

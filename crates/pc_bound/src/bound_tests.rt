@@ -1,11 +1,7 @@
-ghost use Rattle.std.specs.Prelude.{◌≡◌, IsTrue, All, ℕ, ◌<◌, ◌≤◌, length};
-ghost use Rattle.pc_bound.specs.Sums.{nat_at};
-ghost use Rattle.pc_bound.specs.Allocation.{IsProgram, IsBox};
-ghost use Rattle.pc_bound.specs.Bound.{IsFit};
-
-use crate::{Program, dual_bound, is_program};
+use crate::{Program, dual_bound, is_box, is_program};
 use pc_list::Seq;
 use pc_model::Mult;
+use pc_num::are_fit;
 use std::alloc::{AllocError, Global};
 use std::process::Abort;
 use std::test::Fail;
@@ -161,49 +157,6 @@ fn program(alloc: Global, numbers: &Numbers) -> Result<Program, AllocError> {
         cap: Seq::from_slice(alloc, cap)?,
         gain: Seq::from_slice(alloc, gain)?,
     })
-}
-
-/// Whether the ends are those of a box inside the program's.
-fn is_box(p: &Program, floor: &[u64], cap: &[u64]) -> bool
-    requires { IsProgram p.now }
-    ensures { IsTrue result → IsBox p.now floor.now cap.now }
-{
-    let cells = p.masks.len();
-    if floor.len() != cells || cap.len() != cells {
-        return false;
-    }
-    are_inside(p.floor.as_slice(), floor, cap, p.cap.as_slice())
-}
-
-fn are_inside(lows: &[u64], floor: &[u64], cap: &[u64], highs: &[u64]) -> bool
-    requires floors { length lows.now ≡ length floor.now }
-    requires caps { length cap.now ≡ length floor.now }
-    requires highs { length highs.now ≡ length floor.now }
-    ensures { IsTrue result → (i : ℕ) → i < length floor.now → (nat_at lows.now i ≤ nat_at floor.now i) × (nat_at floor.now i ≤ nat_at cap.now i) × (nat_at cap.now i ≤ nat_at highs.now i) }
-{
-    for (cell, low) in floor.iter().enumerate() {
-        if *low < lows[cell] || *low > cap[cell] || cap[cell] > highs[cell] {
-            return false;
-        }
-    }
-    true
-}
-
-fn are_fit(numbers: &[i128]) -> bool
-    ensures { IsTrue result → All IsFit numbers.now }
-{
-    for (place, number) in numbers.iter().enumerate() {
-        if !is_fit(*number) {
-            return false;
-        }
-    }
-    true
-}
-
-fn is_fit(number: i128) -> bool
-    ensures { IsTrue result → IsFit number }
-{
-    number > i128::MIN
 }
 
 fn bound_of(rt: &impl Abort, alloc: Global, case: &Case) -> Result<Option<i128>, AllocError> {

@@ -13,10 +13,10 @@ mod running;
 mod tests;
 mod width;
 
-pub use allocation::lawful;
+pub use allocation::{lawful, total_of};
 pub use bound::dual_bound;
 pub use laws::{
     bounds_hold, nodes_spell_their_splits, relaxed_bounds_hold, trees_bound_allocations,
     void_means_none,
 };
-pub use program::{Program, is_program};
+pub use program::{Program, is_box, is_program};

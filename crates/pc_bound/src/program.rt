@@ -1,6 +1,6 @@
 ghost use Rattle.std.specs.Prelude.{◌≡◌, ◌↔◌, IsTrue, ℕ, ◌<◌, ◌≤◌, length};
 ghost use Rattle.pc_bound.specs.Sums.{nat_at};
-ghost use Rattle.pc_bound.specs.Allocation.{IsProgram};
+ghost use Rattle.pc_bound.specs.Allocation.{IsProgram, IsBox};
 
 use pc_list::Seq;
 
@@ -44,6 +44,33 @@ fn are_ordered(lows: &[u64], highs: &[u64]) -> bool
             return false;
         }
         if highs[place] > 1_000_000_000 {
+            return false;
+        }
+    }
+    true
+}
+
+/// Whether the ends are those of a box inside the program's.
+pub fn is_box(p: &Program, floor: &[u64], cap: &[u64]) -> bool
+    requires { IsProgram p.now }
+    ensures { IsTrue result ↔ IsBox p.now floor.now cap.now }
+{
+    let cells = p.masks.len();
+    if floor.len() != cells || cap.len() != cells {
+        return false;
+    }
+    are_inside(p.floor.as_slice(), floor, cap, p.cap.as_slice())
+}
+
+/// Whether each range of the box is in order and inside the program's.
+fn are_inside(lows: &[u64], floor: &[u64], cap: &[u64], highs: &[u64]) -> bool
+    requires floors { length lows.now ≡ length floor.now }
+    requires caps { length cap.now ≡ length floor.now }
+    requires highs { length highs.now ≡ length floor.now }
+    ensures { IsTrue result ↔ ((i : ℕ) → i < length floor.now → (nat_at lows.now i ≤ nat_at floor.now i) × (nat_at floor.now i ≤ nat_at cap.now i) × (nat_at cap.now i ≤ nat_at highs.now i)) }
+{
+    for (cell, low) in floor.iter().enumerate() {
+        if *low < lows[cell] || *low > cap[cell] || cap[cell] > highs[cell] {
             return false;
         }
     }

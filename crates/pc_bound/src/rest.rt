@@ -6,8 +6,8 @@ ghost use Rattle.pc_bound.specs.Bound.{IsFit, AreFit, IsFitRest, rest_of};
 ghost use Rattle.pc_bound.specs.Parts.{taken};
 
 use crate::Program;
-use crate::width::{fit_add, fit_mul, fit_sub};
-use pc_model::Mult;
+use pc_model::{Mult, has_bit};
+use pc_num::{fit_add, fit_mul, fit_sub};
 
 /// What is left of a cell's gain once its constraints took their multipliers, or none where a number on the way does
 /// not fit.
@@ -47,12 +47,9 @@ fn part(mask: u32, place: usize, number: i128) -> i128
     requires { place < 32 }
     ensures { result ≡ cond (has_bit mask place) number (pos 0) }
 {
-    if has_place(mask, place) { number } else { 0 }
-}
-
-fn has_place(mask: u32, place: usize) -> bool
-    requires { place < 32 }
-    ensures { result ≡ has_bit mask place }
-{
-    (mask >> place as u32) & 1 == 1
+    if has_bit(u128::from(mask), place) {
+        number
+    } else {
+        0
+    }
 }

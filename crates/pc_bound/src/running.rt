@@ -3,7 +3,8 @@ ghost use Rattle.std.specs.Int.{int_max};
 ghost use Rattle.pc_bound.specs.Bound.{IsFit};
 ghost use Rattle.pc_bound.specs.Parts.{IsAround, size_of};
 
-use crate::width::{fit_add, fit_size, times};
+use crate::width::{fit_size, times};
+use pc_num::fit_add;
 
 /// A sum of shares, and the sum of the sizes that they stay within.
 #[derive(Clone, Copy)]

@@ -1,36 +1,8 @@
-ghost use Rattle.std.specs.Prelude.{◌≡◌, ◌≤◌, pos, ◌+ℤ◌, ◌-ℤ◌, ◌*ℤ◌, SomeIff};
+ghost use Rattle.std.specs.Prelude.{◌≡◌, ◌≤◌, pos, ◌*ℤ◌, SomeIff};
 ghost use Rattle.pc_bound.specs.Bound.{IsFit};
 ghost use Rattle.pc_bound.specs.Parts.{IsAround, size_of};
 
-/// The sum, or none where it does not fit.
-pub fn fit_add(a: i128, b: i128) -> Option<i128>
-    ensures { SomeIff result (IsFit (a +ℤ b)) (a +ℤ b) }
-{
-    match a.checked_add(b) {
-        Some(sum) if sum != i128::MIN => Some(sum),
-        _ => None,
-    }
-}
-
-/// The difference, or none where it does not fit.
-pub fn fit_sub(a: i128, b: i128) -> Option<i128>
-    ensures { SomeIff result (IsFit (a -ℤ b)) (a -ℤ b) }
-{
-    match a.checked_sub(b) {
-        Some(rest) if rest != i128::MIN => Some(rest),
-        _ => None,
-    }
-}
-
-/// The product, or none where it does not fit.
-pub fn fit_mul(a: i128, b: i128) -> Option<i128>
-    ensures { SomeIff result (IsFit (a *ℤ b)) (a *ℤ b) }
-{
-    match a.checked_mul(b) {
-        Some(product) if product != i128::MIN => Some(product),
-        _ => None,
-    }
-}
+use pc_num::fit_mul;
 
 /// The size of the number, times so many, or none where that does not fit.
 pub fn fit_size(number: i128, count: u64) -> Option<i128>

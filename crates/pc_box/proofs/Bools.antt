@@ -1,18 +1,6 @@
--- Tests joined by `and`, and tests that agree.
-use Rattle.std.proofs.Common.{◌≡◌, ℕ, zero, suc, ◌+◌, ◌<◌, ◌&&◌, cond, Bool, true, false, refl, sym, arith}
-use Rattle.std.proofs.Math.Bool.{and-true, and-false}
+-- Tests joined by `and`, and one of two tests.
+use Rattle.std.proofs.Common.{◌≡◌, ℕ, zero, suc, ◌+◌, ◌<◌, ◌&&◌, cond, Bool, true, false, refl, arith}
 use Rattle.std.proofs.lemmas.Bool.{false_from_ne_true}
-
-pub same_tests : (x y : Bool) → (x ≡ true → y ≡ true) → (y ≡ true → x ≡ true) → x ≡ y
-same_tests true true to from = refl
-same_tests true false to from = sym (to refl)
-same_tests false true to from = from refl
-same_tests false false to from = refl
-
-pub and_last : (a b c : Bool) → ((a && b) && c) ≡ ((a && c) && b)
-and_last true true c = sym (and-true c)
-and_last true false c = sym (and-false c)
-and_last false b c = refl
 
 pub and_crossed : (a b c d : Bool) → ((a && b) && (c && d)) ≡ ((a && c) && (b && d))
 and_crossed true true c d = refl

@@ -18,8 +18,9 @@ use Rattle.pc_box.specs.Boxes.{are_like, AreAlike, IsBox}
 use Rattle.pc_model.specs.Places.{places_outside}
 use Rattle.pc_model.specs.CutTrees.{column_of, first_side, second_side, side_at, first_part, second_part, IsProper}
 use Rattle.pc_box.specs.Cuts.{takes, is_first, divides_side, divides_found, Divides}
-use Rattle.pc_box.proofs.Places.{shared_place, outside_place}
-use Rattle.pc_box.proofs.Bools.{same_tests, and_last}
+use Rattle.pc_model.proofs.SharedPlaces.{shared_place}
+use Rattle.pc_box.proofs.Places.{outside_place}
+use Rattle.pc_model.proofs.Bools.{same_tests, and_last}
 use Rattle.pc_box.proofs.Likeness.{are_all_like, IsBox-from_alike}
 use Rattle.pc_box.proofs.Rows.{all_held, row_of_box}
 

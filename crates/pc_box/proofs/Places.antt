@@ -1,18 +1,9 @@
--- The places of what two sets share and of what one leaves of the other, and a place of a set.
+-- The places of what one set leaves of another, and a place of a set.
 use Rattle.std.proofs.Common.{◌≡◌, ℕ, zero, suc, ◌+◌, ◌/◌, ◌%◌, ◌<◌, ◌≤◌, ◌==◌, ◌&&◌, not, true, ℤ, pos, negsuc, refl, ◌∙◌, arith, eqb-true, min}
 use Rattle.std.specs.Int.{bit_at}
 use Rattle.std.specs.Int.Bits.{bit_and}
 use Rattle.std.proofs.lemmas.Nat.Bits.{bit_at_and, bit_at_xor, bit_at-lt, bit_at-suc, bit_at_lowest, bit_at-zero}
 use Rattle.pc_model.specs.Places.{is_place_of, places_outside}
-
-shared_bit : (x y z : ℕ) → x < 2 → y < 2 → z ≡ min x y → (z == 1) ≡ ((x == 1) && (y == 1))
-shared_bit zero zero z p q e = rw e refl
-shared_bit zero (suc zero) z p q e = rw e refl
-shared_bit (suc zero) zero z p q e = rw e refl
-shared_bit (suc zero) (suc zero) z p q e = rw e refl
-shared_bit (suc (suc x)) y z p q e = absurd (omega arith)
-shared_bit zero (suc (suc y)) z p q e = absurd (omega arith)
-shared_bit (suc zero) (suc (suc y)) z p q e = absurd (omega arith)
 
 outside_bit : (x y z u : ℕ) → x < 2 → y < 2 → z ≡ min x y → u ≡ (x + z) % 2 → (u == 1) ≡ ((x == 1) && not (y == 1))
 outside_bit zero zero z u p q e f = rw (f, e) refl
@@ -22,11 +13,6 @@ outside_bit (suc zero) (suc zero) z u p q e f = rw (f, e) refl
 outside_bit (suc (suc x)) y z u p q e f = absurd (omega arith)
 outside_bit zero (suc (suc y)) z u p q e f = absurd (omega arith)
 outside_bit (suc zero) (suc (suc y)) z u p q e f = absurd (omega arith)
-
--- a place of what two sets share is one of both
-pub shared_place : (a b : ℕ) (n : ℤ) → is_place_of (bit_and a b) n ≡ (is_place_of a n && is_place_of b n)
-shared_place a b (pos i) = shared_bit (bit_at a i) (bit_at b i) (bit_at (bit_and a b) i) (bit_at-lt a i) (bit_at-lt b i) (bit_at_and a b i)
-shared_place a b (negsuc n) = refl
 
 -- a place of what is left is one of the first alone
 pub outside_place : (a b : ℕ) (n : ℤ) → is_place_of (places_outside a b) n ≡ (is_place_of a n && not (is_place_of b n))

@@ -14,7 +14,8 @@ use Rattle.pc_box.specs.Boxes.{are_like}
 use Rattle.pc_model.specs.Places.{places_outside}
 use Rattle.pc_box.specs.Sides.{sides_meet, lower_rest, upper_rest, span_below, span_above}
 use Rattle.pc_box.proofs.Places.{outside_place, some_from_place}
-use Rattle.pc_box.proofs.Bools.{same_tests, counted, above_zero}
+use Rattle.pc_model.proofs.Bools.{same_tests}
+use Rattle.pc_box.proofs.Bools.{counted, above_zero}
 
 -- a number of a part, if there is one
 abbrev pub part_holds : Option Side → ℤ → Bool

@@ -13,8 +13,10 @@ use Rattle.pc_model.proofs.Between.{le_from_test, test_from_le, between_parts, b
 use Rattle.pc_box.specs.Boxes.{are_like}
 use Rattle.pc_model.specs.Places.{places_outside}
 use Rattle.pc_box.specs.Sides.{sides_meet, common_side, is_within}
-use Rattle.pc_box.proofs.Bools.{same_tests, above_zero}
-use Rattle.pc_box.proofs.Places.{shared_place, outside_place, some_place, some_from_place}
+use Rattle.pc_model.proofs.Bools.{same_tests}
+use Rattle.pc_box.proofs.Bools.{above_zero}
+use Rattle.pc_model.proofs.SharedPlaces.{shared_place}
+use Rattle.pc_box.proofs.Places.{outside_place, some_place, some_from_place}
 
 -- a side of a box holds some number
 pub number_of_side : (s t : Side) → are_like s t ≡ true → (n : ℤ) × (holds s n ≡ true)

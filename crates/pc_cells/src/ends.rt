@@ -1,7 +1,8 @@
-ghost use Rattle.std.specs.Prelude.{◌≡◌, ◌<◌, ◌≤ℤ◌, ◌^◌, int_lt, cond, length, All};
+ghost use Rattle.std.specs.Prelude.{◌≡◌, ◌<◌, ◌≤ℤ◌, ◌^◌, cond, length, All};
 ghost use Rattle.pc_model.specs.declared.row.Row.{Row};
 ghost use Rattle.pc_model.specs.Aggregate.{number_at};
 ghost use Rattle.pc_model.specs.Cells.{low_at, high_at, least_low, greatest_high, IsInSome};
+ghost use Rattle.pc_cells.specs.Ends.{end_at, is_past, last_end};
 ghost use Rattle.pc_cells.specs.Found.{IsFilled, leaves_at, leaf_at, HoldsNumber, HasNumbers};
 
 use crate::cells::Cells;
@@ -43,8 +44,8 @@ fn ends_of(leaves: &[Region], column: usize) -> Ends
     ensures high_there { result.high_leaf < length leaves.now }
     ensures high_held { result.high ≡ high_at column (leaf_at leaves.now result.high_leaf) }
 {
-    let low = low_end(leaves, column);
-    let high = high_end(leaves, column);
+    let low = end_of(leaves, column, true);
+    let high = end_of(leaves, column, false);
     Ends {
         low: low.number,
         high: high.number,
@@ -60,58 +61,50 @@ struct End {
     leaf: usize,
 }
 
-#[tactic(auto, using(crate::proofs::Extremes::low_steps))]
-fn low_end(leaves: &[Region], column: usize) -> End
+// The least low end of a column over leaves, or the greatest high end.
+#[tactic(auto, using(crate::proofs::Extremes::steps))]
+fn end_of(leaves: &[Region], column: usize, low: bool) -> End
     requires { 0 < length leaves.now }
-    ensures least { result.number ≡ least_low column leaves.now }
+    ensures last { result.number ≡ last_end low column leaves.now }
     ensures there { result.leaf < length leaves.now }
-    ensures held { result.number ≡ low_at column (leaf_at leaves.now result.leaf) }
+    ensures held { result.number ≡ end_at low column (leaf_at leaves.now result.leaf) }
 {
     let mut end = End {
-        number: low_at(&leaves[0], column),
+        number: end_at(&leaves[0], column, low),
         leaf: 0,
     };
     for (leaf, region) in leaves.iter().enumerate() {
-        end = lower_end(end, leaf, region, column);
+        end = further_end(end, leaf, region, column, low);
     }
     end
 }
 
-#[tactic(auto, using(crate::proofs::Extremes::high_steps))]
-fn high_end(leaves: &[Region], column: usize) -> End
-    requires { 0 < length leaves.now }
-    ensures greatest { result.number ≡ greatest_high column leaves.now }
-    ensures there { result.leaf < length leaves.now }
-    ensures held { result.number ≡ high_at column (leaf_at leaves.now result.leaf) }
+fn further_end(end: End, leaf: usize, region: &Region, column: usize, low: bool) -> End
+    ensures { result ≡ cond (is_past low (end_at low column region.now) end.number) (record { number = end_at low column region.now; leaf = leaf }) end }
 {
-    let mut end = End {
-        number: high_at(&leaves[0], column),
-        leaf: 0,
-    };
-    for (leaf, region) in leaves.iter().enumerate() {
-        end = higher_end(end, leaf, region, column);
-    }
-    end
-}
-
-fn lower_end(end: End, leaf: usize, region: &Region, column: usize) -> End
-    ensures { result ≡ cond (int_lt (low_at column region.now) end.number) (record { number = low_at column region.now; leaf = leaf }) end }
-{
-    let number = low_at(region, column);
-    if number < end.number {
+    let number = end_at(region, column, low);
+    if is_past(number, end.number, low) {
         return End { number, leaf };
     }
     end
 }
 
-fn higher_end(end: End, leaf: usize, region: &Region, column: usize) -> End
-    ensures { result ≡ cond (int_lt end.number (high_at column region.now)) (record { number = high_at column region.now; leaf = leaf }) end }
+fn is_past(number: i64, other: i64, low: bool) -> bool
+    ensures { result ≡ is_past low number other }
 {
-    let number = high_at(region, column);
-    if number > end.number {
-        return End { number, leaf };
+    if low {
+        return number < other;
     }
-    end
+    other < number
+}
+
+fn end_at(region: &Region, column: usize, low: bool) -> i64
+    ensures { result ≡ end_at low column region.now }
+{
+    if low {
+        return low_at(region, column);
+    }
+    high_at(region, column)
 }
 
 fn low_at(region: &Region, column: usize) -> i64

@@ -40,7 +40,7 @@ mask_of-bit (c ∷ cs) row zero d within = lowest_bit (mask_of (c ∷ cs) row) �
 mask_of-bit (c ∷ cs) row (suc place) d within =
     later_bit (mask_of (c ∷ cs) row) place ∙ ap (λ n. has_bit n place) (half_joined (is_under c row) (mask_of cs row)) ∙ mask_of-bit cs row place d (omega arith)
 
-bit_small : (bit : Bool) → cond bit 1 0 < 2
+pub bit_small : (bit : Bool) → cond bit 1 0 < 2
 bit_small true = omega arith
 bit_small false = omega arith
 

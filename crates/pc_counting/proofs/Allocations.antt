@@ -1,5 +1,5 @@
 -- The rows of a possible list, counted by cell, as an allocation of the cells' program; what the counts are worth.
-use Rattle.std.proofs.Common.{◌≡◌, ℕ, ◌<◌, ◌≤◌, ℤ, pos, ◌≤ℤ◌, ◌*ℤ◌, Bool, true, false, cond, List, [], length, map, get_or, All, sym, ap, ap₂, ◌∙◌, arith}
+use Rattle.std.proofs.Common.{◌≡◌, ℕ, ◌<◌, ◌≤◌, ℤ, pos, ◌≤ℤ◌, ◌*ℤ◌, Bool, true, false, cond, List, length, map, get_or, All, sym, ap, ap₂, ◌∙◌, arith}
 use lib.IntN.{zero-*ℤ}
 use Rattle.std.specs.List.{AllPass}
 use Rattle.std.proofs.lemmas.Int.{ints}
@@ -16,18 +16,12 @@ use Rattle.pc_class.proofs.Masks.{mask_of-bit}
 use Rattle.pc_bound.specs.declared.program.Program.{Program}
 use Rattle.pc_bound.specs.Sums.{sum_below, nat_at, int_at}
 use Rattle.pc_bound.specs.Allocation.{cells_of, constraints_of, count_for, total, worth, IsAllocation}
-use Rattle.pc_bound.specs.CellPrograms.{cap_of, program_of, count_in, counts_of}
+use Rattle.pc_bound.specs.CellPrograms.{program_of, count_in, counts_of}
 use Rattle.pc_bound.proofs.SumBelow.{sum_below-same}
+use Rattle.pc_bound.proofs.CellPlaces.{no_class, no_constraint, cell_inside, constraint_inside, mask_is, cap_is, floor_is, least_is, most_is}
 use Rattle.pc_counting.proofs.Sums.{int_sum-same, int_sum-count, sum_below-list}
 use Rattle.pc_counting.proofs.Counts.{AreDifferent, AreInClasses, gains_of_rows}
 use Rattle.pc_counting.proofs.Caps.{count_within_cap}
-
--- stand-ins past the end of a list
-no_class : Class
-no_class = record { mask = 0; chosen = false }
-
-no_constraint : Constraint
-no_constraint = record { name = []; when = record { sides = [] }; values = record { sides = [] }; least = 0; most = 0 }
 
 module _ (constraints : List Constraint) (chosen : Region) (classes : List Class) (gain : Class → ℤ) (rows : List Row) where
   abbrev program : Program
@@ -44,32 +38,11 @@ module _ (constraints : List Constraint) (chosen : Region) (classes : List Class
 
   -- ---- the lists of the program, by place
 
-  cell_inside : (i : ℕ) → i < cells_of program → i < length classes
-  cell_inside i inside = omega (arith, length-map classes (λ (class : Class). class.mask))
-
-  constraint_inside : (j : ℕ) → j < constraints_of program → j < length constraints
-  constraint_inside j inside = omega (arith, length-map constraints (λ (c : Constraint). c.least))
-
-  mask_is : (i : ℕ) → i < length classes → nat_at program.masks i ≡ (class_at i).mask
-  mask_is i inside = get_or-map (λ (class : Class). class.mask) classes i no_class 0 inside
-
   count_is : (i : ℕ) → i < length classes → nat_at counts i ≡ count_at (class_at i)
   count_is i inside = get_or-map count_at classes i no_class 0 inside
 
-  cap_is : (i : ℕ) → i < length classes → nat_at program.cap i ≡ cap_of constraints (class_at i)
-  cap_is i inside = get_or-map (cap_of constraints) classes i no_class 0 inside
-
-  floor_is : (i : ℕ) → i < length classes → nat_at program.floor i ≡ 0
-  floor_is i inside = get_or-map (λ (class : Class). 0) classes i no_class 0 inside
-
   gain_is : (i : ℕ) → i < length classes → int_at program.gain i ≡ gain (class_at i)
   gain_is i inside = get_or-map gain classes i no_class (pos 0) inside
-
-  least_is : (j : ℕ) → j < length constraints → nat_at program.least j ≡ (get_or constraints j no_constraint).least
-  least_is j inside = get_or-map (λ (c : Constraint). c.least) constraints j no_constraint 0 inside
-
-  most_is : (j : ℕ) → j < length constraints → nat_at program.most j ≡ (get_or constraints j no_constraint).most
-  most_is j inside = get_or-map (λ (c : Constraint). c.most) constraints j no_constraint 0 inside
 
   -- ---- sums over the cells
 
@@ -89,7 +62,7 @@ module _ (constraints : List Constraint) (chosen : Region) (classes : List Class
 
   part_is : (j i : ℕ) → i < length classes → count_for program counts j i ≡ cond (has_constraint j (class_at i)) (pos 1) (pos 0) *ℤ pos (count_at (class_at i))
   part_is j i inside =
-      ap₂ (λ mask n. cond (has_bit mask j) (pos n) (pos 0)) (mask_is i inside) (count_is i inside) ∙ one_if (has_constraint j (class_at i)) (count_at (class_at i))
+      ap₂ (λ mask n. cond (has_bit mask j) (pos n) (pos 0)) (mask_is constraints classes (map gain classes) i inside) (count_is i inside) ∙ one_if (has_constraint j (class_at i)) (count_at (class_at i))
 
   module _ (differ : AreDifferent classes) (inside : AreInClasses constraints chosen classes rows) where
     -- the cells of a constraint have the rows under it
@@ -118,13 +91,13 @@ module _ (constraints : List Constraint) (chosen : Region) (classes : List Class
       where
         within_caps : (i : ℕ) → i < cells_of program → (nat_at program.floor i ≤ nat_at counts i) × (nat_at counts i ≤ nat_at program.cap i)
         within_caps i below =
-            let there = cell_inside i below in
+            let there = cell_inside constraints classes (map gain classes) i below in
             let few = count_within_cap constraints chosen (class_at i) rows covered meets in
-            (omega (arith, floor_is i there), omega (arith, few, count_is i there, cap_is i there))
+            (omega (arith, floor_is constraints classes (map gain classes) i there), omega (arith, few, count_is i there, cap_is constraints classes (map gain classes) i there))
 
         met_at : (j : ℕ) → j < constraints_of program → (pos (nat_at program.least j) ≤ℤ total program counts j) × (total program counts j ≤ℤ pos (nat_at program.most j))
         met_at j below =
-            let there = constraint_inside j below in
+            let there = constraint_inside constraints classes (map gain classes) j below in
             let met = meets j no_constraint there in
             let count = total_is_count j no_constraint there in
-            (omega (arith, ints, count, met.enough, least_is j there), omega (arith, ints, count, met.not_more, most_is j there))
+            (omega (arith, ints, count, met.enough, least_is constraints classes (map gain classes) j there), omega (arith, ints, count, met.not_more, most_is constraints classes (map gain classes) j there))

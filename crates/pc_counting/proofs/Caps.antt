@@ -14,7 +14,8 @@ use Rattle.pc_model.specs.Cells.{Class, class_of, mask_of, is_class}
 use Rattle.pc_class.proofs.Masks.{later_bit, mask_of-bit}
 use Rattle.pc_class.proofs.Classes.{is_class-same}
 use Rattle.pc_bound.specs.CellPrograms.{members, cap_of, count_in}
-use Rattle.pc_counting.proofs.Sums.{count_by-skips, count_by-weaker}
+use Rattle.pc_model.proofs.Tallies.{count_by-skips}
+use Rattle.pc_counting.proofs.Sums.{count_by-weaker}
 
 -- ---- the least of numbers
 

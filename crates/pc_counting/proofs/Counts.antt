@@ -14,7 +14,8 @@ use Rattle.pc_class.proofs.Classes.{is_class-same}
 use Rattle.pc_class.proofs.Cells.{listed-from_contained}
 use Rattle.pc_bound.specs.CellPrograms.{count_in}
 use Rattle.pc_bound.proofs.Ring.{mul-more}
-use Rattle.pc_counting.proofs.Sums.{int_sum-same, int_sum-add, int_sum-none, count_by-cons}
+use Rattle.pc_model.proofs.Tallies.{count_by-cons}
+use Rattle.pc_counting.proofs.Sums.{int_sum-same, int_sum-add, int_sum-none}
 
 -- ---- one class among those listed
 

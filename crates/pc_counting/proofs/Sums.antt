@@ -1,10 +1,10 @@
 -- Sums over a list, and over the places of a list; counts of those that pass a test.
-use Rattle.std.proofs.Common.{◌≡◌, ℕ, ◌+◌, ◌≤◌, ℤ, pos, ◌+ℤ◌, Bool, true, false, cond, List, [], ◌∷◌, length, map, get_or, All, count_by, refl, sym, ap, ap₂, ◌∙◌, true≢false, arith}
-use Rattle.std.proofs.lemmas.Bool.{cond-false}
+use Rattle.std.proofs.Common.{◌≡◌, ◌+◌, ◌≤◌, ℤ, pos, ◌+ℤ◌, Bool, true, false, cond, List, [], ◌∷◌, length, map, get_or, All, count_by, refl, sym, ap, ap₂, ◌∙◌, true≢false, arith}
 use Rattle.std.proofs.lemmas.Int.{ints}
 use Rattle.std.proofs.lemmas.List.Elements.{All-head, All-tail}
-use Rattle.std.proofs.lemmas.List.Sums.{sum_by-cons, sum_by-le-sum_by}
+use Rattle.std.proofs.lemmas.List.Sums.{sum_by-le-sum_by}
 use Rattle.pc_model.specs.Aggregate.{int_sum}
+use Rattle.pc_model.proofs.Tallies.{count_by-cons}
 use Rattle.pc_bound.specs.Sums.{sum_below}
 use Rattle.pc_bound.proofs.SumBelow.{sum_below-front, sum_below-zero}
 
@@ -23,12 +23,6 @@ module _ {X : Type 0} where
   int_sum-none f [] none = refl
   int_sum-none f (x ∷ xs) none =
       omega (arith, ints, All-head (λ y. f y ≡ pos 0) x xs none, int_sum-none f xs (All-tail (λ y. f y ≡ pos 0) x xs none))
-
-  pub count_by-cons : (test : X → Bool) (x : X) (xs : List X) → count_by test (x ∷ xs) ≡ cond (test x) 1 0 + count_by test xs
-  count_by-cons test x xs = sum_by-cons (λ y. cond (test y) 1 0) x xs
-
-  pub count_by-skips : (test : X → Bool) (x : X) (xs : List X) → test x ≡ false → count_by test (x ∷ xs) ≡ count_by test xs
-  count_by-skips test x xs fails = omega (arith, count_by-cons test x xs, cond-false {A = ℕ} (test x) 1 0 fails)
 
   -- a count is a sum of ones
   pub int_sum-count : (test : X → Bool) (xs : List X) → int_sum (map (λ x. cond (test x) (pos 1) (pos 0)) xs) ≡ pos (count_by test xs)

@@ -17,7 +17,7 @@ use Rattle.pc_lang.specs.Canonical.{count_text, line_for}
 use Rattle.pc_lang.specs.Meaning.{constraint_of, count_of, has_name, new_constraint}
 use Rattle.pc_model.proofs.Lists.{AllPairs-head, AllPairs-tail, bytes_eq-other}
 use Rattle.pc_lang.proofs.RegionsAgain.{region_again}
-use Rattle.pc_lang.proofs.SidesAgain.{number_again}
+use Rattle.pc_model.proofs.NumberTexts.{number_again}
 
 abbrev AreDigits : ℕ → List ℕ → Type 0
 AreDigits n text = list_all is_ascii_digit text ≡ true

@@ -8,6 +8,7 @@ use Rattle.pc_model.specs.declared.region.Side.{Side}
 use Rattle.pc_model.specs.Membership.{has, holds, in_domain}
 use Rattle.pc_model.specs.Regions.{is_side_of, whole_region}
 use Rattle.pc_syntax.specs.declared.syntax.Atom.{Atom}
+use Rattle.pc_model.proofs.Bools.{and_last}
 use Rattle.pc_model.proofs.WholeDomain.{domain_holds, whole_are_sides}
 use Rattle.pc_lang.specs.Holding.{PartsHold, cells_hold, states}
 use Rattle.pc_lang.specs.Parts.{narrowed, narrowed_by, narrowed_side, region, region_of}
@@ -19,12 +20,6 @@ use Rattle.pc_lang.proofs.StatedCells.{left_holds}
 and_one : (c : Bool) → c ≡ (c && true)
 and_one true = refl
 and_one false = refl
-
-and_swap : (a b c : Bool) → ((a && b) && c) ≡ ((a && c) && b)
-and_swap true true c = and_one c
-and_swap true false true = refl
-and_swap true false false = refl
-and_swap false b c = refl
 
 and_shift : (a b c : Bool) → (a && (b && c)) ≡ ((a && b) && c)
 and_shift true b c = refl
@@ -39,7 +34,7 @@ unfolding cells_hold
 here atom column columns side sides less same left all [] = refl
 here atom column columns side sides less same left all (cell ∷ cells) =
     let p = and_parts (is_side_of column.kind side) (pointwise (λ (column : Column). is_side_of column.kind) columns sides) all in
-    rw (same, left_holds column.kind atom.claim side less cell p.0 left) (and_swap (holds side cell) (states column.kind atom.claim cell) (pointwise holds sides cells))
+    rw (same, left_holds column.kind atom.claim side less cell p.0 left) (and_last (holds side cell) (states column.kind atom.claim cell) (pointwise holds sides cells))
 
 later : (atom : Atom) (column : Column) (columns : List Column) (side : Side) (sides others : List Side) → bytes_eq column.name atom.column ≡ false → narrowed columns atom sides ≡ Ok others → Narrows atom columns sides others → Narrows atom (column ∷ columns) (side ∷ sides) (side ∷ others)
 unfolding cells_hold

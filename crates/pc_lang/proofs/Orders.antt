@@ -1,8 +1,8 @@
 -- The columns of the tests are well-formed.
-use Rattle.std.proofs.Common.{◌≡◌, ◌≢◌, ℕ, ◌<◌, ◌≤◌, ◌&&◌, nat_le, nat_lt, not, Bool, true, false, true≢false, List, [], ◌∷◌, length, get_or, pos, negsuc, refl, sym, arith}
+use Rattle.std.proofs.Common.{◌≡◌, ◌≢◌, ℕ, ◌<◌, ◌≤◌, ◌&&◌, nat_le, nat_lt, not, Bool, true, List, [], ◌∷◌, length, get_or, pos, negsuc, refl, arith}
 use Rattle.std.specs.Prelude.{codes, bytes_eq}
 use Rattle.std.specs.List.{All, AllPairs, list_any, list_all}
-use Rattle.std.proofs.lemmas.Bool.{and_parts, both_ways}
+use Rattle.std.proofs.lemmas.Bool.{and_parts, both_ways, not-true}
 use Rattle.std.specs.Str.{IsAscii}
 use Rattle.std.proofs.lemmas.Bool.Decides.{nat_tests}
 use Rattle.std.proofs.lemmas.Int.{ints}
@@ -32,16 +32,12 @@ are_different : {X : Type 0} → (X → List ℕ) → List X → Bool
 are_different key [] = true
 are_different key (x ∷ xs) = not (list_any (λ y. bytes_eq (key x) (key y)) xs) && are_different key xs
 
-not_true : (b : Bool) → not b ≡ true → b ≡ false
-not_true true e = absurd (true≢false (sym e))
-not_true false e = refl
-
 differ : {X : Type 0} (key : X → List ℕ) (xs : List X) → are_different key xs ≡ true → AllPairs (λ a b. key a ≢ key b) xs
 unfolding are_different
 differ key [] e = λ i j d before inside. absurd (omega arith)
 differ key (x ∷ xs) e =
     let parts = and_parts (not (list_any (λ y. bytes_eq (key x) (key y)) xs)) (are_different key xs) e in
-    let fresh = not_true _ parts.0 in
+    let fresh = not-true _ parts.0 in
     AllPairs-cons (λ a b. key a ≢ key b) x xs
     (λ k d inside same. both_ways _ fresh (list_any_at (λ y. bytes_eq (key x) (key y)) xs k d inside ((bytes_eq-Decides (key x) (key (get_or xs k d))).1 same)))
     (differ key xs parts.1)

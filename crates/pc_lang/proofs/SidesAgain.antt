@@ -8,16 +8,14 @@ use Rattle.std.proofs.lemmas.Bool.{and_parts, cases_Bool, false≢true, ltb-true
 use Rattle.std.proofs.lemmas.Bool.Decides.{Decides-int_eq}
 use Rattle.std.proofs.lemmas.Int.{clamps, ints}
 use Rattle.std.proofs.lemmas.Nat.{and_comm, and_mask}
-use Rattle.pc_num.specs.Put.{scaled_text}
-use Rattle.pc_num.proofs.ReadBack.{reads_back}
 use Rattle.pc_model.specs.declared.schema.Kind.{Kind}
 use Rattle.pc_model.specs.declared.schema.Kind.TheVariants.{Int, Dec, Cat}
 use Rattle.pc_model.specs.declared.region.Side.{Side}
 use Rattle.pc_model.specs.declared.region.Side.TheVariants.{Span, Names}
-use Rattle.pc_model.specs.Numbers.{number_of}
 use Rattle.pc_model.specs.Regions.{is_set_in, is_side_of, is_span_in, meet_sides, set_unless_empty, span_unless_empty, whole_side}
 use Rattle.pc_model.specs.WellFormed.{IsKind, IsSmall, IsSpan}
 use Rattle.pc_model.proofs.Between.{le_from_test}
+use Rattle.pc_model.proofs.NumberTexts.{number_again}
 use Rattle.pc_lang.specs.Claims.{stated, stated_numbers}
 use Rattle.pc_lang.specs.Canonical.{side_claim, span_claim}
 use Rattle.pc_lang.specs.Parts.{narrowed_side}
@@ -36,9 +34,6 @@ inside_of low high from upto e =
 
 IsSmall-between : (low high number : ℤ) → IsSpan low high → low ≤ℤ number → number ≤ℤ high → IsSmall number
 IsSmall-between low high number is above below = let low_small = is.small_low in let high_small = is.small_high in omega (arith, ints, low_small, high_small)
-
-pub number_again : (scale : ℕ) (number : ℤ) → IsSmall number → number_of scale (scaled_text number scale) ≡ Ok number
-number_again scale number small = rw (reads_back number scale small) refl
 
 span_again : (scale : ℕ) (low high from upto : ℤ) → IsSmall from → IsSmall upto → stated_numbers scale low high (span_claim scale from upto) ≡ Ok (Span from upto)
 unfolding stated_numbers span_claim

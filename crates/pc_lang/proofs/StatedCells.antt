@@ -1,5 +1,5 @@
 -- What is left of a side holds what the side holds and the claim states.
-use Rattle.std.proofs.Common.{◌≡◌, ℕ, zero, suc, ◌+◌, ◌*◌, ◌/◌, ◌%◌, ◌&&◌, ◌==◌, Bool, true, false, ℤ, pos, negsuc, ◌+ℤ◌, ◌-ℤ◌, ◌≤ℤ◌, ◌<ℤ◌, int_le, int_lt, T, List, [], ◌∷◌, Some, Result, Ok, Err, refl, sym, subst, ap, ◌∙◌, arith, eqb-true, eq-eqb}
+use Rattle.std.proofs.Common.{◌≡◌, ℕ, zero, suc, ◌+◌, ◌*◌, ◌/◌, ◌%◌, ◌&&◌, ◌==◌, Bool, true, false, ℤ, pos, negsuc, ◌+ℤ◌, ◌-ℤ◌, ◌≤ℤ◌, ◌<ℤ◌, int_le, int_lt, T, List, [], ◌∷◌, Some, Result, Ok, Err, refl, sym, subst, ap, ◌∙◌, arith}
 use Rattle.std.specs.Prelude.{slice_get}
 use Rattle.std.specs.Int.{bit_at, int_min, int_max}
 use Rattle.std.specs.Int.Bits.{bit_and}
@@ -9,7 +9,7 @@ use Rattle.std.specs.Ordering.{int_eq}
 use Rattle.std.proofs.lemmas.Bool.{and_parts, and_from}
 use Rattle.std.proofs.lemmas.Bool.Decides.{Decides-int_eq}
 use Rattle.std.proofs.lemmas.Int.{ints, clamps}
-use Rattle.std.proofs.lemmas.Nat.Bits.{bit_at-lt, bit_at-suc, bit_at-zero, bit_at_and, bit_at_lowest}
+use Rattle.std.proofs.lemmas.Nat.Bits.{bit_at-suc, bit_at-zero, bit_at_lowest}
 use Rattle.std.proofs.lemmas.Option.{none-some}
 use Rattle.pc_model.specs.declared.fault.Reason.{Reason}
 use Rattle.pc_model.specs.declared.fault.Reason.TheVariants as reasons
@@ -22,6 +22,8 @@ use Rattle.pc_model.specs.Numbers.{number_of}
 use Rattle.pc_model.specs.Places.{is_place_of}
 use Rattle.pc_model.specs.Refusals.{◌>>=◌}
 use Rattle.pc_model.specs.Regions.{is_side_of, meet_sides}
+use Rattle.pc_model.proofs.Bools.{same_tests}
+use Rattle.pc_model.proofs.SharedPlaces.{shared_place}
 use Rattle.pc_model.proofs.Between.{test_from_le, between_parts, between_from}
 use Rattle.pc_model.proofs.Regions.{side_inside}
 use Rattle.pc_syntax.specs.declared.syntax.Claim.{Claim}
@@ -31,12 +33,6 @@ use Rattle.pc_lang.specs.Holding.{is_name_of, is_one_of, name_claim, number_clai
 use Rattle.pc_lang.specs.Parts.{narrowed_side}
 use Rattle.pc_lang.proofs.Bound.{granted}
 use Rattle.pc_lang.proofs.Meeting.{left_of, not_above, spans_meet, sets_meet}
-
-same_tests : (x y : Bool) → (x ≡ true → y ≡ true) → (y ≡ true → x ≡ true) → x ≡ y
-same_tests true true to from = refl
-same_tests true false to from = sym (to refl)
-same_tests false true to from = from refl
-same_tests false false to from = refl
 
 both_between : (a b c d n : ℤ) → is_between (int_max a c) (int_min b d) n ≡ (is_between a b n && is_between c d n)
 both_between a b c d n =
@@ -50,25 +46,12 @@ both_between a b c d n =
     let r = between_parts c d n p.1 in
     between_from (int_max a c) (int_min b d) n (omega (arith, ints, clamps)) (omega (arith, ints, clamps)))
 
-both_places : (a b : ℕ) (n : ℤ) → is_place_of (bit_and a b) n ≡ (is_place_of a n && is_place_of b n)
-both_places a b (pos place) =
-    same_tests (bit_at (bit_and a b) place == 1) ((bit_at a place == 1) && (bit_at b place == 1))
-    (λ h. let e : bit_at (bit_and a b) place ≡ 1 = eqb-true (bit_at (bit_and a b) place) 1 h in
-    let first : bit_at a place ≡ 1 = omega (arith, e, bit_at_and a b place, bit_at-lt a place, bit_at-lt b place) in
-    let second : bit_at b place ≡ 1 = omega (arith, e, bit_at_and a b place, bit_at-lt a place, bit_at-lt b place) in
-    and_from (bit_at a place == 1) (bit_at b place == 1) (eq-eqb (bit_at a place) 1 first) (eq-eqb (bit_at b place) 1 second))
-    (λ h. let p = and_parts (bit_at a place == 1) (bit_at b place == 1) h in
-    let first : bit_at a place ≡ 1 = eqb-true (bit_at a place) 1 p.0 in
-    let second : bit_at b place ≡ 1 = eqb-true (bit_at b place) 1 p.1 in
-    eq-eqb (bit_at (bit_and a b) place) 1 (omega (arith, first, second, bit_at_and a b place)))
-both_places a b (negsuc below) = refl
-
 meet_holds : (side other less : Side) (n : ℤ) → meet_sides side other ≡ Some less → holds less n ≡ (holds side n && holds other n)
 unfolding meet_sides holds
 meet_holds (Span a b) (Span c d) less n e = let met = spans_meet (int_max a c) (int_min b d) less e in rw met.0 (both_between a b c d n)
 meet_holds (Span a b) (Names bits) less n e = absurd (none-some less e)
 meet_holds (Names bits) (Span a b) less n e = absurd (none-some less e)
-meet_holds (Names a) (Names b) less n e = let met = sets_meet (bit_and a b) less e in rw met.0 (both_places a b n)
+meet_holds (Names a) (Names b) less n e = let met = sets_meet (bit_and a b) less e in rw met.0 (shared_place a b n)
 
 lowest_tells : (test : Bool) (rest : ℕ) → (bit_at (bit_if test + 2 * rest) 0 == 1) ≡ test
 lowest_tells true rest = let one : (1 + 2 * rest) % 2 ≡ 1 = omega arith in rw (bit_at_lowest (1 + 2 * rest), one) refl

@@ -1,5 +1,5 @@
 -- Which constraint a line stands for, and which query a question: the checks of meaning, in their order.
-use Rattle.std.specs.Prelude.{ℕ, ◌+◌, Bool, true, false, unsigned_abs, List, [], ◌∷◌, length, bytes_eq, nat_le, nat_lt, Option, Some, None, Result, Ok, Err, if◌then◌else◌}
+use Rattle.std.specs.Prelude.{ℕ, ◌+◌, Bool, true, false, unsigned_abs, List, [], ◌∷◌, length, bytes_eq, nat_le, nat_lt, Option, Some, None, Result, Ok, Err, if◌then◌else◌, not}
 use Rattle.std.specs.Char.{is_ascii_digit}
 use Rattle.std.specs.List.{list_all, list_any}
 use Rattle.pc_model.specs.declared.fault.Reason.{Reason}
@@ -54,15 +54,17 @@ constraint_of schema before line =
     else if has_name before line.name then Err reasons.RepeatedName
     else new_constraint schema line
 
+-- a kind with names, or one of numbers, as is asked
+abbrev pub has_names_as : Bool → Kind → Bool
+has_names_as asked (Int low high) = not asked
+has_names_as asked (Dec scale low high) = not asked
+has_names_as asked (Cat names) = asked
+
 abbrev pub is_numeric : Kind → Bool
-is_numeric (Int low high) = true
-is_numeric (Dec scale low high) = true
-is_numeric (Cat names) = false
+is_numeric = has_names_as false
 
 abbrev pub has_names : Kind → Bool
-has_names (Int low high) = false
-has_names (Dec scale low high) = false
-has_names (Cat names) = true
+has_names = has_names_as true
 
 -- the place of the column of this name, which is of a kind that fits, counted from a place
 unfoldable pub place_from : (Kind → Bool) → ℕ → List Column → List ℕ → Result ℕ Reason

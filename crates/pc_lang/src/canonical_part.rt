@@ -7,7 +7,7 @@ ghost use Rattle.pc_lang.specs.Canonical.{atoms_for, names_claim, names_from, pa
 
 use crate::whole::same_side;
 use pc_list::{Seq, Text};
-use pc_model::{Column, Kind, Region, Schema, Side};
+use pc_model::{Column, Kind, Region, Schema, Side, has_bit};
 use pc_num::{Memory, put_scaled};
 use pc_syntax::{Atom, Claim, Part};
 use std::alloc::Global;
@@ -159,15 +159,8 @@ fn push_name(stated: &mut Seq<Text>, bits: u128, place: usize, name: &Text) -> R
     requires { place < 128 }
     ensures { OnOk result (stated.new ≡ stated.old ++ (if is_place_of bits (pos place) then name.now ∷ [] else [])) }
 {
-    if has_place(bits, place) {
+    if has_bit(bits, place) {
         stated.push(name.clone()?)?;
     }
     Ok(())
-}
-
-fn has_place(bits: u128, place: usize) -> bool
-    requires { place < 128 }
-    ensures { result ≡ is_place_of bits (pos place) }
-{
-    (bits >> place as u32) & 1 == 1
 }

@@ -2,7 +2,7 @@ ghost use Rattle.std.specs.Prelude.{◌≡◌, ◌≤◌, length, IfOk};
 ghost use Rattle.pc_model.specs.Accepted.{IsQuery};
 ghost use Rattle.pc_model.specs.Refusals.{Answers};
 ghost use Rattle.pc_model.specs.WellFormed.{IsWellFormed, HaveFewNames};
-ghost use Rattle.pc_lang.specs.Meaning.{chosen_of, grouping_of, has_names, is_numeric, measured, numeric_place, names_place, query_of};
+ghost use Rattle.pc_lang.specs.Meaning.{chosen_of, grouping_of, has_names_as, measured, names_place, numeric_place, place_from, query_of};
 
 use crate::part::region_of;
 use pc_list::Text;
@@ -54,37 +54,45 @@ fn measured(schema: &Schema, measure: &Measure) -> Result<(Agg, Option<u8>), Rea
 }
 
 // The place of the column of numbers of this name.
-#[tactic(auto, using(crate::proofs::Places::steps))]
 fn numeric_place(schema: &Schema, name: &[u8]) -> Result<u8, Reason>
     requires { length schema.now.columns ≤ 12 }
     ensures { result ≡ numeric_place schema.now name.now }
 {
+    place_of(schema, name, false)
+}
+
+// The place of the column of names of this name.
+fn names_place(schema: &Schema, name: &[u8]) -> Result<u8, Reason>
+    requires { length schema.now.columns ≤ 12 }
+    ensures { result ≡ names_place schema.now name.now }
+{
+    place_of(schema, name, true)
+}
+
+// The place of the column of this name, which must be one of names or one of numbers, as is asked.
+#[tactic(auto, using(crate::proofs::Places::steps))]
+fn place_of(schema: &Schema, name: &[u8], of_names: bool) -> Result<u8, Reason>
+    requires { length schema.now.columns ≤ 12 }
+    ensures { result ≡ place_from (has_names_as of_names) 0 schema.now.columns name.now }
+{
     for (place, column) in schema.columns.as_slice().iter().enumerate() {
         if column.name.as_bytes() == name {
-            return match column.kind {
-                Kind::Int { .. } | Kind::Dec { .. } => Ok(place as u8),
-                Kind::Cat { .. } => Err(Reason::WrongKind),
-            };
+            if has_names_as(&column.kind, of_names) {
+                return Ok(place as u8);
+            }
+            return Err(Reason::WrongKind);
         }
     }
     Err(Reason::UnknownColumn)
 }
 
-// The place of the column of names of this name.
-#[tactic(auto, using(crate::proofs::Places::steps))]
-fn names_place(schema: &Schema, name: &[u8]) -> Result<u8, Reason>
-    requires { length schema.now.columns ≤ 12 }
-    ensures { result ≡ names_place schema.now name.now }
+fn has_names_as(kind: &Kind, asked: bool) -> bool
+    ensures { result ≡ has_names_as asked kind.now }
 {
-    for (place, column) in schema.columns.as_slice().iter().enumerate() {
-        if column.name.as_bytes() == name {
-            return match column.kind {
-                Kind::Int { .. } | Kind::Dec { .. } => Err(Reason::WrongKind),
-                Kind::Cat { .. } => Ok(place as u8),
-            };
-        }
+    match kind {
+        Kind::Int { .. } | Kind::Dec { .. } => !asked,
+        Kind::Cat { .. } => asked,
     }
-    Err(Reason::UnknownColumn)
 }
 
 fn chosen_of(alloc: Global, schema: &Schema, part: &Option<Part>) -> Result<Region, Stop>

@@ -1,11 +1,16 @@
 pub mod Between
+pub mod Bools
 pub mod FewNames
 pub mod Folds
 pub mod Lists
 pub mod Names
+pub mod NumberTexts
 pub mod Pairs
 pub mod PastBits
+pub mod Pieces
 pub mod Regions
+pub mod SharedPlaces
+pub mod Tallies
 pub mod Utf8
 pub mod Whole
 pub mod WholeDomain

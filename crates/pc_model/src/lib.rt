@@ -17,7 +17,7 @@ pub use constraint::Constraint;
 pub use fault::{Fault, FileKind, Reason, Refusal, Stop};
 pub use number::read_number;
 pub use query::{Agg, Folded, Query, greatest_of, least_of};
-pub use region::{Region, Side, is_between};
+pub use region::{Region, Side, has_bit, is_between};
 pub use row::{Row, Run};
 pub use schema::{Column, Kind, Schema};
 pub use text::{FILE_LIMIT, is_name, text_of};

@@ -1,6 +1,6 @@
-ghost use Rattle.std.specs.Prelude.{◌≡◌};
+ghost use Rattle.std.specs.Prelude.{◌≡◌, ◌<◌};
 ghost use Rattle.pc_model.specs.Membership.{is_between, holds, has, row_from};
-ghost use Rattle.pc_model.specs.Places.{is_place_of};
+ghost use Rattle.pc_model.specs.Places.{has_bit, is_place_of};
 ghost use Rattle.pc_model.specs.Regions.{meet_sides, set_unless_empty, span_unless_empty};
 
 use crate::row::Row;
@@ -87,7 +87,15 @@ fn is_place_of(bits: u128, number: i64) -> bool
     if 128 <= number {
         return false;
     }
-    (bits >> number as u32) & 1 == 1
+    has_bit(bits, number as usize)
+}
+
+/// Whether a bit is set.
+pub fn has_bit(bits: u128, place: usize) -> bool
+    requires { place < 128 }
+    ensures { result ≡ has_bit bits place }
+{
+    (bits >> place as u32) & 1 == 1
 }
 
 impl Region {

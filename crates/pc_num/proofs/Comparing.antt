@@ -6,6 +6,7 @@ use Rattle.std.proofs.Math.Nat.{mul-le-mul_right, mul-lt-mul_of_pos_right}
 use Rattle.std.proofs.Common.{Less, Equal, Greater}
 use Rattle.std.specs.Ordering.{nat_cmp}
 use Rattle.std.specs.Cmp.{nat_cmp_is}
+use Rattle.pc_num.proofs.Divisors.{multiple_split}
 
 nat_cmp-below : (x y : ℕ) → x < y → nat_cmp x y ≡ Less
 nat_cmp-below x y h = sym (nat_cmp_is x y Less h)
@@ -41,13 +42,10 @@ whole_differs a b c d p q ne =
     (λ e. absurd (ne e))
     (λ h. lower c d a b (c / d) (c % d) (a / b) (a % b) (div-add-mod' c d) (div-add-mod' a b) (mod_below c d q) p h)
 
-times_split : (a b d w r : ℕ) → w * b + r ≡ a → a * d ≡ w * (b * d) + r * d
-times_split a b d w r e = rw (← e) (omega arith)
-
 rests_order : (a b c d w v r s : ℕ) → w * b + r ≡ a → v * d + s ≡ c → w ≡ v → nat_cmp (r * d) (s * b) ≡ nat_cmp (a * d) (c * b)
 rests_order a b c d w v r s ea ec e =
-    let left = times_split a b d w r ea in
-    let right : c * b ≡ w * (b * d) + s * b = rw e (let t = times_split c d b v s ec in omega arith) in
+    let left = multiple_split a b d w r ea in
+    let right : c * b ≡ w * (b * d) + s * b = rw e (let t = multiple_split c d b v s ec in omega arith) in
     one_order (r * d) (s * b) (a * d) (c * b) (λ h. omega arith) (λ h. omega arith) (λ h. omega arith)
 
 pub rests : (a b c d : ℕ) → a / b ≡ c / d → nat_cmp ((a % b) * d) ((c % d) * b) ≡ nat_cmp (a * d) (c * b)

@@ -10,7 +10,7 @@ pub gcd_below : (a b g m : ℕ) → IsGcd a b g → a < m → b < m → g < m
 gcd_below zero b g m h p q = let e : g ≡ b = dvd_antisymm h.1 (h.2 b (dvd-zero b) (dvd_refl b)) in omega arith
 gcd_below (suc a) b g m h p q = let some : zero < suc a = omega arith in omega (arith, le_of_dvd some h.0)
 
-multiple_split : (a b k q r : ℕ) → q * b + r ≡ a → a * k ≡ q * (b * k) + r * k
+pub multiple_split : (a b k q r : ℕ) → q * b + r ≡ a → a * k ≡ q * (b * k) + r * k
 multiple_split a b k q r e = rw (← e) (omega arith)
 
 rest_divided : (a b k x : ℕ) → x ∣ a * k → x ∣ b * k → x ∣ (a % b) * k

@@ -7,6 +7,7 @@ use Rattle.pc_num.specs.Fractions.{IsFrac, IsQuotient, IsReducedOf}
 use Rattle.pc_num.specs.Scaled.{signed}
 use Rattle.pc_num.specs.Signs.{differ}
 use Rattle.pc_num.proofs.Divisors.{reduced_is_one, product_reduced}
+use Rattle.pc_num.proofs.Signed.{unsigned_abs-signed}
 
 pub neg-*ℤ-pos : (m n : ℕ) → neg_ℤ (pos m) *ℤ pos n ≡ neg_ℤ (pos (m * n))
 neg-*ℤ-pos zero n = let e : 0 * n ≡ 0 = omega arith in rw e refl
@@ -35,11 +36,6 @@ crossed_product (pos a) (pos b) (pos c) (pos d) num den p q e = ap pos e
 crossed_product (pos a) (pos b) (negsuc c) (pos d) num den p q e = rw (neg-*ℤ-pos, neg-*ℤ-pos) (ap (λ (k : ℕ). neg_ℤ (pos k)) e)
 crossed_product (negsuc a) (pos b) (pos c) (pos d) num den p q e = rw (neg-*ℤ-pos, neg-*ℤ-pos) (ap (λ (k : ℕ). neg_ℤ (pos k)) e)
 crossed_product (negsuc a) (pos b) (negsuc c) (pos d) num den p q e = ap pos e
-
-unsigned_abs-signed : (minus : Bool) (size : ℕ) → unsigned_abs (signed minus size) ≡ size
-unsigned_abs-signed true zero = refl
-unsigned_abs-signed true (suc size) = refl
-unsigned_abs-signed false size = refl
 
 abbrev pub made : Bool → ℕ → ℕ → Frac
 made minus num den = record { num = signed minus num; den = pos den }

@@ -1,10 +1,11 @@
 -- The greatest common divisor of a row.
-use Rattle.std.proofs.Common.{◌≡◌, ◌<◌, ◌≤◌, ◌+◌, ◌/◌, ℕ, zero, suc, ℤ, pos, negsuc, ◌*ℤ◌, ◌<ℤ◌, ◌≤ℤ◌, unsigned_abs, List, [], ◌∷◌, length, take, drop, set, ◌++◌, get_or, map, All, FitsSigned, int_div, arith, refl, ap, sym, add-one, drop-cons, ◌∙◌}
+use Rattle.std.proofs.Common.{◌≡◌, ◌<◌, ◌≤◌, ◌+◌, ◌/◌, ℕ, zero, suc, ℤ, pos, negsuc, ◌*ℤ◌, ◌<ℤ◌, ◌≤ℤ◌, unsigned_abs, List, [], ◌∷◌, length, take, drop, set, ◌++◌, get_or, map, All, FitsSigned, int_div, arith, refl, ap, sym, add-one, drop-cons, ◌∙◌, ap₂}
 use Rattle.std.specs.Int.{◌∣◌, IsGcd, w128}
 use Rattle.std.proofs.lemmas.Int.{ints}
 use Rattle.std.proofs.lemmas.Nat.Gcd.{dvd_refl, dvd-zero, dvd_trans}
 use Rattle.std.proofs.lemmas.List.Elements.{All-nil, All-cons, All-head, All-tail, All-weaker}
-use Rattle.std.proofs.Math.Nat.{div-mul_cancel, eq-zero_of_zero-dvd}
+use Rattle.std.proofs.Math.IntN.{*ℤ_comm}
+use Rattle.std.proofs.Math.Nat.{div-mul_cancel, eq-zero_of_zero-dvd, one-dvd}
 use Rattle.pc_num.specs.Divisor.{DividesRow, IsRowGcd}
 use Rattle.std.proofs.lemmas.Int.{quot_is, quot_fits, to_z-of_z}
 use Rattle.std.proofs.lemmas.List.{get_or_default}
@@ -43,9 +44,24 @@ drop_past (x ∷ row) (suc i) h = drop_past row i (omega arith)
 pub gcd_with_end : (d i : ℕ) (row : List ℤ) → length row ≤ i → IsGcdWith d (drop i row) d
 gcd_with_end d i row h = rw (drop_past row i h) (record { number = dvd_refl d; common = All-nil (λ (y : ℤ). d ∣ unsigned_abs y); greatest = λ e p q. p })
 
+-- no number makes a divisor of 1 less
+pub gcd_with_one : (row : List ℤ) → IsGcdWith 1 row 1
+gcd_with_one row = record { number = dvd_refl 1; common = λ i default lt. one-dvd _; greatest = λ e p q. p }
+
 divided_back : (x : ℤ) (g : ℕ) → g ∣ unsigned_abs x → int_div x (pos g) *ℤ pos g ≡ x
 divided_back (pos n) g h = ap pos (div-mul_cancel g h)
 divided_back (negsuc n) g h = rw (neg-*ℤ-pos (suc n / g) g, div-mul_cancel g h) refl
+
+divided_once : (x : ℤ) → int_div x (pos 1) ≡ x
+divided_once x =
+    let back = divided_back x 1 (one-dvd (unsigned_abs x)) in
+    let same = *ℤ_comm (int_div x (pos 1)) (pos 1) in
+    omega (arith, ints, back, same)
+
+-- what is divided by 1 stays
+pub row_divided_once : (row : List ℤ) (d : ℤ) → d ≡ pos 1 → row ≡ map (λ x. int_div x d) row
+row_divided_once [] d e = refl
+row_divided_once (x ∷ row) d e = ap₂ ◌∷◌ (sym (rw e (divided_once x))) (row_divided_once row d e)
 
 pub row_divided_back : (row : List ℤ) (g : ℕ) → DividesRow g row → map (λ x. x *ℤ pos g) (map (λ x. int_div x (pos g)) row) ≡ row
 row_divided_back [] g h = refl

@@ -1,8 +1,9 @@
 -- Signed numbers and their sizes.
-use Rattle.std.proofs.Common.{◌≡◌, ◌-ℤ◌, ℕ, zero, suc, ℤ, pos, negsuc, neg_ℤ, ◌<ℤ◌, ◌≤ℤ◌, true, false, unsigned_abs, to_z, of_z, arith, refl}
+use Rattle.std.proofs.Common.{◌≡◌, ◌-ℤ◌, ℕ, zero, suc, ℤ, pos, negsuc, neg_ℤ, ◌<ℤ◌, ◌≤ℤ◌, Bool, true, false, unsigned_abs, to_z, of_z, arith, refl}
 use Rattle.std.specs.Int.{IsGcd, w128}
 use Rattle.std.specs.Int.Signed.{lt_z}
 use Rattle.std.proofs.lemmas.Int.{ints, to_z-of_z, fits_signed_from_abs}
+use Rattle.pc_num.specs.Scaled.{signed}
 use Rattle.pc_num.specs.Signs.{Fits}
 
 -- a number as it is passed
@@ -11,6 +12,11 @@ as_passed z = to_z w128 (of_z w128 z)
 
 pub passed : (a : ℤ) → Fits a → to_z w128 (of_z w128 a) ≡ a
 passed a h = to_z-of_z w128 a (fits_signed_from_abs w128 a h)
+
+pub unsigned_abs-signed : (minus : Bool) (size : ℕ) → unsigned_abs (signed minus size) ≡ size
+unsigned_abs-signed true zero = refl
+unsigned_abs-signed true (suc size) = refl
+unsigned_abs-signed false size = refl
 
 pub gcd_of_sizes : (a b : ℤ) (m n g : ℕ) → m ≡ unsigned_abs (to_z w128 (of_z w128 a)) → n ≡ unsigned_abs (to_z w128 (of_z w128 b)) → Fits a → Fits b → IsGcd m n g → IsGcd (unsigned_abs a) (unsigned_abs b) g
 gcd_of_sizes a b m n g e f a_fits b_fits h = rw (← passed a a_fits, ← passed b b_fits, ← e, ← f) h

@@ -11,6 +11,7 @@ use Rattle.pc_num.specs.declared.scaled.NumFault.TheVariants.{NotANumber, TooMan
 use Rattle.pc_num.specs.Scaled.{are_digits, decimals_at, digits_len, greatest_size, has_decimals_past, number_after, padded, scaled_of, scaled_parts, scaled_size, scaled_unsigned, signed, starts_with_minus, without_sign}
 use Rattle.pc_num.specs.Spelling.{IsDigit, Spells, point_text}
 use Rattle.pc_num.proofs.Numbers.{number_after-append}
+use Rattle.pc_num.proofs.Signed.{unsigned_abs-signed}
 
 is_digit : (byte : ℕ) → is_ascii_digit byte ≡ true → IsDigit byte
 is_digit byte h =
@@ -91,11 +92,6 @@ scaled_value (suc k) n (digit ∷ digits) h =
     let later : number_after (10 * n + (digit - 48)) (padded k digits) * 10 ^ length digits ≡ number_after (10 * n + (digit - 48)) digits * 10 ^ k = scaled_value k (10 * n + (digit - 48)) digits h in
     rw (pow-suc 10 (length digits), pow-suc 10 k) (omega (arith, later))
 
-size-signed : (minus : Bool) (size : ℕ) → unsigned_abs (signed minus size) ≡ size
-size-signed true zero = refl
-size-signed true (suc size) = refl
-size-signed false size = refl
-
 size_read : (scale : ℕ) (minus : Bool) (whole decimals : List ℕ) (number : ℤ) → (if nat_lt greatest_size (scaled_size whole decimals scale) then Err PastLimit else Ok (signed minus (scaled_size whole decimals scale))) ≡ Ok number → number ≡ signed minus (scaled_size whole decimals scale)
 size_read scale minus whole decimals number h =
     elim (cases_Bool (nat_lt greatest_size (scaled_size whole decimals scale))) [
@@ -133,7 +129,7 @@ spells scale text number h =
     let read = unsigned_read scale minus unsigned number h in
     let parts = parts_read scale minus whole (decimals_at rest) number read.1 in
     let found = decimals_found rest parts.0 parts.1 in
-    let size : unsigned_abs number ≡ scaled_size whole parts.0 scale = ap unsigned_abs parts.3 ∙ size-signed minus (scaled_size whole parts.0 scale) in
+    let size : unsigned_abs number ≡ scaled_size whole parts.0 scale = ap unsigned_abs parts.3 ∙ unsigned_abs-signed minus (scaled_size whole parts.0 scale) in
     record {
       whole = whole;
       decimals = parts.0;

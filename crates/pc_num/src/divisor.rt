@@ -26,23 +26,32 @@ pub fn primitive(row: &mut [i128])
     }
 }
 
-// The greatest common divisor of a row.
-fn row_divisor(row: &[i128]) -> i128
+/// The greatest common divisor of a row. It is at least 0, and that of a row of zeros is 0.
+pub fn row_divisor(row: &[i128]) -> i128
     requires { All Fits row.now }
     ensures common { IsRowGcd row.now (unsigned_abs result) }
     ensures sign { pos 0 ≤ℤ result }
+    ensures fits { Fits result }
 {
     let mut divisor: i128 = 0;
     for entry in row {
         divisor = gcd(divisor, *entry);
+        // No number that follows makes it less.
+        if divisor == 1 {
+            return 1;
+        }
     }
     divisor
 }
 
-fn divide(row: &mut [i128], divisor: i128)
+/// Divides each number of a row.
+pub fn divide(row: &mut [i128], divisor: i128)
     requires { pos 0 <ℤ divisor }
     ensures { row.new ≡ map (λ x. int_div x divisor) row.old }
 {
+    if divisor == 1 {
+        return;
+    }
     for entry in row.iter_mut() {
         *entry /= divisor;
     }

@@ -1,11 +1,13 @@
 ghost use Rattle.std.specs.Prelude.{◌≡◌, ◌*◌, ◌/◌, ◌<◌, ◌≤◌, ◌^◌, ◌≢◌, ◌↔◌, ℕ, ℤ, pos, ◌+ℤ◌, ◌-ℤ◌, ◌*ℤ◌, ◌<ℤ◌, ◌≤ℤ◌, unsigned_abs, IfSome, IsSome, SomeIff, None};
 ghost use Rattle.std.specs.Int.{IsGcd};
-ghost use Rattle.std.specs.Ordering.{int_cmp, nat_cmp};
+ghost use Rattle.std.specs.Ordering.{int_cmp};
 ghost use Rattle.pc_num.specs.Signs.{Fits, differ};
 ghost use Rattle.pc_num.specs.Scaled.{signed};
 ghost use Rattle.pc_num.specs.Fractions.{AllFit, DifferenceFits, IsFrac, IsQuotient, IsReducedOf, SumFits};
 
 use crate::divisor::common_divisor;
+use crate::fit::{fit_add, fit_mul};
+use crate::order::compare_fractions;
 use std::cmp::Ordering;
 
 // The greatest size of a number that fits.
@@ -30,20 +32,13 @@ impl Frac {
         made(differ(n, d), num, den)
     }
 
-    /// Compares two fractions by whole parts and remainders: a product of their numbers might not fit.
+    /// Compares two fractions.
     pub fn cmp(&self, other: &Frac) -> Ordering
         requires own { IsFrac self.now }
         requires others { IsFrac other.now }
         ensures { result ≡ int_cmp (self.now.num *ℤ other.now.den) (other.now.num *ℤ self.now.den) }
     {
-        let (a, b) = (self.num.unsigned_abs(), self.den.unsigned_abs());
-        let (c, d) = (other.num.unsigned_abs(), other.den.unsigned_abs());
-        match (self.num < 0, other.num < 0) {
-            (false, false) => compare(a, b, c, d),
-            (false, true) => Ordering::Greater,
-            (true, false) => Ordering::Less,
-            (true, true) => compare(c, d, a, b),
-        }
+        compare_fractions(self.num, self.den, other.num, other.den)
     }
 
     /// The sum. With g the greatest common divisor of the denominators b and d of a/b and c/d, it is `None` where one of
@@ -109,31 +104,6 @@ impl Frac {
     }
 }
 
-// Compares a / b with c / d.
-fn compare(mut a: u128, mut b: u128, mut c: u128, mut d: u128) -> Ordering
-    requires b_above { 0 < b }
-    requires d_above { 0 < d }
-    ensures { result ≡ nat_cmp (a * d) (c * b) }
-{
-    loop {
-        let whole = a / b;
-        let others = c / d;
-        if whole != others {
-            return whole.cmp(&others);
-        }
-        let rest = a % b;
-        let rest_of_others = c % d;
-        if rest == 0 || rest_of_others == 0 {
-            return rest.cmp(&rest_of_others);
-        }
-        // The rests are below 1, and compare as their inverses do in the other order.
-        a = d;
-        c = b;
-        b = rest_of_others;
-        d = rest;
-    }
-}
-
 // The sizes of a fraction in lowest terms.
 fn lowest(top: u128, bottom: u128) -> (u128, u128)
     requires { 0 < bottom }
@@ -182,24 +152,6 @@ fn with_sign(minus: bool, size: u128) -> i128
     if minus { -number } else { number }
 }
 
-fn product(a: i128, b: i128) -> Option<i128>
-    ensures { SomeIff result (Fits (a *ℤ b)) (a *ℤ b) }
-{
-    match a.checked_mul(b) {
-        Some(product) if product != i128::MIN => Some(product),
-        _ => None,
-    }
-}
-
-fn total(a: i128, b: i128) -> Option<i128>
-    ensures { SomeIff result (Fits (a +ℤ b)) (a +ℤ b) }
-{
-    match a.checked_add(b) {
-        Some(total) if total != i128::MIN => Some(total),
-        _ => None,
-    }
-}
-
 // What a denominator does not have in common with another.
 fn share(den: i128, common: u128) -> i128
     requires den_fits { Fits den }
@@ -213,10 +165,10 @@ fn share(den: i128, common: u128) -> i128
 fn sum_over(a: i128, c: i128, own: i128, others: i128, den: i128) -> Option<(i128, i128)>
     ensures { SomeIff result (AllFit (a *ℤ others) (c *ℤ own) ((a *ℤ others) +ℤ (c *ℤ own)) (own *ℤ den)) ((a *ℤ others) +ℤ (c *ℤ own), own *ℤ den) }
 {
-    let left = product(a, others)?;
-    let right = product(c, own)?;
-    let total = total(left, right)?;
-    let bottom = product(own, den)?;
+    let left = fit_mul(a, others)?;
+    let right = fit_mul(c, own)?;
+    let total = fit_add(left, right)?;
+    let bottom = fit_mul(own, den)?;
     Some((total, bottom))
 }
 

@@ -2,13 +2,17 @@
 #![tactic(auto)]
 
 mod divisor;
+mod fit;
 mod fraction;
 mod memory;
+mod order;
 mod put;
 mod scaled;
 
-pub use divisor::{gcd, primitive};
+pub use divisor::{divide, gcd, primitive, row_divisor};
+pub use fit::{are_fit, fit_add, fit_mul, fit_sub};
 pub use fraction::Frac;
 pub use memory::Memory;
+pub use order::compare_fractions;
 pub use put::{put_frac, put_scaled, reads_back};
-pub use scaled::{NumFault, read_scaled};
+pub use scaled::{NumFault, digits_len, read_scaled};

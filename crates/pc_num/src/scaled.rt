@@ -86,9 +86,9 @@ fn without_sign(text: &[u8]) -> &[u8]
     }
 }
 
-// How many digits a text begins with.
+/// How many digits a text begins with.
 #[tactic(auto, unfolding(crate::specs::Scaled::digits_len))]
-fn digits_len(text: &[u8]) -> usize
+pub fn digits_len(text: &[u8]) -> usize
     ensures exact { result ≡ digits_len text.now }
     ensures within { result ≤ length text.now }
 {

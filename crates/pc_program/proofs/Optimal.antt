@@ -7,12 +7,11 @@ use Rattle.pc_bound.specs.declared.program.Program.{Program}
 use Rattle.pc_bound.specs.Sums.{sum_below, nat_at, int_at}
 use Rattle.pc_bound.specs.Allocation.{cells_of, constraints_of, total, worth, IsProgram, IsAllocation}
 use Rattle.pc_bound.specs.Bound.{part_of, rest_of, constraint_share, cell_share, raw_bound, bound_of, IsMultiplier}
-use Rattle.pc_bound.proofs.SumBelow.{sum_below-same}
+use Rattle.pc_bound.proofs.SumBelow.{sum_below-same, sum_below-one}
 use Rattle.pc_program.specs.declared.solving.Solved.TheVariants.{Best}
 use Rattle.pc_program.specs.Solved.{IsSolved}
 use Rattle.pc_program.specs.Settled.{is_in, HasOneBits, AreSettled}
 use Rattle.pc_program.proofs.AllSettled.{out_of_other}
-use Rattle.pc_program.proofs.Spikes.{sum_below-spike}
 use Rattle.pc_program.proofs.Void.{mult_of, IsVoid-short}
 use Rattle.pc_program.proofs.Widths.{fits-small}
 use Rattle.pc_bound.proofs.Duality.{worth-shared}
@@ -47,7 +46,7 @@ module _ (p : Program) (counts : List ℕ) (multipliers : List ℤ) (one_bits : 
       → rest_of p (mult_of multipliers) i ≡ int_at p.gain i -ℤ int_at multipliers k
   rest-settled i k here there member =
       let given : sum_below (constraints_of p) (part_of p (mult_of multipliers) i) ≡ int_at multipliers k =
-      sum_below-spike (constraints_of p) (part_of p (mult_of multipliers) i) k there
+      sum_below-one (constraints_of p) k (part_of p (mult_of multipliers) i) there
       (λ j below apart. ap (λ t. cond t (int_at multipliers j) (pos 0)) (out_of_other p i j k one_bits here apart member))
       ∙ ap (λ t. cond t (int_at multipliers k) (pos 0)) member in
       let whole : pos 1 *ℤ int_at p.gain i ≡ int_at p.gain i = omega (arith, ints) in

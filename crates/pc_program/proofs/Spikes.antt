@@ -1,4 +1,4 @@
--- Sums of which all items but one or two are 0, and the totals of constraints with so few cells.
+-- Sums of which all items but two are 0, and the totals of constraints with so few cells.
 use Rattle.std.proofs.Common.{◌≡◌, ◌≢◌, ℕ, zero, suc, ◌+◌, ◌<◌, inl, inr, true, false, cond, List, ap, ◌∙◌, arith}
 use Rattle.std.specs.Prelude.{ℤ, pos, ◌+ℤ◌}
 use Rattle.std.proofs.lemmas.Int.{ints}
@@ -6,30 +6,14 @@ use Rattle.std.proofs.lemmas.Bool.{cases_eq}
 use Rattle.pc_bound.specs.declared.program.Program.{Program}
 use Rattle.pc_bound.specs.Sums.{sum_below, nat_at}
 use Rattle.pc_bound.specs.Allocation.{cells_of, count_for, total}
-use Rattle.pc_bound.proofs.SumBelow.{sum_below-suc, sum_below-same, sum_below-zeros}
+use Rattle.pc_bound.proofs.SumBelow.{sum_below-none, sum_below-one, sum_below-suc}
 use Rattle.pc_program.specs.Settled.{is_in}
-
-pub sum_below-none : (n : ℕ) (f : ℕ → ℤ) → ((i : ℕ) → i < n → f i ≡ pos 0) → sum_below n f ≡ pos 0
-sum_below-none n f zeros = sum_below-same n f (λ i. pos 0) zeros ∙ sum_below-zeros n
-
-pub sum_below-spike : (n : ℕ) (f : ℕ → ℤ) (a : ℕ) → a < n → ((i : ℕ) → i < n → i ≢ a → f i ≡ pos 0) → sum_below n f ≡ f a
-sum_below-spike zero f a below zeros = absurd (omega arith)
-sum_below-spike (suc n) f a below zeros = elim (cases_eq n a) [
-  | inl e ↦
-      let none = sum_below-none n f (λ i h. zeros i (omega arith) (λ same. omega arith)) in
-      let last : f n ≡ f a = ap f e in
-      omega (arith, ints, sum_below-suc n f, none, last)
-  | inr other ↦
-      let before = sum_below-spike n f a (omega arith) (λ i h apart. zeros i (omega arith) apart) in
-      let last = zeros n (omega arith) other in
-      omega (arith, ints, sum_below-suc n f, before, last)
-]
 
 pub sum_below-two : (n : ℕ) (f : ℕ → ℤ) (a b : ℕ) → a < b → b < n → ((i : ℕ) → i < n → i ≢ a → i ≢ b → f i ≡ pos 0) → sum_below n f ≡ f a +ℤ f b
 sum_below-two zero f a b order below zeros = absurd (omega arith)
 sum_below-two (suc n) f a b order below zeros = elim (cases_eq n b) [
   | inl e ↦
-      let one = sum_below-spike n f a (omega arith) (λ i h apart. zeros i (omega arith) apart (λ same. omega arith)) in
+      let one = sum_below-one n a f (omega arith) (λ i h apart. zeros i (omega arith) apart (λ same. omega arith)) in
       let last : f n ≡ f b = ap f e in
       omega (arith, ints, sum_below-suc n f, one, last)
   | inr other ↦
@@ -51,7 +35,7 @@ total-none p counts k out = sum_below-none (cells_of p) (count_for p counts k) (
 pub total-one : (p : Program) (counts : List ℕ) (k a : ℕ) → a < cells_of p → is_in p a k ≡ true
     → ((i : ℕ) → i < cells_of p → i ≢ a → is_in p i k ≡ false) → total p counts k ≡ pos (nat_at counts a)
 total-one p counts k a there member out =
-    sum_below-spike (cells_of p) (count_for p counts k) a there (λ i h apart. count-out p counts k i (out i h apart)) ∙ count-in p counts k a member
+    sum_below-one (cells_of p) a (count_for p counts k) there (λ i h apart. count-out p counts k i (out i h apart)) ∙ count-in p counts k a member
 
 pub total-two : (p : Program) (counts : List ℕ) (k a b : ℕ) → a < b → b < cells_of p → is_in p a k ≡ true → is_in p b k ≡ true
     → ((i : ℕ) → i < cells_of p → i ≢ a → i ≢ b → is_in p i k ≡ false) → total p counts k ≡ pos (nat_at counts a + nat_at counts b)

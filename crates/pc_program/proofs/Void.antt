@@ -10,9 +10,8 @@ use Rattle.pc_bound.specs.declared.program.Program.{Program}
 use Rattle.pc_bound.specs.Sums.{sum_below, nat_at, int_at}
 use Rattle.pc_bound.specs.Allocation.{cells_of, constraints_of, count_for, total, IsProgram}
 use Rattle.pc_bound.specs.Bound.{part_of, rest_of, constraint_share, cell_share, raw_bound, without_gain, IsVoid}
-use Rattle.pc_bound.proofs.SumBelow.{sum_below-same}
+use Rattle.pc_bound.proofs.SumBelow.{none_chosen, sum_below-same, sum_below-one}
 use Rattle.pc_program.specs.Settled.{is_in, HasOneBits, IsShort}
-use Rattle.pc_program.proofs.Spikes.{sum_below-spike}
 use Rattle.pc_program.proofs.Widths.{fits-small}
 
 -- -1 for one constraint, and 0 for the others
@@ -49,10 +48,6 @@ most-left : (test : Bool) (floor cap : ℕ) → floor ≤ cap
 most-left true floor cap ordered = omega (arith, ints, clamps)
 most-left false floor cap ordered = omega (arith, ints, clamps)
 
-nothing : (test : Bool) (by : ℤ) → by ≡ pos 0 → cond test by (pos 0) ≡ pos 0
-nothing true by e = e
-nothing false by e = refl
-
 module _ (p : Program) (place : ℕ) (program : IsProgram p) (there : place < constraints_of p) where
   abbrev mult : Mult
   mult = mult_of (minus_one place (constraints_of p))
@@ -60,8 +55,8 @@ module _ (p : Program) (place : ℕ) (program : IsProgram p) (there : place < co
   rest-short : (i : ℕ) → i < cells_of p → rest_of (without_gain p) mult i ≡ cond (is_in p i place) (pos 1) (pos 0)
   rest-short i h =
       let given : sum_below (constraints_of p) (part_of (without_gain p) mult i) ≡ cond (is_in p i place) (negsuc 0) (pos 0) =
-      sum_below-spike (constraints_of p) (part_of (without_gain p) mult i) place there
-      (λ j below apart. nothing (is_in p i j) (int_at mult.by j) (minus_one-other place (constraints_of p) j below apart))
+      sum_below-one (constraints_of p) place (part_of (without_gain p) mult i) there
+      (λ j below apart. none_chosen (is_in p i j) (int_at mult.by j) (minus_one-other place (constraints_of p) j below apart))
       ∙ ap (λ x. cond (is_in p i place) x (pos 0)) (minus_one-here place (constraints_of p) there) in
       let gain : int_at (without_gain p).gain i ≡ pos 0 = get_or-replicate (cells_of p) i (pos 0) (pos 0) h in
       ap (λ g. pos 1 *ℤ g -ℤ sum_below (constraints_of p) (part_of (without_gain p) mult i)) gain
@@ -79,7 +74,7 @@ module _ (p : Program) (place : ℕ) (program : IsProgram p) (there : place < co
   raw-short : raw_bound (without_gain p) p.floor p.cap mult ≡ neg_ℤ (pos (nat_at p.least place)) +ℤ total p p.cap place
   raw-short =
       let constraints : sum_below (constraints_of p) (constraint_share (without_gain p) mult) ≡ neg_ℤ (pos (nat_at p.least place)) =
-      sum_below-spike (constraints_of p) (constraint_share (without_gain p) mult) place there
+      sum_below-one (constraints_of p) place (constraint_share (without_gain p) mult) there
       (λ j below apart. share-zero (int_at mult.by j) (nat_at p.least j) (nat_at p.most j) (minus_one-other place (constraints_of p) j below apart))
       ∙ share-one (int_at mult.by place) (nat_at p.least place) (nat_at p.most place) (minus_one-here place (constraints_of p) there) in
       let cells : sum_below (cells_of p) (cell_share (without_gain p) p.floor p.cap mult) ≡ total p p.cap place =

@@ -6,6 +6,7 @@ ghost use Rattle.pc_program.specs.Settled.{HasOneBits, IsFirstFrom, HasNoneFrom}
 ghost use Rattle.pc_program.specs.Conditions.{IsFirstBit, HasNoBitFrom, HasOneBit, HasAtMostTwo};
 
 use pc_bound::Program;
+use pc_model::has_bit;
 
 /// Whether there are at most 40 cells, each in one constraint, with a floor of 0 and a gain of fewer than 88 bits,
 /// and at most two to a constraint.
@@ -60,7 +61,7 @@ fn first_bit(mask: u32, from: usize) -> Option<usize>
     ensures few { MatchOption result ⊤ (λ k. k < 32) }
 {
     for place in from..32 {
-        if has_bit(mask, place) {
+        if has_bit(u128::from(mask), place) {
             return Some(place);
         }
     }
@@ -131,16 +132,9 @@ fn first_from(p: &Program, constraint: usize, from: usize) -> Option<usize>
 {
     let masks = p.masks.as_slice();
     for cell in from..masks.len() {
-        if has_bit(masks[cell], constraint) {
+        if has_bit(u128::from(masks[cell]), constraint) {
             return Some(cell);
         }
     }
     None
-}
-
-fn has_bit(mask: u32, place: usize) -> bool
-    requires few { place < 32 }
-    ensures { result ≡ has_bit mask place }
-{
-    (mask >> place as u32) & 1 == 1
 }

@@ -23,9 +23,9 @@ use Rattle.pc_model.specs.Regions.{is_side_of, is_region_of}
 use Rattle.pc_model.specs.CutTrees.{side_at, first_side, first_part}
 use Rattle.pc_model.specs.Right.{Question}
 use Rattle.pc_model.proofs.Between.{between_parts, between_from}
-use Rattle.pc_box.proofs.Bools.{same_tests}
+use Rattle.pc_model.proofs.Bools.{same_tests}
 use Rattle.pc_box.proofs.CutRows.{held_set}
-use Rattle.pc_box.proofs.Places.{shared_place}
+use Rattle.pc_model.proofs.SharedPlaces.{shared_place}
 use Rattle.pc_proof.specs.Setting.{narrowed, region_of}
 use Rattle.pc_proof.specs.Unbroken.{IsWellPosed}
 use Rattle.pc_proof.proofs.Seen.{keeps}

@@ -10,7 +10,7 @@ use Rattle.pc_model.specs.declared.query.Folded.{Folded}
 use Rattle.pc_model.specs.Aggregate.{is_in_group, kept, number_at}
 use Rattle.pc_model.specs.Membership.{has}
 use Rattle.pc_model.specs.Folds.{sum_at, best_at, better, IsFold}
-use Rattle.pc_model.proofs.Folds.{int_sum-push, reduce-push}
+use Rattle.pc_model.proofs.Folds.{any_group, fold_empty, fold_same, int_sum-push, reduce-push}
 use Rattle.pc_rows.specs.Folds.{sum_with, best_with, IsWithRow, IsSmall}
 use Rattle.pc_rows.specs.Stored.{row_at}
 use Rattle.pc_model.specs.Membership.{row_from as row}
@@ -33,34 +33,17 @@ best_at-push pick (Some column) rows extra =
     let at = λ (found : Row). number_at found column in
     rw (map-append at rows (extra ∷ [])) (reduce-push pick (map at rows) (at extra))
 
-any_group : (group : Option ℕ) (extra : Row) → is_in_group group None extra ≡ true
-any_group None extra = refl
-any_group (Some column) extra = refl
-
 kept_yes : (query : Query) (rows : List Row) (extra : Row) → has query.chosen extra ≡ true → kept query None (rows ++ extra ∷ []) ≡ kept query None rows ++ extra ∷ []
 kept_yes query rows extra chosen = filter-append (λ (found : Row). has query.chosen found && is_in_group query.group None found) rows (extra ∷ []) ∙ rw (chosen, any_group query.group extra) refl
 
 kept_no : (query : Query) (rows : List Row) (extra : Row) → has query.chosen extra ≡ false → kept query None (rows ++ extra ∷ []) ≡ kept query None rows
 kept_no query rows extra other = filter-append (λ (found : Row). has query.chosen found && is_in_group query.group None found) rows (extra ∷ []) ∙ rw other (append-nil (kept query None rows))
 
-no_sum : (column : Option ℕ) → sum_at column [] ≡ pos 0
-no_sum None = refl
-no_sum (Some column) = refl
-
-no_best : (pick : ℤ → ℤ → ℤ) (column : Option ℕ) → best_at pick column [] ≡ None
-no_best pick None = refl
-no_best pick (Some column) = refl
-
 pub fold_none : (query : Query) (rows : List Row) → IsFoldedTo query rows 0 (record { count = 0; sum = pos 0; least = None; greatest = None })
 fold_none query rows = record {
   few = omega arith;
   small = record { above = omega (arith, ints); below = omega (arith, ints) };
-  before = record {
-    count = refl;
-    sum = sym (no_sum query.column);
-    least = sym (no_best int_min query.column);
-    greatest = sym (no_best int_max query.column);
-  };
+  before = fold_empty query;
 }
 
 pub fold_yes : (query : Query) (rows : List Row) (place : ℕ) (folded more : Folded) → place < length rows → IsFoldedTo query rows place folded → has query.chosen (row_at rows place) ≡ true → IsWithRow query.column folded (row_at rows place) more → IsSmall more → IsFoldedTo query rows (place + 1) more
@@ -83,18 +66,12 @@ fold_yes query rows place folded more below folded_to chosen with small =
 
 pub fold_no : (query : Query) (rows : List Row) (place : ℕ) (folded : Folded) → place < length rows → IsFoldedTo query rows place folded → has query.chosen (row_at rows place) ≡ false → IsFoldedTo query rows (place + 1) folded
 fold_no query rows place folded below folded_to other =
-    let before = folded_to.before in
     let same : kept query None (take (place + 1) rows) ≡ kept query None (take place rows) =
     ap (kept query None) (take_more rows place (row []) below) ∙ kept_no query (take place rows) (row_at rows place) other in
     record {
       few = omega (arith, folded_to.few);
       small = folded_to.small;
-      before = record {
-        count = rw same before.count;
-        sum = rw same before.sum;
-        least = rw same before.least;
-        greatest = rw same before.greatest;
-      };
+      before = fold_same query (take place rows) (take (place + 1) rows) folded same folded_to.before;
     }
 
 pub fold_all : (query : Query) (rows : List Row) (place : ℕ) (folded : Folded) → length rows ≤ place → IsFoldedTo query rows place folded → IsFold query rows folded

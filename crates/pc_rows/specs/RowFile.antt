@@ -17,11 +17,8 @@ use Rattle.pc_model.specs.Numbers.{number_of}
 use Rattle.pc_model.specs.Refusals.{◌>>=◌, fault_at, placed}
 use Rattle.pc_model.specs.Texts.{text_of}
 use Rattle.pc_model.specs.Membership.{row_from as row}
+use Rattle.pc_table.specs.Fields.{field}
 use Rattle.pc_rows.specs.Stored.{row_limit}
-
--- the field at a place, or no bytes where it is missing
-abbrev pub field : List (List ℕ) → ℕ → List ℕ
-field fields place = get_or fields place []
 
 -- a text without the spaces before it
 unfoldable pub after_spaces : List ℕ → List ℕ

@@ -17,7 +17,8 @@ use Rattle.pc_model.specs.declared.schema.Kind.TheVariants.{Int, Dec, Cat}
 use Rattle.pc_model.specs.declared.schema.Column.{Column}
 use Rattle.pc_model.specs.Texts.{IsName}
 use Rattle.pc_model.specs.WellFormed.{AreColumns, AreNames, HasFewNames, HaveFewNames, IsColumn, IsKind}
-use Rattle.pc_schema.specs.SchemaFile.{field, name_of, names_from, is_taken, LackName}
+use Rattle.pc_table.specs.Fields.{field}
+use Rattle.pc_schema.specs.SchemaFile.{name_of, names_from, is_taken, LackName}
 
 -- what the field at a place is among the names before
 abbrev pub name_at : List (List ℕ) → List (List ℕ) → ℕ → Result (List ℕ) Reason

@@ -12,20 +12,16 @@ use Rattle.std.proofs.lemmas.List.Folds.{list_any_none}
 use Rattle.std.proofs.Math.Seq.{get_or-append_seam}
 use Rattle.std.proofs.lemmas.Slice.Eq.{bytes_eq-Decides}
 use Rattle.pc_num.specs.Put.{scaled_text}
-use Rattle.pc_num.proofs.ReadBack.{reads_back}
 use Rattle.pc_model.specs.declared.schema.Kind.{Kind}
 use Rattle.pc_model.specs.declared.schema.Kind.TheVariants.{Int, Dec, Cat}
 use Rattle.pc_model.specs.declared.schema.Column.{Column}
 use Rattle.pc_model.specs.declared.schema.Schema.{Schema}
-use Rattle.pc_model.specs.Numbers.{number_of}
 use Rattle.pc_model.specs.Texts.{IsName}
 use Rattle.pc_model.specs.WellFormed.{AreColumns, AreNames, AreValues, IsColumn, IsKind, IsSmall, IsSpan}
 use Rattle.pc_model.proofs.Names.{is_name_of}
+use Rattle.pc_model.proofs.NumberTexts.{number_again}
 use Rattle.pc_schema.specs.Plain.{SpellsPlainly, column_fields, kind_fields}
 use Rattle.pc_schema.specs.SchemaFile.{cat_of, column_at, column_of, columns_from, dec_of, int_of, is_taken, kind_of, name_of, names_from, scale_of, schema_from, schema_of, span_of}
-
-number_again : (scale : ℕ) (number : ℤ) → IsSmall number → number_of scale (scaled_text number scale) ≡ Ok number
-number_again scale number small = rw (reads_back number scale small) refl
 
 ordered : (low high : ℤ) → low ≤ℤ high → int_lt high low ≡ false
 ordered low high le = by_test (int_lt high low) refl

@@ -1,5 +1,5 @@
 -- Which schema a file spells, or its first fault.
-use Rattle.std.specs.Prelude.{◌≢◌, ℕ, ◌+◌, ◌==◌, not, ℤ, int_lt, unsigned_abs, Bool, List, [], ◌∷◌, ◌++◌, length, drop, All, get_or, codes, Result, Ok, Err, nat_le, nat_lt, if◌then◌else◌}
+use Rattle.std.specs.Prelude.{◌≢◌, ℕ, ◌+◌, ◌==◌, not, ℤ, int_lt, unsigned_abs, Bool, List, [], ◌∷◌, ◌++◌, length, drop, All, codes, Result, Ok, Err, nat_le, nat_lt, if◌then◌else◌}
 use Rattle.std.specs.Char.{is_ascii_digit}
 use Rattle.std.specs.List.{list_all, list_any}
 use Rattle.std.specs.Str.{bytes_eq}
@@ -15,10 +15,7 @@ use Rattle.pc_model.specs.declared.schema.Schema.{Schema}
 use Rattle.pc_model.specs.Numbers.{number_of}
 use Rattle.pc_model.specs.Refusals.{◌>>=◌, fault_at, placed}
 use Rattle.pc_model.specs.Texts.{is_name, text_of}
-
--- the field at a place, or no bytes where it is missing
-abbrev pub field : List (List ℕ) → ℕ → List ℕ
-field fields place = get_or fields place []
+use Rattle.pc_table.specs.Fields.{field}
 
 -- a name, unless it is taken already
 unfoldable pub name_of : Bool → List ℕ → Result (List ℕ) Reason

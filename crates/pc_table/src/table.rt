@@ -1,6 +1,7 @@
-ghost use Rattle.std.specs.Prelude.{◌≡◌, ◌∷◌, [], get_or, false, true, IfOk, OnErr};
+ghost use Rattle.std.specs.Prelude.{◌≡◌, ◌∷◌, [], false, true, IfOk, OnErr};
 ghost use Rattle.csv.specs.Reading.{default_config, records, strip_bom};
 ghost use Rattle.csv.specs.Records.{fields_of};
+ghost use Rattle.pc_table.specs.Fields.{field};
 
 use csv::{ByteRecord, ErrorKind, Reader, ReaderBuilder};
 use pc_num::Memory;
@@ -61,7 +62,7 @@ impl<'a> Table<'a> {
 /// The field at a place of a record, which is empty past its last field.
 #[tactic(auto, using(crate::proofs::Records::field_found, crate::proofs::Records::field_missing))]
 pub fn field(row: &ByteRecord, place: usize) -> &[u8]
-    ensures { result.now ≡ get_or (fields_of row.now) place [] }
+    ensures { result.now ≡ field (fields_of row.now) place }
 {
     match row.get(place) {
         Some(bytes) => bytes,

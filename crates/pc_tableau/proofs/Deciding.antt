@@ -1,6 +1,7 @@
 -- The column that enters, and the limit that decides.
 use Rattle.std.proofs.Common.{◌≡◌, ◌≤◌, ◌<◌, ◌+◌, ◌-◌, ◌&&◌, not, pos, ℕ, zero, suc, Bool, true, false, cond, length, drop, Option, Some, None, arith, refl, ap, ap₂, sym, ◌∙◌, add-one}
 use Rattle.std.specs.List.{list_all}
+use Rattle.std.proofs.lemmas.Bool.{and_parts}
 use Rattle.std.proofs.lemmas.List.{at_drop_more, at_drop_all}
 use Rattle.std.specs.Prelude.{int_lt}
 use Rattle.pc_bound.specs.Sums.{int_at}
@@ -44,10 +45,6 @@ module _ (test : ℕ → Bool) where
       let here : first_below (suc k) test ≡ Some k = rw (first-suc k, none, ← passes) refl in
       let upto : (n - suc k) + suc k ≡ n = omega arith in
       sym (rw upto at (found_further (n - suc k) (suc k) k here))
-
-both-first : (a b : Bool) → (a && b) ≡ true → a ≡ true
-both-first true b e = refl
-both-first false b e = absurd cc
 
 -- whether a column may enter
 abbrev pub may_enter : Tableau → ℕ → Bool
@@ -108,7 +105,7 @@ module _ (f : Columns) (c : ℕ) (t : Tableau) where
     }
 
     pub least_stops : (does_limit_fit f c row ≡ true → ⊥) → list_all (does_limit_fit f c) t.rows ≡ true → ⊥
-    least_stops unfit all = unfit (both-first (does_limit_fit f c row) (list_all (does_limit_fit f c) (drop (n + 1) t.rows)) (sym decides_more ∙ all))
+    least_stops unfit all = unfit (and_parts (does_limit_fit f c row) (list_all (does_limit_fit f c) (drop (n + 1) t.rows)) (sym decides_more ∙ all)).0
 
   pub least_end : (best : Limit) (n : ℕ) → length t.rows ≤ n → n ≤ length t.rows → IsLeastTo f c t best n →
       (list_all (does_limit_fit f c) t.rows ≡ true) × (best ≡ least_limit f c t (length t.rows))

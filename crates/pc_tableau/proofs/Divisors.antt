@@ -44,7 +44,7 @@ divided_number (negsuc n) g =
     let e : negsuc n *ℤ pos (suc g) ≡ negsuc (n * suc g + g) = omega (arith, ints) in
     rw e (ap negsuc (div-mul-add n (suc g) g (omega arith)))
 
-divided_row : (row : List ℤ) (g : ℕ) → map (λ a. int_div_euclid a (pos (suc g))) (map (λ x. x *ℤ pos (suc g)) row) ≡ row
+pub divided_row : (row : List ℤ) (g : ℕ) → map (λ a. int_div_euclid a (pos (suc g))) (map (λ x. x *ℤ pos (suc g)) row) ≡ row
 divided_row [] g = refl
 divided_row (x ∷ row) g = ap₂ ◌∷◌ (divided_number x g) (divided_row row g)
 

@@ -11,7 +11,8 @@ use Rattle.pc_bound.specs.Sums.{nat_at, int_at}
 use Rattle.pc_bound.specs.Allocation.{cells_of, constraints_of, IsBox, IsProgram}
 use Rattle.pc_tableau.specs.Tableau.{TableauRow, Tableau, Columns, row_at, no_row, is_turned, end_of, is_basic, entering, range_of}
 use Rattle.pc_tableau.specs.Relaxation.{slack_of, multiplier, IsFrame}
-use Rattle.pc_tableau.specs.Standing.{basic_at, IsSized, IsSolved, IsFeasible, plain, place}
+use Rattle.pc_tableau.specs.Conditions.{IsSized}
+use Rattle.pc_tableau.specs.Standing.{basic_at, IsSolved, IsFeasible, plain, place}
 use Rattle.pc_tableau.proofs.Products.{mul-zero, zero-mul}
 use Rattle.pc_tableau.proofs.Entering.{range_is}
 use Rattle.pc_tableau.proofs.Turned.{end_is}
@@ -74,6 +75,9 @@ module _ (p : Program) (floors caps : List ℕ) (f : Columns) (t : Tableau) (pro
     at-high k u lt range = subst (λ n. at k ≤ℤ (pos d *ℤ pos n)) (end_is f k u range)
         (placed-high (is_turned t k) (z k) (z f.count) d (end_of f k) point.whole (number-low f t d z solved feasible point k lt)
         (subst (λ n. z k ≤ℤ (pos d *ℤ pos n)) (sym (end_is f k u range)) (number-high f t d z solved feasible point k u lt range)))
+
+    pub cell-end : (i : ℕ) → i < cells_of p → end_of f i ≡ nat_at caps i - nat_at floors i
+    cell-end i lt = end_at i (ranged i lt) ∙ frame.cells i lt
 
     cell_range : (i : ℕ) → i < cells_of p → range_of f i ≡ Some (nat_at caps i - nat_at floors i)
     cell_range i lt = range_is f i (ranged i lt) ∙ ap Some (frame.cells i lt)

@@ -1,16 +1,12 @@
 -- The column that enters is neither a helper nor basic.
 use Rattle.std.proofs.Common.{◌≡◌, ℕ, zero, suc, ◌<◌, Bool, true, false, cond, not, ◌&&◌, length, refl, ap, sym, subst, ◌∙◌, arith, Option, Some, None, true≢false, ◌==◌}
 use Rattle.std.specs.Prelude.{pos, int_lt}
-use Rattle.std.proofs.lemmas.Bool.{eq-eqb, lt-leb}
+use Rattle.std.proofs.lemmas.Bool.{and_parts, eq-eqb, lt-leb}
 use Rattle.std.proofs.lemmas.List.Folds.{list_all_at}
 use Rattle.pc_bound.specs.Sums.{nat_at, int_at}
 use Rattle.pc_tableau.specs.Numbers.{first_below}
 use Rattle.pc_tableau.specs.Tableau.{TableauRow, Tableau, Columns, no_row, is_helper, range_of, is_basic, entering}
 use Rattle.pc_tableau.specs.Standing.{basic_at}
-
-and_first : (p q : Bool) → (p && q) ≡ true → p ≡ true
-and_first true q h = refl
-and_first false q h = h
 
 pub first_below-some : (n : ℕ) (test : ℕ → Bool) (k : ℕ) → first_below n test ≡ Some k → (k < n) × (test k ≡ true)
 unfolding first_below
@@ -34,7 +30,7 @@ pub record IsEntering (f : Columns) (t : Tableau) (c : ℕ) : Type 0 where
 pub IsEntering-entering : (f : Columns) (t : Tableau) (c : ℕ) → entering f t ≡ Some c → IsEntering f t c
 IsEntering-entering f t c e =
     let found = first_below-some (length f.ranges) (λ k. not (is_basic t k) && int_lt (pos 0) (int_at t.aim k)) c e in
-    record { ranged = found.0; free = λ i lt same. basic i lt same (and_first (not (is_basic t c)) (int_lt (pos 0) (int_at t.aim c)) found.1) }
+    record { ranged = found.0; free = λ i lt same. basic i lt same (and_parts (not (is_basic t c)) (int_lt (pos 0) (int_at t.aim c)) found.1).0 }
   where
     basic : (i : ℕ) → i < length t.rows → basic_at t i ≡ c → not (is_basic t c) ≡ true → ⊥
     basic i lt same free =

@@ -6,7 +6,9 @@ use Rattle.std.proofs.lemmas.Bool.{ne_eqb, eq-eqb}
 use Rattle.pc_bound.specs.Sums.{int_at}
 use Rattle.pc_bound.proofs.Ring.{mul_assoc}
 use Rattle.pc_tableau.specs.Tableau.{Tableau, Columns, row_at, range_of, end_of, turned_numbers, turned}
-use Rattle.pc_tableau.specs.Standing.{entry_at, basic_at, value_at, IsSized, IsSolved, IsFeasible, HasRoom}
+use Rattle.pc_tableau.specs.Conditions.{IsSized}
+use Rattle.pc_tableau.specs.Standing.{entry_at, basic_at, value_at, IsSolved, IsFeasible, HasRoom}
+use Rattle.pc_tableau.proofs.Sized.{sized_basic, sized_row}
 use Rattle.pc_tableau.proofs.Products.{mul-zero, one-mul, mul-sub, neg-mul, le_cancel}
 use Rattle.pc_tableau.proofs.Pivots.{by_same, IsPivot}
 use Rattle.pc_tableau.proofs.Limits.{in_range}
@@ -61,7 +63,7 @@ module _ (f : Columns) (c r : ℕ) (t after : Tableau) (lt : r < length t.rows) 
       (λ u. (neg_ℤ (entry_at t i c) *ℤ value_at f t r) ≤ℤ (entry_at t r c *ℤ (entry_at t i b *ℤ pos u -ℤ value_at f t i)))
       (λ u. value_at f after i ≤ℤ (entry_at after i b *ℤ pos u))
       (λ u within same. freed_high freed.times (entry_at t r c) (value_at f t r) (entry_at t i c) (value_at f t i) (value_at f after i) (entry_at t r b) (entry_at t i b)
-      (entry_at after i b) (pos u) freed.positive (freed.each f.count (omega arith)) (freed.each b (omega (arith, sized.basics i h)))
+      (entry_at after i b) (pos u) freed.positive (freed.each f.count (omega arith)) (freed.each b (omega (arith, sized_basic sized i h)))
       (solved.alone r i lt h (λ e. ne (sym e))) within)
       (room.high i h) (room.high i h))
 
@@ -91,26 +93,26 @@ module _ (f : Columns) (c u : ℕ) (t : Tableau) (own : c < f.count) (end : end_
   value_at-turned i h ne =
       entry_at-turned f c u t own end sized i f.count h
       ∙ ap (λ test. signed test (int_at (turned_numbers f c u (row_at t i).numbers) f.count)) (ne_eqb (basic_at t i) c ne)
-      ∙ at_value f c u own (row_at t i).numbers (sized.rows i h)
+      ∙ at_value f c u own (row_at t i).numbers (sized_row sized i h)
 
   pub entry_at-other : (i k : ℕ) → i < length t.rows → (basic_at t i ≡ c → ⊥) → k < f.count → (k ≡ c → ⊥) → entry_at (turned f c u t) i k ≡ entry_at t i k
   entry_at-other i k h ne lt other =
       entry_at-turned f c u t own end sized i k h
       ∙ ap (λ test. signed test (int_at (turned_numbers f c u (row_at t i).numbers) k)) (ne_eqb (basic_at t i) c ne)
-      ∙ at_other f c u own (row_at t i).numbers (sized.rows i h) k lt other
+      ∙ at_other f c u own (row_at t i).numbers (sized_row sized i h) k lt other
 
   -- those of the row whose basic column it is
   pub value_at-own : (i : ℕ) → i < length t.rows → basic_at t i ≡ c → value_at f (turned f c u t) i ≡ neg_ℤ (value_at f t i -ℤ entry_at t i c *ℤ pos u)
   value_at-own i h e =
       entry_at-turned f c u t own end sized i f.count h
       ∙ ap (λ test. signed test (int_at (turned_numbers f c u (row_at t i).numbers) f.count)) (eq-eqb (basic_at t i) c e)
-      ∙ ap neg_ℤ (at_value f c u own (row_at t i).numbers (sized.rows i h))
+      ∙ ap neg_ℤ (at_value f c u own (row_at t i).numbers (sized_row sized i h))
 
   pub entry_at-own : (i k : ℕ) → i < length t.rows → basic_at t i ≡ c → k < f.count → (k ≡ c → ⊥) → entry_at (turned f c u t) i k ≡ neg_ℤ (entry_at t i k)
   entry_at-own i k h e lt other =
       entry_at-turned f c u t own end sized i k h
       ∙ ap (λ test. signed test (int_at (turned_numbers f c u (row_at t i).numbers) k)) (eq-eqb (basic_at t i) c e)
-      ∙ ap neg_ℤ (at_other f c u own (row_at t i).numbers (sized.rows i h) k lt other)
+      ∙ ap neg_ℤ (at_other f c u own (row_at t i).numbers (sized_row sized i h) k lt other)
 
   pub IsFeasible-turned : ((i : ℕ) → i < length t.rows → basic_at t i ≡ c → ⊥) → HasRoom f c t (pos u) (pos 1) → IsFeasible f (turned f c u t)
   IsFeasible-turned free room = record {

@@ -10,6 +10,7 @@ use Rattle.pc_tableau.specs.Tableau.{Tableau, Columns, row_at, is_turned, combin
 use Rattle.pc_tableau.specs.Relaxation.{freed_by, freed_below, freed}
 use Rattle.pc_tableau.specs.Standing.{entry_at, basic_at, plain, IsMixed, IsFeasible, IsStanding}
 use Rattle.pc_tableau.specs.Freed.{IsMeantRows, IsStandingRows}
+use Rattle.pc_tableau.proofs.Sized.{sized_basic, sized_row}
 use Rattle.pc_tableau.proofs.Products.{mul-zero, mul_positive, lt_cancel, none_cancel}
 use Rattle.pc_tableau.proofs.Mixes.{IsMixed-combined, turned_place}
 use Rattle.pc_tableau.proofs.Pivots.{by_same, IsFreedAim, IsFreedAim-freed_aim, length-freed_aim}
@@ -19,7 +20,7 @@ use Rattle.pc_tableau.proofs.Pivots.{by_same, IsFreedAim, IsFreedAim-freed_aim, 
 abbrev pub aimed_as : Tableau → Tableau → Tableau
 aimed_as t other = record t { aim = other.aim; weight = other.weight }
 
-freed_aim_is : (c : ℕ) (numbers : List ℤ) (t : Tableau) → freed_aim c numbers t ≡ aimed_as t (freed_aim c numbers t)
+pub freed_aim_is : (c : ℕ) (numbers : List ℤ) (t : Tableau) → freed_aim c numbers t ≡ aimed_as t (freed_aim c numbers t)
 freed_aim_is c numbers t = by (is_zero (int_at t.aim c))
   where
     by : (test : Bool) → cond test t (combined_aim c numbers t) ≡ aimed_as t (cond test t (combined_aim c numbers t))
@@ -37,7 +38,7 @@ module _ (p : Program) (floors : List ℕ) (gain : ℕ → ℤ) (f : Columns) wh
     after = freed_by r t
 
     step : IsFreedAim f.count (entry_at t r (basic_at t r)) (int_at t.aim (basic_at t r)) (row_at t r).numbers t after
-    step = IsFreedAim-freed_aim (basic_at t r) f.count (row_at t r).numbers t meant.sized.aims (meant.sized.rows r lt) (meant.solved.positive r lt) meant.solved.weighed
+    step = IsFreedAim-freed_aim (basic_at t r) f.count (row_at t r).numbers t meant.sized.aim (sized_row meant.sized r lt) (meant.solved.positive r lt) meant.solved.weighed
 
     weighed-freed_by : pos 0 <ℤ after.weight
     weighed-freed_by =
@@ -47,14 +48,14 @@ module _ (p : Program) (floors : List ℕ) (gain : ℕ → ℤ) (f : Columns) wh
     own-freed_by =
         let b = basic_at t r in
         no_rest step.times (entry_at t r b) (int_at t.aim b) (int_at t.aim b) (entry_at t r b) (int_at after.aim b) step.positive
-        (step.each b (meant.sized.basics r lt)) (*ℤ_comm (entry_at t r b) (int_at t.aim b))
+        (step.each b (sized_basic meant.sized r lt)) (*ℤ_comm (entry_at t r b) (int_at t.aim b))
 
     pub other-freed_by : (i : ℕ) → i < length t.rows → (i ≡ r → ⊥) → int_at t.aim (basic_at t i) ≡ pos 0 → int_at after.aim (basic_at t i) ≡ pos 0
     other-freed_by i h ne none =
         let b = basic_at t r in
         let c = basic_at t i in
         no_rest step.times (entry_at t r b) (int_at t.aim b) (int_at t.aim c) (entry_at t r c) (int_at after.aim c) step.positive
-        (step.each c (meant.sized.basics i h))
+        (step.each c (sized_basic meant.sized i h))
         (ap (λ n. entry_at t r b *ℤ n) none ∙ mul-zero (entry_at t r b) ∙ sym (mul-zero (int_at t.aim b))
         ∙ ap (λ n. int_at t.aim b *ℤ n) (sym (meant.solved.alone r i lt h (λ e. ne (sym e)))))
 
@@ -72,9 +73,8 @@ module _ (p : Program) (floors : List ℕ) (gain : ℕ → ℤ) (f : Columns) wh
       sized = record {
         ranges = meant.sized.ranges;
         rows = meant.sized.rows;
-        basics = meant.sized.basics;
-        turns = meant.sized.turns;
-        aims = length-freed_aim (basic_at t r) f.count (row_at t r).numbers t meant.sized.aims (meant.sized.rows r lt);
+        turned = meant.sized.turned;
+        aim = length-freed_aim (basic_at t r) f.count (row_at t r).numbers t meant.sized.aim (sized_row meant.sized r lt);
       };
       solved = record { positive = meant.solved.positive; alone = meant.solved.alone; weighed = weighed-freed_by };
       rows = meant.rows;

@@ -3,7 +3,9 @@ use Rattle.std.proofs.Common.{◌≡◌, ℕ, ◌<◌, length, refl, ap, sym, su
 use Rattle.std.specs.Prelude.{⊤, ℤ, pos, neg_ℤ, ◌-ℤ◌, ◌*ℤ◌, ◌<ℤ◌, ◌≤ℤ◌}
 use Rattle.std.proofs.lemmas.Int.{ints}
 use Rattle.pc_tableau.specs.Tableau.{Tableau, Columns, range_of, end_of, turned}
-use Rattle.pc_tableau.specs.Standing.{entry_at, basic_at, value_at, IsSized, IsSolved, HasRoom}
+use Rattle.pc_tableau.specs.Conditions.{IsSized}
+use Rattle.pc_tableau.specs.Standing.{entry_at, basic_at, value_at, IsSolved, HasRoom}
+use Rattle.pc_tableau.proofs.Sized.{sized_basic}
 use Rattle.pc_tableau.proofs.Products.{mul-sub, neg-mul, mul_not_negative}
 use Rattle.pc_tableau.proofs.Pivots.{by_same}
 use Rattle.pc_tableau.proofs.Turned.{below, basic_at-turned, own_entry, end_is}
@@ -31,7 +33,7 @@ module _ (f : Columns) (c r u : ℕ) (t : Tableau) (lt : r < length t.rows) (siz
   end = end_is f (basic_at t r) u range
 
   basic_is_column : basic_at t r < f.count
-  basic_is_column = sized.basics r lt
+  basic_is_column = sized_basic sized r lt
 
   value_own : value_at f after r ≡ over
   value_own = let turned_value = value_at-own f (basic_at t r) u t basic_is_column end sized r lt refl in omega (arith, ints, turned_value)

@@ -1,6 +1,7 @@
 pub mod Aims
 pub mod Changed
 pub mod Coded
+pub mod Counted
 pub mod Deciding
 pub mod Divisors
 pub mod Ends
@@ -16,7 +17,6 @@ pub mod Limits
 pub mod Listed
 pub mod Meaning
 pub mod Mixes
-pub mod Orders
 pub mod Pivoted
 pub mod Pivoting
 pub mod Pivots
@@ -27,6 +27,7 @@ pub mod Reached
 pub mod Running
 pub mod Shares
 pub mod Shorts
+pub mod Sized
 pub mod Sizes
 pub mod Start
 pub mod StartBack

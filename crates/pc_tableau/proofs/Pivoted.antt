@@ -7,7 +7,9 @@ use Rattle.pc_bound.specs.declared.program.Program.{Program}
 use Rattle.pc_bound.specs.Sums.{int_at}
 use Rattle.pc_tableau.specs.Tableau.{Tableau, Columns, row_at, is_turned, is_helper, pivoted}
 use Rattle.pc_tableau.specs.Relaxation.{columns_of}
-use Rattle.pc_tableau.specs.Standing.{entry_at, basic_at, IsSized, IsSolved, plain, IsMixed, place, miss, SolvesRows, IsMeant}
+use Rattle.pc_tableau.specs.Conditions.{IsSized}
+use Rattle.pc_tableau.specs.Standing.{entry_at, basic_at, IsSolved, plain, IsMixed, place, miss, SolvesRows, IsMeant}
+use Rattle.pc_tableau.proofs.Sized.{sized_basic, sized_row, sized_rows}
 use Rattle.pc_tableau.proofs.Products.{mul-zero, mul_positive, lt_cancel, none_cancel}
 use Rattle.pc_tableau.proofs.Mixes.{IsMixed-combined, turned_place}
 use Rattle.pc_tableau.proofs.Meaning.{miss-back, miss-same}
@@ -37,12 +39,13 @@ module _ (f : Columns) (c r : ℕ) (t after : Tableau) (lt : r < length t.rows) 
   pub IsSized-pivot : IsSized f t → IsSized f after
   IsSized-pivot sized = record {
     ranges = sized.ranges;
-    rows = λ i h. by_same i r (λ e. subst (λ k. length (row_at after k).numbers ≡ f.count + 1) (sym e) (ap length pivot.same ∙ sized.rows r lt))
-        (λ ne. pivot.sizes i (below i h) ne);
-    basics = λ i h. by_same i r (λ e. subst (λ k. basic_at after k < f.count) (sym e) (subst (λ k. k < f.count) (sym pivot.basic) own))
-        (λ ne. subst (λ k. k < f.count) (sym (pivot.basics i (below i h) ne)) (sized.basics i (below i h)));
-    turns = ap length pivot.turns ∙ sized.turns;
-    aims = pivot.aims;
+    rows = sized_rows f after
+        (λ i h. by_same i r (λ e. subst (λ k. length (row_at after k).numbers ≡ f.count + 1) (sym e) (ap length pivot.same ∙ sized_row sized r lt))
+        (λ ne. pivot.sizes i (below i h) ne))
+        (λ i h. by_same i r (λ e. subst (λ k. basic_at after k < f.count) (sym e) (subst (λ k. k < f.count) (sym pivot.basic) own))
+        (λ ne. subst (λ k. k < f.count) (sym (pivot.basics i (below i h) ne)) (sized_basic sized i (below i h))));
+    turned = ap length pivot.turns ∙ sized.turned;
+    aim = pivot.aims;
   }
 
   at_row : (k : ℕ) → entry_at after r k ≡ entry_at t r k
@@ -54,13 +57,13 @@ module _ (f : Columns) (c r : ℕ) (t after : Tableau) (lt : r < length t.rows) 
     basic_positive i h ne =
         let freed = pivot.freed i h ne in
         kept_positive freed.times (entry_at t r c) (entry_at t i c) (entry_at t i (basic_at t i)) (entry_at t r (basic_at t i)) (entry_at after i (basic_at t i))
-        freed.positive positive (freed.each (basic_at t i) (omega (arith, sized.basics i h))) (solved.alone r i lt h (λ e. ne (sym e))) (solved.positive i h)
+        freed.positive positive (freed.each (basic_at t i) (omega (arith, sized_basic sized i h))) (solved.alone r i lt h (λ e. ne (sym e))) (solved.positive i h)
 
     basic_alone : (i k : ℕ) → i < length t.rows → k < length t.rows → (i ≡ r → ⊥) → (k ≡ r → ⊥) → (i ≡ k → ⊥) → entry_at after i (basic_at t k) ≡ pos 0
     basic_alone i k h j ne also apart =
         let freed = pivot.freed i h ne in
         kept_none freed.times (entry_at t r c) (entry_at t i c) (entry_at t i (basic_at t k)) (entry_at t r (basic_at t k)) (entry_at after i (basic_at t k))
-        freed.positive (freed.each (basic_at t k) (omega (arith, sized.basics k j))) (solved.alone r k lt j (λ e. also (sym e))) (solved.alone i k h j apart)
+        freed.positive (freed.each (basic_at t k) (omega (arith, sized_basic sized k j))) (solved.alone r k lt j (λ e. also (sym e))) (solved.alone i k h j apart)
 
     column_alone : (i : ℕ) → i < length t.rows → (i ≡ r → ⊥) → entry_at after i c ≡ pos 0
     column_alone i h ne =
@@ -71,7 +74,7 @@ module _ (f : Columns) (c r : ℕ) (t after : Tableau) (lt : r < length t.rows) 
     aim_alone k h ne =
         let aim = pivot.aim in
         kept_none aim.times (entry_at t r c) (int_at t.aim c) (int_at t.aim (basic_at t k)) (entry_at t r (basic_at t k)) (int_at after.aim (basic_at t k))
-        aim.positive (aim.each (basic_at t k) (sized.basics k h)) (solved.alone r k lt h (λ e. ne (sym e))) (solved.aimed k h)
+        aim.positive (aim.each (basic_at t k) (sized_basic sized k h)) (solved.alone r k lt h (λ e. ne (sym e))) (solved.aimed k h)
 
     alone_in_row : (k : ℕ) → k < length t.rows → (k ≡ r → ⊥) → entry_at after r (basic_at after k) ≡ pos 0
     alone_in_row k h ne = rw (pivot.basics k h ne, at_row (basic_at t k)) (solved.alone r k lt h (λ e. ne (sym e)))
@@ -155,7 +158,7 @@ pub IsMeant-pivoted : (p : Program) (floors : List ℕ) (gain : ℕ → ℤ) (f 
     → c < f.count → is_helper f c ≡ false → r < length t.rows → pos 0 <ℤ entry_at t r c → IsMeant p floors gain f (pivoted c r t)
 IsMeant-pivoted p floors gain f c r t meant own plain_column lt positive =
     let after = pivoted c r t in
-    let pivot = IsPivot-pivoted f.count c r t lt meant.sized.rows meant.sized.aims positive meant.solved.weighed in
+    let pivot = IsPivot-pivoted f.count c r t lt (sized_row meant.sized) meant.sized.aim positive meant.solved.weighed in
     record {
       sized = IsSized-pivot f c r t after lt own positive pivot meant.sized;
       solved = IsSolved-pivot f c r t after lt own positive pivot meant.sized meant.solved;

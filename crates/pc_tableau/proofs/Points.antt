@@ -7,16 +7,17 @@ use Rattle.std.proofs.lemmas.List.{get_or_past}
 use Rattle.std.proofs.Math.IntN.{*ℤ_comm}
 use Rattle.pc_bound.specs.Sums.{sum_below}
 use Rattle.pc_bound.proofs.Ring.{mul_assoc, mul_mono}
-use Rattle.pc_bound.proofs.SumBelow.{sum_below-more}
+use Rattle.pc_bound.proofs.SumBelow.{sum_below-more, sum_below-one}
 use Rattle.pc_tableau.specs.Numbers.{first_below}
 use Rattle.pc_tableau.specs.Tableau.{Tableau, Columns, row_at, is_turned, range_of, end_of}
 use Rattle.pc_tableau.specs.Point.{row_of}
-use Rattle.pc_tableau.specs.Standing.{entry_at, basic_at, value_at, IsSized, IsSolved, IsFeasible, place, SolvesRows}
+use Rattle.pc_tableau.specs.Conditions.{IsSized}
+use Rattle.pc_tableau.specs.Standing.{entry_at, basic_at, value_at, IsSolved, IsFeasible, place, SolvesRows}
+use Rattle.pc_tableau.proofs.Sized.{sized_basic}
 use Rattle.pc_tableau.proofs.Products.{mul-zero, zero-mul, mul-neg, mul_swap, mul_positive, mul_not_negative, le_cancel}
 use Rattle.pc_tableau.proofs.Pivots.{by_same}
 use Rattle.pc_tableau.proofs.Meaning.{miss-same}
 use Rattle.pc_tableau.proofs.Entering.{first_below-some}
-use Rattle.pc_tableau.proofs.Listed.{sum_below-one}
 
 -- a basic column stands at its row's value over its entry, and every other one at 0; minus the denominator at the place of the value
 pub record IsPoint (f : Columns) (t : Tableau) (d : ℕ) (z : ℕ → ℤ) : Type 0 where
@@ -132,7 +133,7 @@ module _ (f : Columns) (t : Tableau) (d : ℤ) (s : ℕ → ℤ) where
 
   standing_basic : IsSized f t → IsSolved t → (r : ℕ) → r < length t.rows → standing_at (basic_at t r) ≡ s r
   standing_basic sized solved r lt =
-      standing_column (basic_at t r) (sized.basics r lt)
+      standing_column (basic_at t r) (sized_basic sized r lt)
       ∙ ap (λ (row : Option ℕ). elim row [ Some i ↦ s i | None ↦ pos 0 ]) (row_of-basic t solved r lt)
 
   standing_other : (k : ℕ) → k < f.count → ((r : ℕ) → r < length t.rows → basic_at t r ≡ k → ⊥) → standing_at k ≡ pos 0
@@ -180,7 +181,7 @@ met_row a z v w d cells e same whole =
 
 module _ (f : Columns) (t : Tableau) (d : ℕ) (z : ℕ → ℤ) (sized : IsSized f t) (solved : IsSolved t) (point : IsPoint f t d z) where
   pub value_unturned : is_turned t f.count ≡ false
-  value_unturned = get_or_past t.turned f.count false (omega (arith, sized.turns))
+  value_unturned = get_or_past t.turned f.count false (omega (arith, sized.turned))
 
   pub place_value : place f t z f.count ≡ neg_ℤ (pos d)
   place_value = rw value_unturned point.whole
@@ -201,7 +202,7 @@ module _ (f : Columns) (t : Tableau) (d : ℕ) (z : ℕ → ℤ) (sized : IsSize
           (λ free. ap (λ m. entry_at t r k *ℤ m) (point.others k h free) ∙ mul-zero (entry_at t r k))
 
       cells : sum_below f.count (λ k. entry_at t r k *ℤ z k) ≡ entry_at t r (basic_at t r) *ℤ z (basic_at t r)
-      cells = sum_below-one f.count (basic_at t r) (λ k. entry_at t r k *ℤ z k) (sized.basics r lt) none
+      cells = sum_below-one f.count (basic_at t r) (λ k. entry_at t r k *ℤ z k) (sized_basic sized r lt) none
 
 -- ---- within the ranges
 

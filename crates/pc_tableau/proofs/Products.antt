@@ -5,14 +5,11 @@ use Rattle.std.proofs.lemmas.Int.{ints, by_lt_z}
 use Rattle.std.proofs.Math.IntN.{*ℤ_comm}
 use Rattle.pc_bound.proofs.Ring.{mul-add, mul_assoc, mul_mono}
 
-pub mul-zero : (a : ℤ) → a *ℤ pos 0 ≡ pos 0
-mul-zero a = *ℤ_comm a (pos 0) ∙ zero_mul a
-  where
-    zero_mul : (a : ℤ) → pos 0 *ℤ a ≡ pos 0
-    zero_mul a = omega (arith, ints)
-
 pub zero-mul : (a : ℤ) → pos 0 *ℤ a ≡ pos 0
 zero-mul a = omega (arith, ints)
+
+pub mul-zero : (a : ℤ) → a *ℤ pos 0 ≡ pos 0
+mul-zero a = *ℤ_comm a (pos 0) ∙ zero-mul a
 
 pub one-mul : (a : ℤ) → pos 1 *ℤ a ≡ a
 one-mul a = omega (arith, ints)

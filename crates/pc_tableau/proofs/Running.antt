@@ -1,5 +1,6 @@
 -- A run, a step further.
 use Rattle.std.proofs.Common.{◌≡◌, ◌-◌, ℕ, zero, suc, Bool, true, false, List, [], ◌∷◌, ◌++◌, Option, Some, None, refl, ap, sym, ◌∙◌, arith}
+use Rattle.std.proofs.lemmas.Bool.{false_from_ne_true}
 use Rattle.pc_tableau.specs.declared.step.Step.{Step}
 use Rattle.pc_tableau.specs.Tableau.{Tableau, Columns, Run, ended, wide, stalled, run, entering, deciding, after_step, does_step_fit}
 use Rattle.pc_tableau.specs.Conditions.{IsSized, AreFitNumbers}
@@ -9,10 +10,6 @@ pub record IsRunFrom (f : Columns) (most : ℕ) (taken : List Step) (start : Tab
   pub same : run f left steps t ≡ run f most taken start
   pub sized : IsSized f t
   pub fits : AreFitNumbers t
-
-unfit_is : (b : Bool) → (b ≡ true → ⊥) → b ≡ false
-unfit_is true h = absurd (h refl)
-unfit_is false h = refl
 
 module _ (f : Columns) (steps : List Step) (t : Tableau) where
   abbrev at_last : Option ℕ → Run
@@ -48,7 +45,7 @@ module _ (f : Columns) (steps : List Step) (t : Tableau) where
 
     pub run_wide : (left : ℕ) → (left ≡ 0 → ⊥) → (does_step_fit f c (deciding f c t) t ≡ true → ⊥) → run f left steps t ≡ wide steps
     run_wide zero some unfit = absurd (some refl)
-    run_wide (suc left) some unfit = run_chosen left ∙ ap (chosen left c) (unfit_is (does_step_fit f c (deciding f c t) t) unfit)
+    run_wide (suc left) some unfit = run_chosen left ∙ ap (chosen left c) (false_from_ne_true (does_step_fit f c (deciding f c t) t) unfit)
 
     pub run_steps : (left leaves : ℕ) (next : Tableau) → (left ≡ 0 → ⊥) → does_step_fit f c (deciding f c t) t ≡ true → leaves ≡ (deciding f c t).column →
         next ≡ after_step f c leaves (deciding f c t).way t → run f left steps t ≡ run f (left - 1) (steps ++ record { enters = c; leaves = leaves } ∷ []) next

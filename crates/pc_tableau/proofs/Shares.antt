@@ -9,7 +9,7 @@ use Rattle.pc_tableau.proofs.Products.{zero-mul, mul-neg, neg-mul, mul-sub, mul_
 
 -- ---- where a column stands that is counted from its end
 
-from_end : (z w : ℤ) (d e : ℕ) → w ≡ neg_ℤ (pos d) → neg_ℤ z -ℤ pos e *ℤ w ≡ pos d *ℤ pos e -ℤ z
+pub from_end : (z w : ℤ) (d e : ℕ) → w ≡ neg_ℤ (pos d) → neg_ℤ z -ℤ pos e *ℤ w ≡ pos d *ℤ pos e -ℤ z
 from_end z w d e whole =
     let turned = mul-neg (pos e) (pos d) in
     let swapped = *ℤ_comm (pos e) (pos d) in

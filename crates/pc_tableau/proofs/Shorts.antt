@@ -10,21 +10,17 @@ use Rattle.pc_bound.specs.declared.program.Program.{Program}
 use Rattle.pc_bound.specs.Sums.{sum_below, nat_at, int_at}
 use Rattle.pc_bound.specs.Allocation.{cells_of, constraints_of, IsBox}
 use Rattle.pc_bound.specs.Bound.{part_of, rest_of, constraint_share, cell_share, raw_bound, without_gain}
-use Rattle.pc_bound.proofs.SumBelow.{sum_below-same, sum_below-scale}
+use Rattle.pc_bound.proofs.SumBelow.{none_chosen, sum_below-one, sum_below-same, sum_below-scale}
 use Rattle.pc_tableau.specs.Numbers.{first_below}
 use Rattle.pc_tableau.specs.Relaxation.{left_of, one_at}
 use Rattle.pc_tableau.proofs.Products.{zero-mul, one-mul}
 use Rattle.pc_tableau.proofs.Entering.{first_below-some}
-use Rattle.pc_tableau.proofs.Listed.{at-table, sum_below-one}
+use Rattle.pc_tableau.proofs.Listed.{at-table}
 
 one_share : (test : Bool) (by : ℤ) (most least : ℕ) → by ≡ cond test (pos 1) (pos 0)
     → by *ℤ pos (cond (int_lt (pos 0) by) most least) ≡ cond test (pos most) (pos 0)
 one_share true by most least e = rw e (one-mul (pos most))
 one_share false by most least e = rw e (zero-mul (pos least))
-
-no_part : (test : Bool) (by : ℤ) → by ≡ pos 0 → cond test by (pos 0) ≡ pos 0
-no_part true by e = e
-no_part false by e = refl
 
 -- the share of a cell from which the constraint takes one, or nothing
 floor_share : (test : Bool) (r : ℤ) (floor ceiling : ℕ) → floor ≤ ceiling → r ≡ pos 1 *ℤ pos 0 -ℤ cond test (pos 1) (pos 0)
@@ -51,7 +47,7 @@ module _ (p : Program) (floors caps : List ℕ) (j : ℕ) (lt : j < constraints_
   given : (i : ℕ) → sum_below (constraints_of p) (part_of (without_gain p) (one_at p j) i) ≡ cond (has_bit (nat_at p.masks i) j) (pos 1) (pos 0)
   given i =
       sum_below-one (constraints_of p) j (part_of (without_gain p) (one_at p j) i) lt
-      (λ k h ne. no_part (has_bit (nat_at p.masks i) k) (int_at (one_at p j).by k) (by_other k h ne))
+      (λ k h ne. none_chosen (has_bit (nat_at p.masks i) k) (int_at (one_at p j).by k) (by_other k h ne))
       ∙ ap (λ by. cond (has_bit (nat_at p.masks i) j) by (pos 0)) by_own
 
   rest_is : (i : ℕ) → i < cells_of p → rest_of (without_gain p) (one_at p j) i ≡ pos 1 *ℤ pos 0 -ℤ cond (has_bit (nat_at p.masks i) j) (pos 1) (pos 0)

@@ -6,7 +6,8 @@ use Rattle.pc_bound.specs.Sums.{int_at}
 use Rattle.pc_tableau.specs.Numbers.{common, combined, is_zero}
 use Rattle.pc_tableau.specs.Tableau.{TableauRow, Tableau, Columns, no_row, row_at, freed_row, combined_aim, pivoted, turned_row, turned}
 use Rattle.pc_tableau.specs.Conditions.{IsSizedRow, IsSized, AreAsLong, divided}
-use Rattle.pc_tableau.proofs.Freeing.{freed_row-sized, combined-length}
+use Rattle.pc_tableau.proofs.Freeing.{freed_row-sized}
+use Rattle.pc_tableau.proofs.Places.{length-combined}
 
 module _ (f : Columns) (t : Tableau) (r : ℕ) (h : IsSized f t) (within : r < length t.rows) where
   own : IsSizedRow f (row_at t r)
@@ -33,7 +34,7 @@ module _ (f : Columns) (t : Tableau) (r : ℕ) (h : IsSized f t) (within : r < l
     combined_long : length (combined_aim c other t).aim ≡ length t.aim
     combined_long =
         length-map (combined (int_at other c) t.aim (int_at t.aim c) other) (divided (common ((int_at other c *ℤ t.weight) ∷ combined (int_at other c) t.aim (int_at t.aim c) other)))
-        ∙ combined-length (int_at other c) (int_at t.aim c) t.aim other (omega (arith, own_longer))
+        ∙ length-combined (int_at other c) (int_at t.aim c) t.aim other (omega (arith, own_longer))
 
     pub pivoted_sized : IsSized f (pivoted c r t)
     pivoted_sized = record {

@@ -1,21 +1,19 @@
 -- Numbers that solve the first rows solve the constraints.
-use Rattle.std.proofs.Common.{◌≡◌, ℕ, zero, suc, ◌+◌, ◌-◌, ◌<◌, Bool, true, false, cond, length, ap, ap₂, sym, ◌∙◌, arith, Some}
+use Rattle.std.proofs.Common.{◌≡◌, ℕ, zero, suc, ◌+◌, ◌<◌, Bool, true, false, cond, ap, ap₂, sym, ◌∙◌, arith, Some, None}
 use Rattle.std.specs.Prelude.{ℤ, pos, negsuc, neg_ℤ, ◌+ℤ◌, ◌-ℤ◌, ◌*ℤ◌, List}
 use Rattle.std.proofs.lemmas.Int.{ints}
-use Rattle.std.proofs.lemmas.List.{get_or-append-add}
 use Rattle.pc_model.specs.Places.{has_bit}
 use Rattle.pc_bound.specs.declared.program.Program.{Program}
 use Rattle.pc_bound.specs.Sums.{sum_below, nat_at}
 use Rattle.pc_bound.specs.Allocation.{cells_of, constraints_of}
-use Rattle.pc_bound.proofs.SumBelow.{sum_below-zero, sum_below-suc, sum_below-more, sum_below-same}
-use Rattle.pc_tableau.specs.Numbers.{table}
+use Rattle.pc_bound.proofs.SumBelow.{sum_below-one, sum_below-zero, sum_below-suc, sum_below-more, sum_below-same}
 use Rattle.pc_tableau.specs.Tableau.{is_turned, range_of, end_of}
 use Rattle.pc_tableau.specs.Relaxation.{slack_of, helper_of, columns_of, slack_range, ranges_of, left_of, is_short, SolvesAll}
 use Rattle.pc_tableau.specs.Standing.{entry_at, place, SolvesRows}
 use Rattle.pc_tableau.proofs.Products.{zero-mul, one-mul, minus_one-mul, sub-mul}
 use Rattle.pc_tableau.proofs.Entering.{range_is}
+use Rattle.pc_tableau.proofs.Frames.{IsFrame-ranges}
 use Rattle.pc_tableau.proofs.Turned.{end_is}
-use Rattle.pc_tableau.proofs.Listed.{length-table, at-table, sum_below-one}
 use Rattle.pc_tableau.proofs.StartRows.{start, frame, rows-start, slack-start, value-start, turned-cell, turned-slack, turned-helper}
 use Rattle.pc_tableau.proofs.StartMeant.{length-ranges, helper-start, other_helper-start, other_slack-start, cell-start}
 
@@ -44,14 +42,8 @@ turned_share false left y u z = let slack = one-mul y in omega (arith, ints, sla
 
 module _ (p : Program) (floors caps : List ℕ) where
   -- the range of a slack
-  abbrev cells : List ℕ
-  cells = table (cells_of p) (λ i. nat_at caps i - nat_at floors i)
-
   slack_place_is : (j : ℕ) → j < constraints_of p → nat_at (ranges_of p floors caps) (slack_of p j) ≡ slack_range p j
-  slack_place_is j own =
-      let size : length cells ≡ cells_of p = length-table (cells_of p) (λ i. nat_at caps i - nat_at floors i) in
-      ap (λ n. nat_at (ranges_of p floors caps) (n + j)) (sym size)
-      ∙ get_or-append-add cells (table (constraints_of p) (slack_range p)) j 0 ∙ at-table (constraints_of p) (slack_range p) j 0 own
+  slack_place_is = (IsFrame-ranges p floors caps None).slacks
 
   pub range-slack : (j : ℕ) → j < constraints_of p → range_of (frame p floors caps) (slack_of p j) ≡ Some (slack_range p j)
   range-slack j own = range_is (frame p floors caps) (slack_of p j) (omega (arith, own, length-ranges p floors caps)) ∙ ap Some (slack_place_is j own)

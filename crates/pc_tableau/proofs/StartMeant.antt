@@ -3,20 +3,23 @@ use Rattle.std.proofs.Common.{◌≡◌, ℕ, ◌+◌, ◌-◌, ◌<◌, ◌≤�
 use Rattle.std.specs.Prelude.{ℤ, pos, negsuc, ◌+ℤ◌, ◌*ℤ◌, List}
 use Rattle.std.proofs.lemmas.Int.{ints, by_lt_z}
 use Rattle.std.proofs.lemmas.Bool.{cond-true, cond-false, and_from, and_left, leb-true, le-leb, lt-leb}
-use Rattle.std.proofs.lemmas.List.{length-append}
 use Rattle.pc_model.specs.Places.{has_bit}
 use Rattle.pc_bound.specs.declared.program.Program.{Program}
 use Rattle.pc_bound.specs.Sums.{sum_below, nat_at}
 use Rattle.pc_bound.specs.Allocation.{cells_of, constraints_of}
+use Rattle.pc_bound.proofs.SumBelow.{none_chosen, sum_below-one}
 use Rattle.pc_tableau.specs.Tableau.{Tableau, row_at, is_turned, is_helper, range_of}
-use Rattle.pc_tableau.specs.Relaxation.{slack_of, helper_of, columns_of, slack_range, ranges_of, is_short}
-use Rattle.pc_tableau.specs.Standing.{entry_at, basic_at, IsSized, plain, IsMixed, gain_one}
+use Rattle.pc_tableau.specs.Relaxation.{slack_of, helper_of, columns_of, ranges_of, is_short}
+use Rattle.pc_tableau.specs.Conditions.{IsSized}
+use Rattle.pc_tableau.specs.Standing.{entry_at, basic_at, plain, IsMixed, gain_one}
 use Rattle.pc_tableau.specs.Freed.{IsSolvedRows}
+use Rattle.pc_tableau.proofs.Sized.{sized_rows}
 use Rattle.pc_tableau.proofs.Pivots.{by_same}
 use Rattle.pc_tableau.proofs.Entering.{plain_column}
+use Rattle.pc_tableau.proofs.Frames.{IsFrame-ranges}
 use Rattle.pc_tableau.proofs.Turns.{signed, signed_none}
-use Rattle.pc_tableau.proofs.StartTables.{none_either, IsMixed-gain}
-use Rattle.pc_tableau.proofs.Listed.{length-table, at-table, sum_below-one}
+use Rattle.pc_tableau.proofs.StartTables.{IsMixed-gain}
+use Rattle.pc_tableau.proofs.Listed.{length-table, at-table}
 use Rattle.pc_tableau.proofs.StartRows.{start, frame, rows-start, coefficient-cell, coefficient-helper, coefficient-other_slack, coefficient-other_helper, length-start, basic-short, basic-long, entry-start, slack-start, turned-cell, turned-slack, turned-helper}
 
 -- a sum of which all numbers but one are 0
@@ -26,8 +29,7 @@ both_signs false = refl
 
 module _ (p : Program) (floors caps : List ℕ) where
   pub length-ranges : length (ranges_of p floors caps) ≡ cells_of p + constraints_of p
-  length-ranges =
-      length-append _ _ ∙ ap₂ (λ a b. a + b) (length-table (cells_of p) (λ i. nat_at caps i - nat_at floors i)) (length-table (constraints_of p) (slack_range p))
+  length-ranges = (IsFrame-ranges p floors caps None).ranges
 
   abbrev t : Tableau
   t = start p floors caps
@@ -90,10 +92,9 @@ module _ (p : Program) (floors caps : List ℕ) where
   pub IsSized-start : IsSized (frame p floors caps) t
   IsSized-start = record {
     ranges = omega (arith, length-ranges);
-    rows = λ r h. length-start p floors caps r (below r h);
-    basics = λ r h. basic_below r (below r h);
-    turns = length-table (columns_of p) _;
-    aims = length-table (columns_of p) (gain_one p floors);
+    rows = sized_rows (frame p floors caps) t (λ r h. length-start p floors caps r (below r h)) (λ r h. basic_below r (below r h));
+    turned = length-table (columns_of p) _;
+    aim = length-table (columns_of p) (gain_one p floors);
   }
 
   -- ---- each row is mixed of its own constraint
@@ -125,7 +126,7 @@ module _ (p : Program) (floors caps : List ℕ) where
         ≡ cond (has_bit (nat_at p.masks i) r) (pos 1) (pos 0)
     x_sum i =
         sum_below-one (constraints_of p) r (λ j. cond (has_bit (nat_at p.masks i) j) (x (slack_of p j)) (pos 0)) own
-        (λ j lt ne. none_either (has_bit (nat_at p.masks i) j) (x (slack_of p j)) (x_other_slack j lt ne))
+        (λ j lt ne. none_chosen (has_bit (nat_at p.masks i) j) (x (slack_of p j)) (x_other_slack j lt ne))
         ∙ ap (λ z. cond (has_bit (nat_at p.masks i) r) z (pos 0)) x_slack
 
     pub IsMixed-start : (gain : ℕ → ℤ) → IsMixed p (pos 0) gain (plain t (row_at t r).numbers)

@@ -12,6 +12,7 @@ use Rattle.pc_tableau.specs.Tableau.{TableauRow, Tableau, Columns, row_at, no_ro
 use Rattle.pc_tableau.specs.Relaxation.{slack_of, columns_of, ranges_of, phase_one, phase_two, with_gains, has_helper, freed}
 use Rattle.pc_tableau.specs.Standing.{entry_at, basic_at, value_at, plain, place, SolvesRows, IsMixed, IsFeasible, IsStanding, gain_one, gain_two}
 use Rattle.pc_tableau.specs.Freed.{IsMeantRows}
+use Rattle.pc_tableau.proofs.Sized.{sized_row, sized_basic, sized_rows}
 use Rattle.pc_tableau.proofs.Products.{mul-zero}
 use Rattle.pc_tableau.proofs.Meaning.{miss-same}
 use Rattle.pc_tableau.proofs.Turns.{signed}
@@ -94,10 +95,9 @@ module _ (p : Program) (floors caps : List ℕ) (t : Tableau) where
       record {
         sized = record {
           ranges = meant.sized.ranges;
-          rows = meant.sized.rows;
-          basics = meant.sized.basics;
-          turns = meant.sized.turns;
-          aims = length-table (columns_of p) _;
+          rows = sized_rows second (with_gains p t) (sized_row meant.sized) (sized_basic meant.sized);
+          turned = meant.sized.turned;
+          aim = length-table (columns_of p) _;
         };
         solved = record { positive = meant.solved.positive; alone = meant.solved.alone; weighed = omega (arith, ints) };
         rows = meant.rows;

@@ -1,21 +1,14 @@
 -- Rows that are mixed of no constraint.
-use Rattle.std.proofs.Common.{◌≡◌, ℕ, ◌<◌, Bool, true, false, cond, refl, ◌∙◌, arith}
+use Rattle.std.proofs.Common.{◌≡◌, ℕ, ◌<◌, cond, ◌∙◌, arith}
 use Rattle.std.specs.Prelude.{ℤ, pos}
 use Rattle.std.proofs.lemmas.Int.{ints}
 use Rattle.pc_model.specs.Places.{has_bit}
 use Rattle.pc_bound.specs.declared.program.Program.{Program}
 use Rattle.pc_bound.specs.Sums.{sum_below, nat_at}
 use Rattle.pc_bound.specs.Allocation.{constraints_of}
-use Rattle.pc_bound.proofs.SumBelow.{sum_below-same, sum_below-zeros}
+use Rattle.pc_bound.proofs.SumBelow.{none_chosen, sum_below-none}
 use Rattle.pc_tableau.specs.Relaxation.{slack_of, helper_of, columns_of}
 use Rattle.pc_tableau.specs.Standing.{IsMixed}
-
-pub none_either : (test : Bool) (x : ℤ) → x ≡ pos 0 → cond test x (pos 0) ≡ pos 0
-none_either true x e = e
-none_either false x e = refl
-
-pub sum_below-none : (n : ℕ) (x : ℕ → ℤ) → ((k : ℕ) → k < n → x k ≡ pos 0) → sum_below n x ≡ pos 0
-sum_below-none n x none = sum_below-same n x (λ k. pos 0) none ∙ sum_below-zeros n
 
 -- numbers that are the gain itself, which the slacks have none of
 pub IsMixed-gain : (p : Program) (gain x : ℕ → ℤ) → ((k : ℕ) → k < columns_of p → x k ≡ gain k)
@@ -30,7 +23,7 @@ IsMixed-gain p gain x each none = record {
 
     nothing : (i : ℕ) → sum_below (constraints_of p) (λ j. cond (has_bit (nat_at p.masks i) j) (x (slack_of p j)) (pos 0)) ≡ pos 0
     nothing i = sum_below-none (constraints_of p) (λ j. cond (has_bit (nat_at p.masks i) j) (x (slack_of p j)) (pos 0))
-        (λ j lt. none_either (has_bit (nat_at p.masks i) j) (x (slack_of p j)) (at_slack j lt))
+        (λ j lt. none_chosen (has_bit (nat_at p.masks i) j) (x (slack_of p j)) (at_slack j lt))
 
 -- what is mixed with no gain is so whatever the gain
 pub IsMixed-any_gain : (p : Program) (gain other x : ℕ → ℤ) → IsMixed p (pos 0) gain x → IsMixed p (pos 0) other x

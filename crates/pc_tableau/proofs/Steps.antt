@@ -6,6 +6,7 @@ use Rattle.pc_bound.specs.Sums.{nat_at}
 use Rattle.pc_tableau.specs.declared.step.Step.{Step}
 use Rattle.pc_tableau.specs.Tableau.{Tableau, Columns, range_of, end_of, turned, pivoted, entering, Way, turning, pivoting, turning_and_pivoting, Limit, deciding, after_step, does_step_fit, ended, wide, stalled, run}
 use Rattle.pc_tableau.specs.Standing.{entry_at, basic_at, value_at, HasRoom, IsMeant, IsStanding}
+use Rattle.pc_tableau.proofs.Sized.{sized_basic, sized_row}
 use Rattle.pc_tableau.proofs.Pivots.{IsPivot-pivoted}
 use Rattle.pc_tableau.proofs.Turns.{rows-turned}
 use Rattle.pc_tableau.proofs.Pivoted.{IsMeant-pivoted}
@@ -25,7 +26,7 @@ module _ (p : Program) (floors : List ℕ) (gain : ℕ → ℤ) (f : Columns) wh
       → HasRoom f c t (value_at f t r) (entry_at t r c) → IsStanding p floors gain f (pivoted c r t)
   IsStanding-pivoted c r t meant ranged lt room =
       let own : c < f.count = omega (arith, ranged, meant.sized.ranges) in
-      let pivot = IsPivot-pivoted f.count c r t lt meant.sized.rows meant.sized.aims room.positive meant.solved.weighed in
+      let pivot = IsPivot-pivoted f.count c r t lt (sized_row meant.sized) meant.sized.aim room.positive meant.solved.weighed in
       record {
         meant = IsMeant-pivoted p floors gain f c r t meant own (plain_column f c ranged) lt room.positive;
         feasible = IsFeasible-pivot f c r t (pivoted c r t) lt meant.sized meant.solved pivot room;
@@ -58,7 +59,7 @@ module _ (p : Program) (floors : List ℕ) (gain : ℕ → ℤ) (f : Columns) wh
         → HasRoom f c t (entry_at t r (basic_at t r) *ℤ pos u -ℤ value_at f t r) (neg_ℤ (entry_at t r c))
         → IsStanding p floors gain f (pivoted c r (turned f (basic_at t r) u t))
     leaves r u lt range there =
-        let meant = IsMeant-turned p floors gain f (basic_at t r) u t standing.meant (standing.meant.sized.basics r lt) range in
+        let meant = IsMeant-turned p floors gain f (basic_at t r) u t standing.meant (sized_basic standing.meant.sized r lt) range in
         IsStanding-pivoted c r (turned f (basic_at t r) u t) meant enters.ranged (rw (rows-turned f (basic_at t r) u t) lt)
         (HasRoom-turned f c r u t lt standing.meant.sized standing.meant.solved range own enters.free there)
 

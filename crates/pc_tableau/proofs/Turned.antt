@@ -9,7 +9,9 @@ use Rattle.pc_bound.specs.Sums.{int_at}
 use Rattle.pc_bound.proofs.SumBelow.{sum_below-more}
 use Rattle.pc_tableau.specs.Tableau.{TableauRow, Tableau, Columns, row_at, is_turned, is_helper, range_of, end_of, turned_numbers, turned}
 use Rattle.pc_tableau.specs.Relaxation.{columns_of}
-use Rattle.pc_tableau.specs.Standing.{entry_at, basic_at, IsSized, IsSolved, plain, IsMixed, place, miss, SolvesRows, IsMeant}
+use Rattle.pc_tableau.specs.Conditions.{IsSized}
+use Rattle.pc_tableau.specs.Standing.{entry_at, basic_at, IsSolved, plain, IsMixed, place, miss, SolvesRows, IsMeant}
+use Rattle.pc_tableau.proofs.Sized.{sized_basic, sized_row, sized_rows}
 use Rattle.pc_bound.proofs.Ring.{mul_assoc}
 use Rattle.pc_tableau.proofs.Products.{mul-neg, neg-mul, mul-sub, sub-mul}
 use Rattle.pc_tableau.proofs.Mixes.{IsMixed-signed}
@@ -57,24 +59,25 @@ module _ (f : Columns) (c u : ℕ) (t : Tableau) (own : c < f.count) (end : end_
   pub IsSized-turned : IsSized f after
   IsSized-turned = record {
     ranges = sized.ranges;
-    rows = λ i h. ap (λ (row : TableauRow). length row.numbers) (row_at-turned f c u t i (below i h))
-        ∙ length-turned_row f c u (row_at t i) own (sized.rows i (below i h));
-    basics = λ i h. rw (basic_at-turned i (below i h)) (sized.basics i (below i h));
-    turns = length-set t.turned c (not (is_turned t c)) ∙ sized.turns;
-    aims = length-set t.aim c (neg_ℤ (int_at t.aim c)) ∙ sized.aims;
+    rows = sized_rows f after
+        (λ i h. ap (λ (row : TableauRow). length row.numbers) (row_at-turned f c u t i (below i h))
+        ∙ length-turned_row f c u (row_at t i) own (sized_row sized i (below i h)))
+        (λ i h. rw (basic_at-turned i (below i h)) (sized_basic sized i (below i h)));
+    turned = length-set t.turned c (not (is_turned t c)) ∙ sized.turned;
+    aim = length-set t.aim c (neg_ℤ (int_at t.aim c)) ∙ sized.aim;
   }
 
   -- ---- each row solves for its basic column
   none_kept : (i k : ℕ) → i < length t.rows → k < f.count → entry_at t i k ≡ pos 0 → entry_at after i k ≡ pos 0
   none_kept i k h lt none =
-      entry_at-turned i k h ∙ signed_none (is_own i) (int_at (new_numbers i) k) (at_none f c u own (row_at t i).numbers (sized.rows i h) k lt none)
+      entry_at-turned i k h ∙ signed_none (is_own i) (int_at (new_numbers i) k) (at_none f c u own (row_at t i).numbers (sized_row sized i h) k lt none)
 
   pub own_entry : (i : ℕ) → i < length t.rows → entry_at after i (basic_at t i) ≡ entry_at t i (basic_at t i)
   own_entry i h = by_same (basic_at t i) c same other
     where
       same : basic_at t i ≡ c → entry_at after i (basic_at t i) ≡ entry_at t i (basic_at t i)
       same e =
-          let column = at_column f c u own (row_at t i).numbers (sized.rows i h) in
+          let column = at_column f c u own (row_at t i).numbers (sized_row sized i h) in
           entry_at-turned i (basic_at t i) h
           ∙ ap (λ test. signed test (int_at (new_numbers i) (basic_at t i))) (eq-eqb (basic_at t i) c e)
           ∙ ap (λ k. neg_ℤ (int_at (new_numbers i) k)) e ∙ ap neg_ℤ column ∙ twice (entry_at t i c) ∙ ap (entry_at t i) (sym e)
@@ -86,20 +89,20 @@ module _ (f : Columns) (c u : ℕ) (t : Tableau) (own : c < f.count) (end : end_
       other ne =
           entry_at-turned i (basic_at t i) h
           ∙ ap (λ test. signed test (int_at (new_numbers i) (basic_at t i))) (ne_eqb (basic_at t i) c ne)
-          ∙ at_other f c u own (row_at t i).numbers (sized.rows i h) (basic_at t i) (sized.basics i h) ne
+          ∙ at_other f c u own (row_at t i).numbers (sized_row sized i h) (basic_at t i) (sized_basic sized i h) ne
 
   pub IsSolved-turned : IsSolved t → IsSolved after
   IsSolved-turned solved = record {
     positive = λ i h. rw (basic_at-turned i (below i h), own_entry i (below i h)) (solved.positive i (below i h));
     alone = λ i k h j apart. rw (basic_at-turned k (below k j))
-        (none_kept i (basic_at t k) (below i h) (sized.basics k (below k j)) (solved.alone i k (below i h) (below k j) apart));
+        (none_kept i (basic_at t k) (below i h) (sized_basic sized k (below k j)) (solved.alone i k (below i h) (below k j) apart));
     aimed = λ k h. rw (basic_at-turned k (below k h)) (aimed k (below k h));
     weighed = solved.weighed;
   }
     where
       aimed : (k : ℕ) → k < length t.rows → int_at after.aim (basic_at t k) ≡ pos 0
       aimed k h = by_same (basic_at t k) c
-          (λ e. ap (int_at after.aim) e ∙ aim-column f c u t (omega (arith, own, sized.aims))
+          (λ e. ap (int_at after.aim) e ∙ aim-column f c u t (omega (arith, own, sized.aim))
           ∙ signed_none true (int_at t.aim c) (ap (int_at t.aim) (sym e) ∙ solved.aimed k h))
           (λ ne. aim-other f c u t (basic_at t k) ne ∙ solved.aimed k h)
 
@@ -110,7 +113,7 @@ module _ (f : Columns) (c u : ℕ) (t : Tableau) (own : c < f.count) (end : end_
     where
       same : k ≡ c → plain after new k ≡ plain t row k
       same e = subst (λ n. plain after new n ≡ plain t row n) (sym e)
-          (rw (is_turned-column f c u t (omega (arith, own, sized.turns)), column) (signed_not (is_turned t c) (int_at row c)))
+          (rw (is_turned-column f c u t (omega (arith, own, sized.turned)), column) (signed_not (is_turned t c) (int_at row c)))
 
       other : (k ≡ c → ⊥) → plain after new k ≡ plain t row k
       other ne = rw (is_turned-other f c u t k ne, others k lt ne) refl
@@ -119,8 +122,8 @@ module _ (f : Columns) (c u : ℕ) (t : Tableau) (own : c < f.count) (end : end_
   plain_signed i k h lt =
       ap (signed (is_turned after k)) (entry_at-turned i k h)
       ∙ signed_swap (is_turned after k) (is_own i) (int_at (new_numbers i) k)
-      ∙ ap (signed (is_own i)) (plain_kept (row_at t i).numbers (new_numbers i) (at_column f c u own (row_at t i).numbers (sized.rows i h))
-      (at_other f c u own (row_at t i).numbers (sized.rows i h)) k lt)
+      ∙ ap (signed (is_own i)) (plain_kept (row_at t i).numbers (new_numbers i) (at_column f c u own (row_at t i).numbers (sized_row sized i h))
+      (at_other f c u own (row_at t i).numbers (sized_row sized i h)) k lt)
 
   module _ (p : Program) (gain : ℕ → ℤ) (count : f.count ≡ columns_of p) where
     column : (k : ℕ) → k < columns_of p → k < f.count
@@ -134,18 +137,18 @@ module _ (f : Columns) (c u : ℕ) (t : Tableau) (own : c < f.count) (end : end_
     pub aim_mixed-turned : IsMixed p t.weight gain (plain t t.aim) → IsMixed p t.weight gain (plain after after.aim)
     aim_mixed-turned mixed =
         IsMixed-signed p gain false t.weight t.weight (plain t t.aim) (plain after after.aim)
-        (λ k lt. plain_kept t.aim after.aim (aim-column f c u t (omega (arith, own, sized.aims))) (λ m less ne. aim-other f c u t m ne) k (column k lt)) refl mixed
+        (λ k lt. plain_kept t.aim after.aim (aim-column f c u t (omega (arith, own, sized.aim))) (λ m less ne. aim-other f c u t m ne) k (column k lt)) refl mixed
 
   -- ---- solutions
   module _ (y : ℕ → ℤ) where
     place_column : place f after y c ≡ neg_ℤ (place f t y c) -ℤ pos u *ℤ y f.count
-    place_column = rw (is_turned-column f c u t (omega (arith, own, sized.turns)), end) (placed_again (is_turned t c) (y c) (pos u) (y f.count))
+    place_column = rw (is_turned-column f c u t (omega (arith, own, sized.turned)), end) (placed_again (is_turned t c) (y c) (pos u) (y f.count))
 
     place_other : (k : ℕ) → (k ≡ c → ⊥) → place f after y k ≡ place f t y k
     place_other k ne = rw (is_turned-other f c u t k ne) refl
 
     place_value : place f t y f.count ≡ y f.count
-    place_value = rw (get_or_past t.turned f.count false (omega (arith, sized.turns))) refl
+    place_value = rw (get_or_past t.turned f.count false (omega (arith, sized.turned))) refl
 
     pub miss_kept : (row : List ℤ) → length row ≡ f.count + 1 → miss f.count (turned_numbers f c u row) (place f after y) ≡ miss f.count row (place f t y)
     miss_kept row long =
@@ -169,7 +172,7 @@ module _ (f : Columns) (c u : ℕ) (t : Tableau) (own : c < f.count) (end : end_
 
     pub SolvesRows-turned : SolvesRows f after y → SolvesRows f t y
     SolvesRows-turned solves i h =
-        sym (miss_kept (row_at t i).numbers (sized.rows i h))
+        sym (miss_kept (row_at t i).numbers (sized_row sized i h))
         ∙ miss-signed f.count (is_own i) (new_numbers i) (row_at after i).numbers (place f after y) (λ k. entry_at-turned i k h)
         (solves i (omega (arith, h, rows-turned f c u t)))
 

@@ -13,7 +13,7 @@ use Rattle.pc_tableau.specs.Tableau.{Tableau, Columns, range_of, entering}
 use Rattle.pc_tableau.specs.Relaxation.{slack_of, helper_of, multipliers, IsFrame}
 use Rattle.pc_tableau.specs.Standing.{place, IsStanding, gain_two}
 use Rattle.pc_tableau.proofs.Products.{mul-zero}
-use Rattle.pc_tableau.proofs.Points.{IsPoint, HasPoint-exists}
+use Rattle.pc_tableau.proofs.Points.{IsPoint}
 use Rattle.pc_tableau.proofs.Shares.{spread}
 use Rattle.pc_tableau.proofs.Ends.{at-low, at-high, cell-low, cell-high, slack-low, slack-high}
 use Rattle.pc_tableau.proofs.Reached.{counts, length-counts, count_is, total_is, bound_at-end}
@@ -63,7 +63,7 @@ module _ (p : Program) (floors caps : List ℕ) (f : Columns) (t : Tableau) (pro
       (at-low p floors caps f t program box frame standing.meant.sized standing.meant.solved d z point standing.feasible (helper_of p j) 0 (helper_counted j lt) (helper_range j lt))
       (at-high p floors caps f t program box frame standing.meant.sized standing.meant.solved d z point standing.feasible (helper_of p j) 0 (helper_counted j lt) (helper_range j lt))
 
-  abbrev found : List ℕ
+  abbrev pub found : List ℕ
   found = counts p floors caps (gain_two p) f t program box frame standing d z point
 
   pub IsRelaxed-found : IsRelaxed p floors caps d found
@@ -113,14 +113,3 @@ module _ (p : Program) (floors caps : List ℕ) (f : Columns) (t : Tableau) (pro
       sum_below-same (constraints_of p) (λ j. by j *ℤ place f t z (helper_of p j)) (λ j. pos 0)
       (λ j lt. ap (λ n. by j *ℤ n) (helper_none j lt) ∙ mul-zero (by j)) ∙ sum_below-zeros (constraints_of p) in
       omega (arith, ints, whole, none)
-
-pub vertex : (p : Program) (floors caps : List ℕ) (f : Columns) (t : Tableau) → IsProgram p → IsBox p floors caps → IsFrame p floors caps f
-    → f.helper ≡ Some 0 → IsStanding p floors (gain_two p) f t → entering f t ≡ None
-    → (d : ℕ) × (counts : List ℕ) × IsRelaxed p floors caps d counts × (t.weight *ℤ worth p counts ≡ pos d *ℤ raw_bound p floors caps (multipliers p t t.weight))
-vertex p floors caps f t program box frame helper standing over =
-    let there = HasPoint-exists f t standing.meant.sized standing.meant.solved in (
-      there.den,
-      found p floors caps f t program box frame standing there.den there.numbers there.point helper,
-      IsRelaxed-found p floors caps f t program box frame standing there.den there.numbers there.point helper,
-      worth-found p floors caps f t program box frame standing there.den there.numbers there.point helper over,
-    )

@@ -3,20 +3,22 @@ use Rattle.std.proofs.Common.{◌≡◌, ℕ, zero, suc, ◌+◌, ◌-◌, ◌<�
 use Rattle.std.specs.Prelude.{ℤ, pos, negsuc, neg_ℤ, int_lt, ◌+ℤ◌, ◌-ℤ◌, ◌*ℤ◌, ◌≤ℤ◌, ◌<ℤ◌, slice_index_or}
 use Rattle.std.specs.List.{list_all}
 use Rattle.std.proofs.lemmas.Int.{ints, by_lt_z}
-use Rattle.std.proofs.lemmas.Bool.{leb-true, le-leb, lt-leb}
+use Rattle.std.proofs.lemmas.Bool.{leb-true, le-leb, lt-leb, not-true}
 use Rattle.std.proofs.Math.IntN.{*ℤ_comm}
 use Rattle.pc_bound.proofs.Ring.{mul_mono, mul_anti}
 use Rattle.pc_tableau.proofs.Frames.{IsFrame-ranges}
 use Rattle.std.proofs.lemmas.List.{get_or-replicate}
 use Rattle.pc_bound.specs.declared.program.Program.{Program}
-use Rattle.pc_bound.specs.Sums.{sum_below, nat_at, int_at}
+use Rattle.pc_bound.specs.Sums.{sum_below, int_at}
 use Rattle.pc_bound.specs.Allocation.{cells_of, constraints_of, worth, IsBox, IsProgram}
 use Rattle.pc_bound.specs.Bound.{raw_bound, without_gain}
-use Rattle.pc_bound.proofs.SumBelow.{sum_below-same, sum_below-suc, sum_below-zeros, sum_below_mono}
+use Rattle.pc_bound.proofs.Duality.{worth-none}
+use Rattle.pc_bound.proofs.SumBelow.{sum_below-suc, sum_below-zeros, sum_below_mono}
 use Rattle.pc_tableau.specs.Tableau.{TableauRow, Tableau, Columns, no_row, is_turned, is_helper, value_of, entering}
 use Rattle.pc_tableau.specs.Relaxation.{slack_of, helper_of, is_short, phase_one, multipliers, has_helper, IsFrame}
 use Rattle.pc_tableau.specs.Standing.{entry_at, basic_at, value_at, plain, place, IsStanding, gain_one}
-use Rattle.pc_tableau.proofs.Products.{mul-zero, zero-mul, minus_one-mul, neg-mul, sub-mul, mul_positive, mul_not_negative, lt_cancel}
+use Rattle.pc_tableau.proofs.Sized.{sized_basic}
+use Rattle.pc_tableau.proofs.Products.{mul-zero, minus_one-mul, neg-mul, sub-mul, mul_positive, mul_not_negative, lt_cancel}
 use Rattle.pc_tableau.proofs.Pivots.{by_same}
 use Rattle.pc_tableau.proofs.Points.{IsPoint, HasPoint-exists, number-low}
 use Rattle.pc_tableau.proofs.Ends.{aim-none}
@@ -44,12 +46,6 @@ sum_below-falls (suc n) c x lt falls less = by_same c n here (λ ne. before ne (
         let split = sum_below-suc n x in
         omega (arith, ints, rest, last, split)
 
-none_worth : (p : Program) (counts : List ℕ) → worth (without_gain p) counts ≡ pos 0
-none_worth p counts =
-    sum_below-same (cells_of p) (λ i. int_at (without_gain p).gain i *ℤ pos (nat_at counts i)) (λ i. pos 0)
-    (λ i lt. ap (λ n. n *ℤ pos (nat_at counts i)) (get_or-replicate (cells_of p) i (pos 0) (pos 0) lt) ∙ zero-mul (pos (nat_at counts i)))
-    ∙ sum_below-zeros (cells_of p)
-
 -- ---- a row that fails a test
 
 record Fails {X : Type 0} (test : X → Bool) (xs : List X) (other : X) : Type 0 where
@@ -72,10 +68,6 @@ both_of : (a b : Bool) → not (a && b) ≡ false → (a ≡ true) × (b ≡ tru
 both_of true true e = (refl, refl)
 both_of true false e = absurd cc
 both_of false b e = absurd cc
-
-negated : (b : Bool) → not b ≡ true → b ≡ false
-negated true e = absurd cc
-negated false e = refl
 
 -- ---- what a helper adds
 
@@ -165,7 +157,7 @@ module _ (p : Program) (floors caps : List ℕ) (gain : ℕ → ℤ) (f : Column
         let behind = leb-true (length f.ranges) (basic_at t r) is in
         let long = frame.ranges in
         let many = frame.count in
-        let inside = standing.meant.sized.basics r lt in
+        let inside = sized_basic standing.meant.sized r lt in
         (omega (arith, behind, long), omega (arith, behind, long, many, inside))
 
     some : pos 0 <ℤ z (basic_at t r)
@@ -190,7 +182,7 @@ module _ (p : Program) (floors caps : List ℕ) (gain : ℕ → ℤ) (f : Column
         let whole = bound_at-end p floors caps gain f t program box frame standing d z point (without_gain p).gain (pos 1) over same in
         let parts = sum_below-falls (constraints_of p) own (λ j. by j *ℤ at (helper_of p j)) own_is.1 part_low part_less in
         let none : pos 1 *ℤ worth (without_gain p) (counts p floors caps gain f t program box frame standing d z point) ≡ pos 0 =
-        ap (λ n. pos 1 *ℤ n) (none_worth p (counts p floors caps gain f t program box frame standing d z point)) ∙ mul-zero (pos 1) in
+        ap (λ n. pos 1 *ℤ n) (worth-none p (counts p floors caps gain f t program box frame standing d z point)) ∙ mul-zero (pos 1) in
         scaled_below d (raw_bound (without_gain p) floors caps (multipliers p t (pos 1))) (omega (arith, ints, whole, parts, none))
 
 -- ---- all of it
@@ -212,7 +204,7 @@ void_of-helper p floors caps t program box standing over has =
     let f = phase_one p floors caps in
     let there = HasPoint-exists f t standing.meant.sized standing.meant.solved in
     let held = Fails-list_all (λ (row : TableauRow). not (is_helper f row.basic && int_lt (pos 0) (value_of f row))) t.rows no_row
-    (negated (list_all (λ (row : TableauRow). not (is_helper f row.basic && int_lt (pos 0) (value_of f row))) t.rows) has) in
+    (not-true (list_all (λ (row : TableauRow). not (is_helper f row.basic && int_lt (pos 0) (value_of f row))) t.rows) has) in
     let both = both_of (is_helper f (basic_at t held.place)) (int_lt (pos 0) (value_at f t held.place)) held.fails in
     below-held p floors caps (gain_one p floors) f t program box (IsFrame-ranges p floors caps None) standing there.den there.numbers there.point
     refl over (gain_of_cell p floors) (gain_low p floors) held.place held.inside both.0 both.1

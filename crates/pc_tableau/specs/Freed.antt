@@ -1,10 +1,8 @@
 -- What a tableau keeps whose objective row is not yet freed of the basic columns.
-use Rattle.std.specs.Prelude.{◌≡◌, ℕ, ◌<◌, true, false, ℤ, pos, negsuc, ◌<ℤ◌, List, length, None}
+use Rattle.std.specs.Prelude.{◌≡◌, ℕ, ◌<◌, ℤ, pos, ◌<ℤ◌, List, length}
 use Rattle.pc_bound.specs.declared.program.Program.{Program}
-use Rattle.pc_bound.specs.Allocation.{constraints_of}
-use Rattle.pc_tableau.specs.Tableau.{Tableau, Columns, row_at, is_turned, is_helper, range_of}
-use Rattle.pc_tableau.specs.Relaxation.{columns_of, SolvesAll}
-use Rattle.pc_tableau.specs.Standing.{entry_at, basic_at, IsSized, plain, IsMixed, SolvesRows, IsFeasible}
+use Rattle.pc_tableau.specs.Tableau.{Tableau, Columns}
+use Rattle.pc_tableau.specs.Standing.{entry_at, basic_at, IsMeantAs, IsFeasible}
 
 -- a basic column has a positive entry in its own row and 0 in all others
 pub record IsSolvedRows (t : Tableau) : Type 0 where
@@ -13,16 +11,8 @@ pub record IsSolvedRows (t : Tableau) : Type 0 where
   pub weighed : pos 0 <ℤ t.weight
 
 -- as `IsMeant`, where the objective row may have any numbers at basic columns
-pub record IsMeantRows (p : Program) (floors : List ℕ) (gain : ℕ → ℤ) (f : Columns) (t : Tableau) : Type 0 where
-  pub sized : IsSized f t
-  pub solved : IsSolvedRows t
-  pub rows : length t.rows ≡ constraints_of p
-  pub count : f.count ≡ columns_of p
-  pub rows_mixed : (r : ℕ) → r < length t.rows → IsMixed p (pos 0) gain (plain t (row_at t r).numbers)
-  pub aim_mixed : IsMixed p t.weight gain (plain t t.aim)
-  pub endless : (k : ℕ) → range_of f k ≡ None → is_turned t k ≡ false
-  pub helpers : (r : ℕ) → r < length t.rows → is_helper f (basic_at t r) ≡ true → f.helper ≡ None → gain (basic_at t r) ≡ negsuc 0
-  pub back : (y : ℕ → ℤ) → SolvesRows f t y → SolvesAll p floors y
+abbrev pub IsMeantRows : Program → List ℕ → (ℕ → ℤ) → Columns → Tableau → Type 0
+IsMeantRows = IsMeantAs IsSolvedRows
 
 -- the same, with each basic column within its range
 pub record IsStandingRows (p : Program) (floors : List ℕ) (gain : ℕ → ℤ) (f : Columns) (t : Tableau) : Type 0 where

@@ -1,11 +1,12 @@
 -- What the rows of a relaxation keep, whatever steps were taken.
-use Rattle.std.specs.Prelude.{◌≡◌, ℕ, ◌+◌, ◌-◌, ◌<◌, ◌≤◌, ◌&&◌, nat_le, nat_lt, true, false, ⊤, ℤ, pos, negsuc, neg_ℤ, ◌+ℤ◌, ◌-ℤ◌, ◌*ℤ◌, ◌<ℤ◌, ◌≤ℤ◌, cond, List, length, None, MatchOption}
+use Rattle.std.specs.Prelude.{◌≡◌, ℕ, ◌+◌, ◌-◌, ◌<◌, ◌&&◌, nat_le, nat_lt, true, false, ⊤, ℤ, pos, negsuc, neg_ℤ, ◌+ℤ◌, ◌-ℤ◌, ◌*ℤ◌, ◌<ℤ◌, ◌≤ℤ◌, cond, List, length, None, MatchOption}
 use Rattle.pc_model.specs.Places.{has_bit}
 use Rattle.pc_bound.specs.declared.program.Program.{Program}
 use Rattle.pc_bound.specs.Sums.{sum_below, nat_at, int_at}
 use Rattle.pc_bound.specs.Allocation.{cells_of, constraints_of}
 use Rattle.pc_tableau.specs.Tableau.{Tableau, Columns, row_at, is_turned, is_helper, range_of, end_of}
 use Rattle.pc_tableau.specs.Relaxation.{slack_of, helper_of, columns_of, is_short, SolvesAll}
+use Rattle.pc_tableau.specs.Conditions.{IsSized}
 
 -- the number of a row at a column, the column that is basic in it, and its value
 abbrev pub entry_at : Tableau → ℕ → ℕ → ℤ
@@ -17,15 +18,7 @@ basic_at t r = (row_at t r).basic
 abbrev pub value_at : Columns → Tableau → ℕ → ℤ
 value_at f t r = entry_at t r f.count
 
--- ---- sizes, and where a tableau stands
-
--- a number per column and a value in each row, and an entry per column elsewhere
-pub record IsSized (f : Columns) (t : Tableau) : Type 0 where
-  pub ranges : length f.ranges ≤ f.count
-  pub rows : (r : ℕ) → r < length t.rows → length (row_at t r).numbers ≡ f.count + 1
-  pub basics : (r : ℕ) → r < length t.rows → basic_at t r < f.count
-  pub turns : length t.turned ≡ f.count
-  pub aims : length t.aim ≡ f.count
+-- ---- where a tableau stands
 
 -- a basic column has a positive entry in its own row and 0 in all others and in the objective row
 pub record IsSolved (t : Tableau) : Type 0 where
@@ -76,10 +69,11 @@ SolvesRows f t y = (r : ℕ) → r < length t.rows → miss f.count (row_at t r)
 -- ---- all of it
 
 -- the rows and the objective row mean what the first ones of a program do: their numbers are mixed of the constraints; a column
--- without end is not turned; a helper without end that is basic has the gain -1; and what solves the rows solves the constraints
-pub record IsMeant (p : Program) (floors : List ℕ) (gain : ℕ → ℤ) (f : Columns) (t : Tableau) : Type 0 where
+-- without end is not turned; a helper without end that is basic has the gain -1; and what solves the rows solves the constraints.
+-- The first parameter says how far the rows are solved for their basic columns
+pub record IsMeantAs (IsSolvedAs : Tableau → Type 0) (p : Program) (floors : List ℕ) (gain : ℕ → ℤ) (f : Columns) (t : Tableau) : Type 0 where
   pub sized : IsSized f t
-  pub solved : IsSolved t
+  pub solved : IsSolvedAs t
   pub rows : length t.rows ≡ constraints_of p
   pub count : f.count ≡ columns_of p
   pub rows_mixed : (r : ℕ) → r < length t.rows → IsMixed p (pos 0) gain (plain t (row_at t r).numbers)
@@ -87,6 +81,10 @@ pub record IsMeant (p : Program) (floors : List ℕ) (gain : ℕ → ℤ) (f : C
   pub endless : (k : ℕ) → range_of f k ≡ None → is_turned t k ≡ false
   pub helpers : (r : ℕ) → r < length t.rows → is_helper f (basic_at t r) ≡ true → f.helper ≡ None → gain (basic_at t r) ≡ negsuc 0
   pub back : (y : ℕ → ℤ) → SolvesRows f t y → SolvesAll p floors y
+
+-- solved in the objective row too
+abbrev pub IsMeant : Program → List ℕ → (ℕ → ℤ) → Columns → Tableau → Type 0
+IsMeant = IsMeantAs IsSolved
 
 -- the same, with each basic column within its range
 pub record IsStanding (p : Program) (floors : List ℕ) (gain : ℕ → ℤ) (f : Columns) (t : Tableau) : Type 0 where

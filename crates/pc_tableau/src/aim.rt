@@ -1,13 +1,12 @@
-ghost use Rattle.std.specs.Prelude.{◌≡◌, ◌≤ℤ◌, ◌<ℤ◌, ◌<◌, ◌≤◌, ◌*ℤ◌, ◌&&◌, ◌∷◌, ℤ, pos, unsigned_abs, map, length, All, IsTrue};
+ghost use Rattle.std.specs.Prelude.{◌≡◌, ◌≤ℤ◌, ◌<ℤ◌, ◌<◌, ◌≤◌, ◌*ℤ◌, ◌&&◌, ◌∷◌, ℤ, pos, map, length, All, IsTrue};
 ghost use Rattle.std.specs.Int.{int_div_euclid};
-ghost use Rattle.pc_num.specs.Divisor.{IsRowGcd};
 ghost use Rattle.pc_bound.specs.Bound.{IsFit};
 ghost use Rattle.pc_tableau.specs.Numbers.{common, does_fit, does_combined_fit};
 ghost use Rattle.pc_tableau.specs.Tableau.{freed_aim, does_freed_aim_fit};
 ghost use Rattle.pc_tableau.specs.Conditions.{aim_alone, divided, freed_entries, freed_weight};
 
-use crate::numbers::{combine, fit_mul};
-use pc_num::gcd;
+use crate::numbers::combine;
+use pc_num::{divide, fit_mul, gcd, row_divisor};
 
 /// Frees the objective row of a column by a row that has an entry there. It answers false where a number does not fit, and
 /// the objective row and its weight are then of no more use.
@@ -88,31 +87,7 @@ fn divisor_of(weight: i128, entries: &[i128]) -> i128
     ensures value { result ≡ pos (common (weight ∷ entries.now)) }
     ensures fits { IsFit result }
 {
-    gcd(weight, divisor_of_entries(entries))
-}
-
-fn divisor_of_entries(entries: &[i128]) -> i128
-    requires { All IsFit entries.now }
-    ensures common { IsRowGcd entries.now (unsigned_abs result) }
-    ensures fits { IsFit result }
-{
-    let mut divisor: i128 = 0;
-    for entry in entries {
-        divisor = gcd(divisor, *entry);
-    }
-    divisor
-}
-
-fn divide(entries: &mut [i128], divisor: i128)
-    requires entries { All IsFit entries.old }
-    requires fits { IsFit divisor }
-    requires divisor { pos 0 <ℤ divisor }
-    ensures divided { entries.new ≡ map (λ a. int_div_euclid a divisor) entries.old }
-    ensures fits { All IsFit entries.new }
-{
-    for entry in entries.iter_mut() {
-        *entry = quotient(*entry, divisor);
-    }
+    gcd(weight, row_divisor(entries))
 }
 
 fn quotient(number: i128, divisor: i128) -> i128

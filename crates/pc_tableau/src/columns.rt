@@ -7,10 +7,10 @@ use std::marker::Model;
 /// The columns of a phase: the ranges of those that are no helpers, the number of all, and the range of a helper, if it has
 /// an end.
 #[derive(Drop)]
-pub(crate) struct Columns {
-    pub(crate) ranges: Seq<u64>,
-    pub(crate) count: usize,
-    pub(crate) helper: Option<u64>,
+pub struct Columns {
+    pub ranges: Seq<u64>,
+    pub count: usize,
+    pub helper: Option<u64>,
 }
 
 impl Model for Columns {

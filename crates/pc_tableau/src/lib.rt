@@ -6,7 +6,6 @@ mod change;
 mod choice;
 mod columns;
 mod end_laws;
-mod fractions;
 mod laws;
 mod limit;
 mod numbers;
@@ -20,11 +19,15 @@ mod tableau;
 mod tests;
 mod whole_laws;
 
+pub use columns::Columns;
 pub use end_laws::{ends_are_relaxed, helpers_left_mean_void, short_constraints_mean_void};
 pub use laws::{
     limits_leave_room, pivots_keep_meaning, pivots_keep_standing, runs_keep_standing,
     steps_keep_standing, turns_keep_meaning, turns_keep_standing,
 };
+pub use row::Row;
+pub use run::{Run, take_steps};
 pub use start_laws::{first_rows_stand, freed_rows_stand, second_phase_stands};
 pub use step::Step;
-pub use whole_laws::{vertices_are_greatest, voids_hold_nothing};
+pub use tableau::Tableau;
+pub use whole_laws::{vertices_are_greatest, vertices_stand, voids_hold_nothing};

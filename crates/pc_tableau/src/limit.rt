@@ -7,9 +7,9 @@ ghost use Rattle.pc_tableau.specs.Conditions.{IsSizedRow, IsFitRow};
 ghost use Rattle.pc_tableau.specs.Limits.{IsSoundFraction, does_upper_fit, does_upper_limit_fit, with_upper_limit, own_limit};
 
 use crate::columns::Columns;
-use crate::fractions::is_less;
-use crate::numbers::{fit_mul, fit_sub};
 use crate::row::{Row, negative};
+use pc_num::{compare_fractions, fit_mul, fit_sub};
+use std::cmp::Ordering;
 use std::marker::Model;
 
 /// What a step does: it turns the entering column, or pivots in a row, or turns the row's basic column and then pivots there.
@@ -43,13 +43,11 @@ fn is_after(a: &Limit, b: &Limit) -> bool
     requires b { IsSoundFraction b.now }
     ensures { result ≡ is_after a.now b.now }
 {
-    if is_less(b.over, b.under, a.over, a.under) {
-        return true;
+    match compare_fractions(a.over, a.under, b.over, b.under) {
+        Ordering::Greater => true,
+        Ordering::Equal => b.column < a.column,
+        Ordering::Less => false,
     }
-    if is_less(a.over, a.under, b.over, b.under) {
-        return false;
-    }
-    b.column < a.column
 }
 
 fn lesser(a: Limit, b: Limit) -> Limit

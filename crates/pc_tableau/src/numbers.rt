@@ -2,25 +2,7 @@ ghost use Rattle.std.specs.Prelude.{◌≡◌, ◌-ℤ◌, ◌*ℤ◌, length, A
 ghost use Rattle.pc_bound.specs.Bound.{IsFit};
 ghost use Rattle.pc_tableau.specs.Numbers.{combined, does_combined_fit, primitive};
 
-/// The product, or none where it does not fit.
-pub(crate) fn fit_mul(a: i128, b: i128) -> Option<i128>
-    ensures { SomeIff result (IsFit (a *ℤ b)) (a *ℤ b) }
-{
-    match a.checked_mul(b) {
-        Some(product) if product != i128::MIN => Some(product),
-        _ => None,
-    }
-}
-
-/// The difference, or none where it does not fit.
-pub(crate) fn fit_sub(a: i128, b: i128) -> Option<i128>
-    ensures { SomeIff result (IsFit (a -ℤ b)) (a -ℤ b) }
-{
-    match a.checked_sub(b) {
-        Some(rest) if rest != i128::MIN => Some(rest),
-        _ => None,
-    }
-}
+use pc_num::{fit_mul, fit_sub};
 
 /// `p` times the one number minus `t` times the other, or none where a product or the difference does not fit.
 fn mixed(p: i128, a: i128, t: i128, b: i128) -> Option<i128>
@@ -64,22 +46,6 @@ pub(crate) fn make_primitive(row: &mut [i128])
 #[cfg(test)]
 mod tests {
     use super::*;
-
-    #[test]
-    fn products_and_differences(rt: HostRuntime) {
-        let cases: [(i128, i128, Option<i128>, Option<i128>); 6] = [
-            (3, -4, Some(-12), Some(7)),
-            (0, i128::MAX, Some(0), Some(-i128::MAX)),
-            (-i128::MAX, 1, Some(-i128::MAX), None),
-            (-(1 << 126), 2, None, Some(-(1 << 126) - 2)),
-            (1 << 126, 2, None, Some((1 << 126) - 2)),
-            (-2, i128::MAX, None, None),
-        ];
-        for (a, b, product, difference) in cases {
-            assert_eq!(rt; fit_mul(a, b), product);
-            assert_eq!(rt; fit_sub(a, b), difference);
-        }
-    }
 
     #[test]
     fn rows(rt: HostRuntime) {

@@ -6,14 +6,15 @@ ghost use Rattle.pc_tableau.specs.Tableau.{turned_numbers, turned_row, freed_row
 ghost use Rattle.pc_tableau.specs.Conditions.{IsSizedRow, does_turned_row_fit};
 
 use crate::columns::Columns;
-use crate::numbers::{combine, fit_mul, fit_sub, make_primitive};
+use crate::numbers::{combine, make_primitive};
+use pc_num::{fit_mul, fit_sub};
 use std::marker::Model;
 
 /// An entry per column and then the row's value, and the column that is basic in it.
 #[derive(Drop)]
-pub(crate) struct Row {
-    pub(crate) numbers: Vec<i128>,
-    pub(crate) basic: usize,
+pub struct Row {
+    pub numbers: Vec<i128>,
+    pub basic: usize,
 }
 
 impl Model for Row {

@@ -13,14 +13,14 @@ use pc_num::Memory;
 
 /// How the steps of a phase end: no column enters, or the next step is wide, or no further step may be taken.
 #[derive(Drop)]
-pub(crate) enum Run {
+pub enum Run {
     Ended(usize, Seq<Step>, Tableau),
     Wide(Seq<Step>),
     Stalled(Seq<Step>),
 }
 
 /// The steps from a tableau, of which that many may be taken, after those that were taken.
-pub(crate) fn take_steps(
+pub fn take_steps(
     columns: &Columns,
     start: Tableau,
     most: usize,

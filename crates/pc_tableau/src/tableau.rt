@@ -9,11 +9,11 @@ use std::marker::Model;
 
 /// The rows, which columns are turned, and the objective row: an entry per column, and its weight.
 #[derive(Drop)]
-pub(crate) struct Tableau {
-    pub(crate) rows: Vec<Row>,
-    pub(crate) turned: Vec<bool>,
-    pub(crate) aim: Vec<i128>,
-    pub(crate) weight: i128,
+pub struct Tableau {
+    pub rows: Vec<Row>,
+    pub turned: Vec<bool>,
+    pub aim: Vec<i128>,
+    pub weight: i128,
 }
 
 impl Model for Tableau {
@@ -45,7 +45,7 @@ impl Tableau {
 
     /// Frees the objective row of a column by a row that has an entry there. It answers false where a number does not fit, and
     /// the tableau is then of no more use.
-    pub(crate) fn free_aim(&mut self, column: usize, at: usize) -> bool
+    pub fn free_aim(&mut self, column: usize, at: usize) -> bool
         requires at { at < length self.old.rows }
         requires sized { length self.old.aim < length (row_at self.old at).numbers }
         requires column { column < length self.old.aim }

@@ -1,11 +1,17 @@
-ghost use Rattle.std.specs.Prelude.{◌≡◌, ℕ, ◌<ℤ◌, ◌*ℤ◌, List, ℤ, pos};
+ghost use Rattle.std.specs.Prelude.{◌≡◌, ℕ, ◌<ℤ◌, ◌*ℤ◌, List, ℤ, pos, None};
 ghost use Rattle.pc_model.specs.declared.tree.Mult.{Mult};
 ghost use Rattle.pc_bound.specs.declared.program.Program.{Program};
 ghost use Rattle.pc_bound.specs.Allocation.{worth, IsRelaxed, IsBox, IsProgram};
 ghost use Rattle.pc_bound.specs.Bound.{raw_bound, without_gain};
 ghost use Rattle.pc_tableau.specs.declared.step.Step.{Step};
-ghost use Rattle.pc_tableau.specs.Tableau.{Tableau};
-ghost use Rattle.pc_tableau.specs.Relaxation.{ending, at_vertex, at_void, multipliers};
+ghost use Rattle.pc_tableau.specs.Tableau.{Tableau, entering};
+ghost use Rattle.pc_tableau.specs.Relaxation.{phase_two, ending, at_vertex, at_void, multipliers};
+ghost use Rattle.pc_tableau.specs.Standing.{IsStanding, gain_two};
+
+/// The tableau in which the steps of a box end stands, and no column enters it.
+pub fn vertices_stand()
+    ensures { (p : Program) (floors caps : List ℕ) (steps : List Step) (t : Tableau) → IsProgram p → IsBox p floors caps → ending p floors caps ≡ at_vertex steps t → IsStanding p floors (gain_two p) (phase_two p floors caps) t × (entering (phase_two p floors caps) t ≡ None) }
+{}
 
 /// The vertex in which the steps of a box end is a relaxed allocation, whose worth is the bound of the multipliers there.
 pub fn vertices_are_greatest()

@@ -1,14 +1,11 @@
 -- What is read between quotes is the name whose bytes stand there, each quote twice.
 use Rattle.std.proofs.Common.{◌≡◌, ℕ, suc, ◌+◌, ◌*◌, ◌≤◌, ◌==◌, Bool, true, false, List, [], ◌∷◌, ◌++◌, length, Some, refl, sym, ◌∙◌, arith}
-use Rattle.std.proofs.lemmas.Bool.Decides.{nat_tests}
+use Rattle.std.proofs.lemmas.Bool.{eqb-true}
 use Rattle.std.proofs.lemmas.List.{append-nil, append_assoc, length-append}
 use Rattle.std.proofs.lemmas.Option.{none-some, cond_some}
 use Rattle.pc_token.proofs.Quotes.{quote_opens, quote_adds, quote_last, quote_stops, nothing_quoted}
 use Rattle.pc_token.specs.Lexing.{quoted_from}
 use Rattle.pc_token.specs.Spelling.{byte_text, doubled}
-
-quote_is : (byte : ℕ) → (byte == 34) ≡ true → byte ≡ 34
-quote_is byte e = grind (arith, nat_tests)
 
 pub quote_text : (byte : ℕ) → (byte == 34) ≡ true → byte_text byte ≡ 34 ∷ 34 ∷ []
 unfolding byte_text
@@ -51,7 +48,7 @@ quoted_byte : (byte : ℕ) (before rest : List ℕ) (len : ℕ) → quoted_from 
 quoted_byte byte before rest len = by_test (byte == 34) refl
   where
     by_test : (test : Bool) → (byte == 34) ≡ test → quoted_from false len before (byte_text byte ++ rest) ≡ quoted_from false (len + length (byte_text byte)) (before ++ byte ∷ []) rest
-    by_test true e = rw (quote_text byte e, quote_is byte e) (quote_pair before rest len)
+    by_test true e = rw (quote_text byte e, eqb-true byte 34 e) (quote_pair before rest len)
     by_test false e = rw (plain_text byte e) (quote_adds false len before byte rest e)
 
 same_reading : (a b : ℕ) (x y rest : List ℕ) → a ≡ b → x ≡ y → quoted_from true a x rest ≡ quoted_from true b y rest
@@ -92,7 +89,7 @@ quoted_back false (byte ∷ rest) before len found e total =
         → ((byte == 34) ≡ true → doubled before ++ 34 ∷ rest ≡ doubled found.0 ++ 34 ∷ [])
         → ((byte == 34) ≡ false → doubled (before ++ byte ∷ []) ++ rest ≡ doubled found.0 ++ 34 ∷ [])
         → doubled before ++ byte ∷ rest ≡ doubled found.0 ++ 34 ∷ []
-    by_test true q opens adds = rw (quote_is byte q) (opens q)
+    by_test true q opens adds = rw (eqb-true byte 34 q) (opens q)
     by_test false q opens adds = sym (rw (plain_text byte q) at (added before rest byte)) ∙ adds q
 quoted_back true (byte ∷ rest) before len found e total =
     by_test (byte == 34) refl
@@ -101,7 +98,7 @@ quoted_back true (byte ∷ rest) before len found e total =
     by_test : (test : Bool) → (byte == 34) ≡ test
         → ((byte == 34) ≡ true → doubled (before ++ byte ∷ []) ++ rest ≡ doubled found.0 ++ 34 ∷ [])
         → doubled before ++ 34 ∷ byte ∷ rest ≡ doubled found.0 ++ 34 ∷ []
-    by_test true q adds = rw (quote_is byte q) (sym (rw (quote_text byte q) at (added before rest byte)) ∙ adds q)
+    by_test true q adds = rw (eqb-true byte 34 q) (sym (rw (quote_text byte q) at (added before rest byte)) ∙ adds q)
     by_test false q adds =
         let same = (cond_some true (before, len) found (sym (quote_stops len before byte rest q) ∙ e)).1 in
         let short : len ≡ len + suc (length rest) = rw (sym same) at total in

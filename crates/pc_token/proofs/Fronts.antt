@@ -1,7 +1,7 @@
 -- Fronts of bytes that are names as they are written.
 use Rattle.std.proofs.Common.{◌≡◌, ◌≢◌, ℕ, ◌+◌, ◌-◌, ◌≤◌, ◌<◌, ◌==◌, ◌&&◌, not, leb, Bool, true, false, List, [], ◌∷◌, ◌++◌, length, min, take, Option, Some, None, refl, sym, ◌∙◌, arith}
 use Rattle.std.specs.List.{All, list_all}
-use Rattle.std.proofs.lemmas.Bool.{and_parts, false≢true}
+use Rattle.std.proofs.lemmas.Bool.{and_parts, false≢true, not-true, eqb-true}
 use Rattle.std.proofs.lemmas.Bool.Decides.{nat_tests}
 use Rattle.std.proofs.lemmas.List.{length-append, length-take-le}
 use Rattle.std.proofs.lemmas.List.Elements.{All-nil, All-cons}
@@ -103,11 +103,7 @@ wrote_quoted rest found read tests =
     let parts = and_parts (found.1 == length rest + 1) (needs_quotes found.0) tests in
     let needs = and_parts (is_name found.0) (not (is_bare found.0)) parts.1 in
     let whole = quoted_whole rest found read (grind (arith, nat_tests, parts.0)) in
-    (name_is found.0 needs.0, text_quoted found.0 (not_so (is_bare found.0) needs.1) ∙ rw (sym whole) refl)
-  where
-    not_so : (b : Bool) → not b ≡ true → b ≡ false
-    not_so true e = absurd (false≢true e)
-    not_so false e = refl
+    (name_is found.0 needs.0, text_quoted found.0 (not-true (is_bare found.0) needs.1) ∙ rw (sym whole) refl)
 
 from_read : (rest name : List ℕ) (read : Option (List ℕ × ℕ)) → quoted_from false 1 [] rest ≡ read → name_in_all (length rest + 1) read ≡ Some name → Wrote (34 ∷ rest) name
 from_read rest name None read e = absurd (none-some name e)
@@ -127,11 +123,8 @@ from_quote : (text name : List ℕ) → name_from_quote text ≡ Some name → W
 from_quote [] name e = absurd (none-some name e)
 from_quote (byte ∷ rest) name e = by_test (byte == 34) refl
   where
-    quote_is : (byte == 34) ≡ true → byte ≡ 34
-    quote_is q = grind (arith, nat_tests)
-
     by_test : (test : Bool) → (byte == 34) ≡ test → Wrote (byte ∷ rest) name
-    by_test true q = rw (quote_is q) (from_quoted rest name (rw q at e))
+    by_test true q = rw (eqb-true byte 34 q) (from_quoted rest name (rw q at e))
     by_test false q = absurd (none-some name (rw q at e))
 
 pub written_is : (text name : List ℕ) → name_written text ≡ Some name → Wrote text name

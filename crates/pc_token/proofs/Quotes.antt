@@ -1,7 +1,7 @@
 -- What stands between quotes, as far as a loop has come.
 use Rattle.std.proofs.Common.{◌≡◌, ℕ, ◌+◌, ◌<◌, ◌≤◌, ◌==◌, Bool, true, false, List, [], ◌∷◌, ◌++◌, length, drop, get_or, Some, None, refl, arith, drop-cons}
 use Rattle.std.specs.Prelude.{if◌then◌else◌}
-use Rattle.std.proofs.lemmas.Bool.Decides.{nat_tests}
+use Rattle.std.proofs.lemmas.Bool.{eqb-true}
 use Rattle.std.proofs.lemmas.List.{drop_all}
 use Rattle.pc_token.specs.Lexing.{quoted_from}
 
@@ -13,10 +13,7 @@ quote_opens len name byte rest quote = rw quote refl
 pub quote_adds : (closing : Bool) (len : ℕ) (name : List ℕ) (byte : ℕ) (rest : List ℕ) → (byte == 34) ≡ closing → quoted_from closing len name (byte ∷ rest) ≡ quoted_from false (len + 1) (name ++ byte ∷ []) rest
 unfolding quoted_from
 quote_adds false len name byte rest quote = rw quote refl
-quote_adds true len name byte rest quote = let same = quote_is byte quote in rw same refl
-  where
-    quote_is : (byte : ℕ) → (byte == 34) ≡ true → byte ≡ 34
-    quote_is byte e = grind (arith, nat_tests)
+quote_adds true len name byte rest quote = rw (eqb-true byte 34 quote) refl
 
 pub ruleset byte_steps = (quote_opens, quote_adds)
 

@@ -1,5 +1,4 @@
 ghost use Rattle.std.specs.Prelude.{◌≡◌, ◌<◌, ◌≤◌, ◌==◌, ◌&&◌, not, [], ◌∷◌, ◌+◌, length, drop, get_or, false, true, ℕ, List, IfOk, MatchResult};
-ghost use Rattle.pc_num.specs.Scaled.{digits_len};
 ghost use Rattle.pc_model.specs.Refusals.{Answers, StopsAs};
 ghost use Rattle.pc_model.specs.Texts.{IsName};
 ghost use Rattle.pc_token.specs.Lexing.{fraction_len, letters_len, number_len, other_token, quoted_from, quoted_token, sign_len, starts_blank, symbol_token, token_at, tokens_from, tokens_of, unsigned_len, word_len, word_token};
@@ -9,6 +8,7 @@ use crate::token::{Symbol, Token};
 use crate::word::{begins_as_word, is_word, is_word_byte, reserved};
 use pc_list::{Seq, Text};
 use pc_model::{Reason, Stop, is_name};
+use pc_num::digits_len;
 use std::alloc::{AllocError, Global};
 use std::str;
 
@@ -169,19 +169,6 @@ fn fraction_len(text: &[u8]) -> usize
     };
     let digits = digits_len(rest);
     if 0 < digits { digits + 1 } else { 0 }
-}
-
-#[tactic(auto, unfolding(pc_num::specs::Scaled::digits_len))]
-fn digits_len(text: &[u8]) -> usize
-    ensures exact { result ≡ digits_len text.now }
-    ensures within { result ≤ length text.now }
-{
-    for (place, byte) in text.iter().enumerate() {
-        if !byte.is_ascii_digit() {
-            return place;
-        }
-    }
-    text.len()
 }
 
 // How many bytes of the text's front are a word.

@@ -15,14 +15,11 @@ use Rattle.pc_model.specs.Aggregate.{int_sum, is_in_group, kept, number_at}
 use Rattle.pc_model.specs.Membership.{has}
 use Rattle.pc_model.specs.Folds.{sum_at, best_at, better, IsFold}
 use Rattle.pc_model.specs.Runs.{rows_of}
+use Rattle.pc_model.proofs.Folds.{any_group, fold_empty, fold_same}
 use Rattle.pc_bound.proofs.Ring.{mul-more}
 use Rattle.pc_witness.specs.RunFolds.{sum_with, best_with, IsWithRun}
 
 -- ---- which of a row's repeats are kept
-
-any_group : (group : Option ℕ) (row : Row) → is_in_group group None row ≡ true
-any_group None row = refl
-any_group (Some column) row = refl
 
 filter_all : (test : Row → Bool) (n : ℕ) (row : Row) → test row ≡ true → filter test (replicate n row) ≡ replicate n row
 filter_all test zero row passes = refl
@@ -110,13 +107,7 @@ fold_yes query run folded more some chosen with rows before =
 
 pub fold_no : (query : Query) (run : Run) (folded : Folded) → has query.chosen run.row ≡ false → (rows : List Row) → IsFold query rows folded → IsFold query (rows ++ replicate run.times run.row) folded
 fold_no query run folded other rows before =
-    let same : kept query None (rows ++ replicate run.times run.row) ≡ kept query None rows = kept_no query rows run.times run.row other in
-    record {
-      count = rw same before.count;
-      sum = rw same before.sum;
-      least = rw same before.least;
-      greatest = rw same before.greatest;
-    }
+    fold_same query rows (rows ++ replicate run.times run.row) folded (kept_no query rows run.times run.row other) before
 
 pub with_some : (column : Option ℕ) (at : ℕ) (folded : Folded) (run : Run) (number sum least greatest : ℤ) → column ≡ Some at → number ≡ number_at run.row at → sum ≡ folded.sum +ℤ (number *ℤ pos run.times) → least ≡ better int_min folded.least number → greatest ≡ better int_max folded.greatest number →
     IsWithRun column folded run (record { count = folded.count + run.times; sum = sum; least = Some least; greatest = Some greatest })
@@ -143,22 +134,6 @@ rows_of-push runs run =
 no_rows : rows_of [] ≡ []
 unfolding rows_of
 no_rows = refl
-
-no_sum : (column : Option ℕ) → sum_at column [] ≡ pos 0
-no_sum None = refl
-no_sum (Some column) = refl
-
-no_best : (pick : ℤ → ℤ → ℤ) (column : Option ℕ) → best_at pick column [] ≡ None
-no_best pick None = refl
-no_best pick (Some column) = refl
-
-fold_empty : (query : Query) → IsFold query [] (record { count = 0; sum = pos 0; least = None; greatest = None })
-fold_empty query = record {
-  count = refl;
-  sum = sym (no_sum query.column);
-  least = sym (no_best int_min query.column);
-  greatest = sym (no_best int_max query.column);
-}
 
 pub fold_none : (query : Query) (runs : List Run) → IsFoldedTo query runs 0 (record { count = 0; sum = pos 0; least = None; greatest = None })
 fold_none query runs = record { few = omega arith; small = omega (arith, ints); before = rw no_rows (fold_empty query) }

@@ -1,12 +1,11 @@
-ghost use Rattle.std.specs.Prelude.{◌<◌, ◌≤◌, IsTrue, All};
+ghost use Rattle.std.specs.Prelude.{◌<◌, ◌≤◌};
 ghost use Rattle.pc_bound.specs.Allocation.{IsProgram};
-ghost use Rattle.pc_bound.specs.Bound.{IsFit};
 
 use crate::{Solved, greedy, has_one_bits};
 use pc_bound::{Program, dual_bound, is_program, lawful};
 use pc_list::Seq;
 use pc_model::Mult;
-use pc_num::Memory;
+use pc_num::{Memory, are_fit};
 use std::alloc::Global;
 use std::test::Fail;
 
@@ -132,23 +131,6 @@ fn bound_of(p: &Program, mult: &Mult) -> Option<i128>
         return None;
     }
     dual_bound(p, p.floor.as_slice(), p.cap.as_slice(), mult)
-}
-
-fn are_fit(numbers: &[i128]) -> bool
-    ensures { IsTrue result → All IsFit numbers.now }
-{
-    for (place, number) in numbers.iter().enumerate() {
-        if !is_fit(*number) {
-            return false;
-        }
-    }
-    true
-}
-
-fn is_fit(number: i128) -> bool
-    ensures { IsTrue result → IsFit number }
-{
-    number > i128::MIN
 }
 
 /// Whether the counts are allowed, and are worth what the plain program finds and the multipliers prove.

@@ -1,6 +1,6 @@
 use Rattle.std.proofs.Common.{◌≡◌, map}
 use Rattle.pc_cells.specs.Found.{class_of_cell}
-use Rattle.pc_agg.specs.Programs.{program_with}
+use Rattle.pc_bound.specs.CellPrograms.{program_with}
 use Rattle.pc_agg.proofs.SettledPrograms.{cells_program, cells_one_bits}
 use Rattle.pc_agg.proofs.programs.solve_cells.Goals as goal
 

@@ -5,7 +5,7 @@ use Rattle.pc_tableau.proofs.aim.divisor_of.Goals as goal
 
 pub returns-clause-value : goal.returns-clause-value
 returns-clause-value c =
-    let rest = c.divisor_of_entries.ensures in
-    let found = rw (to_z-of_z c.ranges.weight, passed c.divisor_of_entries.result rest.fits) at c.gcd.ensures.common in
+    let rest = c.row_divisor.ensures in
+    let found = rw (to_z-of_z c.ranges.weight, passed c.row_divisor.result rest.fits) at c.gcd.ensures.common in
     passed c.gcd.result c.gcd.ensures.fits
-    ∙ divisor_is c.args.weight c.divisor_of_entries.result c.gcd.result c.args.entries.now rest.common found c.gcd.ensures.sign
+    ∙ divisor_is c.args.weight c.row_divisor.result c.gcd.result c.args.entries.now rest.common found c.gcd.ensures.sign

@@ -1,0 +1,18 @@
+-- The low ends of a column and the high ones, by one word for which of them.
+use Rattle.std.specs.Prelude.{ℕ, ℤ, Bool, true, false, List, int_lt}
+use Rattle.pc_model.specs.declared.region.Region.{Region}
+use Rattle.pc_model.specs.Cells.{low_at, high_at, least_low, greatest_high}
+
+abbrev pub end_at : Bool → ℕ → Region → ℤ
+end_at true column box = low_at column box
+end_at false column box = high_at column box
+
+-- the least low end, or the greatest high end
+abbrev pub last_end : Bool → ℕ → List Region → ℤ
+last_end true column boxes = least_low column boxes
+last_end false column boxes = greatest_high column boxes
+
+-- a number lies beyond another
+abbrev pub is_past : Bool → ℤ → ℤ → Bool
+is_past true number other = int_lt number other
+is_past false number other = int_lt other number
