@@ -1,0 +1,14 @@
+pub mod Counts
+pub mod FirstRows
+pub mod Floors
+pub mod FreedRows
+pub mod Gains
+pub mod Parts
+pub mod PhaseEnds
+pub mod Pointed
+pub mod Shown
+pub mod Slacks
+pub mod Standings
+pub mod Tables
+pub mod Vertices
+pub mod Worth
