@@ -8,3 +8,4 @@ pub mod Spikes
 pub mod Void
 pub mod WholeBox
 pub mod Widths
+pub mod Fitting

@@ -1,8 +1,9 @@
 -- When all constraints of a program are settled, and when the program is solved.
 use Rattle.std.specs.Prelude.{◌≡◌, ◌*◌, ◌<◌, ◌≤◌, ◌^◌, ⊤, nat_abs}
+use Rattle.std.specs.Prelude as prelude
 use Rattle.pc_bound.specs.declared.program.Program.{Program}
 use Rattle.pc_bound.specs.Allocation.{constraints_of, worth, IsAllocation}
-use Rattle.pc_bound.specs.Bound.{bound_of, IsMultiplier, IsVoid}
+use Rattle.pc_bound.specs.Bound.{IsFit, bound_of, IsMultiplier, IsVoid}
 use Rattle.pc_program.specs.Settled.{IsShort, AreSettled}
 use Rattle.pc_program.specs.declared.solving.Settled.{Settled}
 use Rattle.pc_program.specs.declared.solving.Settled.TheVariants.{All, Short}
@@ -24,3 +25,8 @@ IsSolved p (Nothing mult) = IsVoid p p.floor p.cap mult
 abbrev pub IsSmall : Solved → Type 0
 IsSmall (Best counts value mult) = nat_abs value ≤ 40 * 2 ^ 117
 IsSmall (Nothing mult) = ⊤
+
+-- the multipliers fit
+abbrev pub AreFitMultipliers : Solved → Type 0
+AreFitMultipliers (Best counts value mult) = prelude.All IsFit mult.by
+AreFitMultipliers (Nothing mult) = prelude.All IsFit mult.by

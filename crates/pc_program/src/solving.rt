@@ -1,7 +1,7 @@
 ghost use Rattle.std.specs.Prelude.{◌≡◌, ◌*◌, ◌<◌, ◌≤◌, ◌^◌, length, IfOk, slice_set, replicate, pos, negsuc, ◌*ℤ◌, nat_abs};
 ghost use Rattle.pc_bound.specs.Allocation.{cells_of, worth, IsProgram, IsAllocation};
 ghost use Rattle.pc_program.specs.Settled.{HasOneBits};
-ghost use Rattle.pc_program.specs.Solved.{IsSettling, IsSolved, IsSmall};
+ghost use Rattle.pc_program.specs.Solved.{IsSettling, IsSolved, IsSmall, AreFitMultipliers};
 
 use crate::members::gather;
 use crate::settling::settle;
@@ -44,6 +44,7 @@ pub fn greedy(alloc: Global, p: &Program) -> Result<Solved, Memory>
     requires one_bits { HasOneBits p.now }
     ensures solved { IfOk result (IsSolved p.now) }
     ensures small { IfOk result IsSmall }
+    ensures fits { IfOk result AreFitMultipliers }
 {
     match settle_all(alloc, p)? {
         Settled::All {

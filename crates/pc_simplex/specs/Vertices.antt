@@ -1,12 +1,12 @@
 -- What is known of the point in which the steps of a box end.
-use Rattle.std.specs.Prelude.{◌≡◌, ◌<◌, ℕ, pos, nat_abs, ◌*ℤ◌, ◌≤ℤ◌, List, length, slice_index_or}
+use Rattle.std.specs.Prelude.{◌≡◌, ◌<◌, ℕ, pos, nat_abs, ◌*ℤ◌, ◌≤ℤ◌, List, length, slice_index_or, All}
 use Rattle.std.specs.Int.{IsGcd}
 use Rattle.pc_num.specs.declared.Frac.{Frac}
 use Rattle.pc_model.specs.declared.tree.Mult.{Mult}
 use Rattle.pc_bound.specs.declared.program.Program.{Program}
 use Rattle.pc_bound.specs.Sums.{nat_at}
 use Rattle.pc_bound.specs.Allocation.{cells_of, worth, IsRelaxed}
-use Rattle.pc_bound.specs.Bound.{raw_bound, IsMultiplier, IsVoid}
+use Rattle.pc_bound.specs.Bound.{raw_bound, IsFit, IsMultiplier, IsVoid}
 use Rattle.pc_tableau.specs.Point.{Relaxation, vertex, void, wide, stalled, no_count}
 
 -- the count of a cell
@@ -40,3 +40,10 @@ IsGreatest p floors caps (vertex point mult) = (v : IsVertex p floors caps point
 IsGreatest p floors caps (void mult) = (den : ℕ) (counts : List ℕ) → IsRelaxed p floors caps den counts → ⊥
 IsGreatest p floors caps (wide steps) = Unit {0}
 IsGreatest p floors caps (stalled steps) = Unit {0}
+
+-- the multipliers of an answer fit, where it has some
+abbrev pub AreFitMultipliers : Relaxation → Type 0
+AreFitMultipliers (vertex point mult) = All IsFit mult.by
+AreFitMultipliers (void mult) = All IsFit mult.by
+AreFitMultipliers (wide steps) = Unit {0}
+AreFitMultipliers (stalled steps) = Unit {0}

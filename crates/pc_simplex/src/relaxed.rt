@@ -5,7 +5,7 @@ ghost use Rattle.pc_tableau.specs.Relaxation.{ending, at_vertex, at_void, phase_
 ghost use Rattle.pc_tableau.specs.Conditions.{IsSized, AreFitNumbers};
 ghost use Rattle.pc_tableau.specs.Point.{IsRelaxation};
 ghost use Rattle.pc_simplex.specs.Relaxed.{relaxation_of};
-ghost use Rattle.pc_simplex.specs.Vertices.{IsShown, IsGreatest};
+ghost use Rattle.pc_simplex.specs.Vertices.{IsShown, IsGreatest, AreFitMultipliers};
 
 use crate::multipliers::multipliers;
 use crate::phases::{Ended, take_both_phases};
@@ -35,6 +35,7 @@ pub fn relax(alloc: Global, p: &Program, floor: &[u64], cap: &[u64]) -> Result<R
     ensures relaxation { IfOk result (λ r. IsRelaxation p.now floor.now cap.now (relaxation_of r)) }
     ensures shown { IfOk result (λ r. IsShown p.now floor.now cap.now (relaxation_of r)) }
     ensures greatest { IfOk result (λ r. IsGreatest p.now floor.now cap.now (relaxation_of r)) }
+    ensures fits { IfOk result (λ r. AreFitMultipliers (relaxation_of r)) }
 {
     match take_both_phases(alloc, p, floor, cap)? {
         Ended::AtVertex(steps, tableau) => at_vertex(alloc, p, floor, cap, steps, &tableau),
@@ -58,7 +59,8 @@ fn at_vertex(
     requires ending { ending p.now floor.now cap.now ≡ at_vertex steps tableau.now }
     requires sized { IsSized (phase_two p.now floor.now cap.now) tableau.now }
     requires fits { AreFitNumbers tableau.now }
-    ensures { IfOk result (λ r. IsRelaxation p.now floor.now cap.now (relaxation_of r)) }
+    ensures relaxation { IfOk result (λ r. IsRelaxation p.now floor.now cap.now (relaxation_of r)) }
+    ensures fits { IfOk result (λ r. AreFitMultipliers (relaxation_of r)) }
 {
     let mult = multipliers(alloc, p, tableau, tableau.weight)?;
     if !fits_width(p, floor, cap, &mult) {
@@ -85,7 +87,8 @@ fn at_void(
     requires sized { length mult.by ≡ constraints_of p.now }
     requires fits { All IsFit mult.by }
     requires whole { mult.den ≡ pos 1 }
-    ensures { IfOk result (λ r. IsRelaxation p.now floor.now cap.now (relaxation_of r)) }
+    ensures relaxation { IfOk result (λ r. IsRelaxation p.now floor.now cap.now (relaxation_of r)) }
+    ensures fits { IfOk result (λ r. AreFitMultipliers (relaxation_of r)) }
 {
     let plain = without_gain(alloc, p)?;
     if fits_width(&plain, floor, cap, &mult) {
