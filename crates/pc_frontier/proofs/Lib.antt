@@ -1,0 +1,12 @@
+pub mod Boxed
+pub mod Chains
+pub mod Falling
+pub mod Joined
+pub mod Keeping
+pub mod Orders
+pub mod Parting
+pub mod Placing
+pub mod Pruning
+pub mod Samples
+pub mod Sound
+pub mod Trees

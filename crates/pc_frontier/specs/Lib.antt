@@ -1,0 +1,5 @@
+pub mod Boxes
+pub mod Frontier
+pub mod Inside
+pub mod Rings
+pub mod Samples
