@@ -1,0 +1,5 @@
+use Rattle.pc_branch.proofs.Broken.{AreWholeBelow}
+use Rattle.pc_branch.proofs.point.first_broken.Given as goal
+
+abbrev pub invariant-loop-cell : goal.invariant-loop-cell
+invariant-loop-cell l = AreWholeBelow l.point l.cell
