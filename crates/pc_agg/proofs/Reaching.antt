@@ -38,9 +38,8 @@ use Rattle.pc_proof.specs.declared.answer.Proof.TheVariants as proofs
 use Rattle.pc_proof.specs.declared.answer.Why.{Why}
 use Rattle.pc_proof.specs.declared.answer.Why.TheVariants as whys
 use Rattle.pc_proof.specs.Setting.{Setting, cells, program_for}
-use Rattle.pc_proof.specs.Table.{limit, none, Shows, ShowsNone, ShowsHigh, ShowsLow}
+use Rattle.pc_proof.specs.Table.{limit, none, Shows, ShowsNone, ShowsHigh, ShowsLow, ShowsImpossible}
 use Rattle.pc_proof.proofs.Ends.{sum_asks_numbers}
-use Rattle.pc_proof.specs.Unbroken.{ShowsImpossible}
 use Rattle.pc_agg.specs.declared.extreme.Extreme.{Extreme}
 use Rattle.pc_agg.specs.declared.extreme.Extreme.TheVariants.{Low, High}
 use Rattle.pc_agg.specs.declared.ends.Reached.TheVariants as reached
@@ -104,21 +103,25 @@ module _ (schema : Schema) (observed : List Row) (constraints : List Constraint)
         number ≡ seen_value agg s +ℤ signed extreme value → HoldsEnd s extreme (end_at number runs mult)
     holds_end Count High is always by bound number_is = record {
       marked = reached;
+      kind = tt;
       shown = subst (λ agg. ShowsHigh s agg (whole number) (proofs.Tree (bound_tree mult))) (sym is)
           (shows_bound (program_towards Count High) mult value (λ k. IsAtMost (whole (seen_value Count s +ℤ k)) (whole number)) by bound small (high_passes (seen_value Count s) value number number_is));
     }
     holds_end Count Low is always by bound number_is = record {
       marked = reached;
+      kind = tt;
       shown = subst (λ agg. ShowsLow s agg (whole number) (proofs.Tree (bound_tree mult))) (sym is)
           (shows_bound (program_towards Count Low) mult value (λ k. IsAtMost (whole number) (whole (seen_value Count s -ℤ k))) by bound small (low_passes (seen_value Count s) value number number_is));
     }
     holds_end Sum High is always by bound number_is = record {
       marked = reached;
+      kind = tt;
       shown = subst (λ agg. ShowsHigh s agg (whole number) (proofs.Tree (bound_tree mult))) (sym is)
           (shows_bound (program_towards Sum High) mult value (λ k. IsAtMost (whole (seen_value Sum s +ℤ k)) (whole number)) by bound small (high_passes (seen_value Sum s) value number number_is));
     }
     holds_end Sum Low is always by bound number_is = record {
       marked = reached;
+      kind = tt;
       shown = subst (λ agg. ShowsLow s agg (whole number) (proofs.Tree (bound_tree mult))) (sym is)
           (shows_bound (program_towards Sum Low) mult value (λ k. IsAtMost (whole number) (whole (seen_value Sum s -ℤ k))) by bound small (low_passes (seen_value Sum s) value number number_is));
     }

@@ -8,8 +8,8 @@ use Rattle.pc_model.specs.Membership.{has}
 use Rattle.pc_model.specs.Aggregate.{asked}
 use Rattle.pc_model.specs.Cells.{Class, IsRowOf}
 use Rattle.pc_proof.specs.Setting.{Setting, seen_count, seen_sum, high_in, on_chosen}
-use Rattle.pc_proof.specs.Table.{one, minus_one, minus_low}
-use Rattle.pc_proof.specs.Unbroken.{HoldsLow, HoldsHigh, ShowsImpossible, IsExact}
+use Rattle.pc_proof.specs.Table.{one, minus_one, minus_low, ShowsImpossible}
+use Rattle.pc_proof.specs.Unbroken.{HoldsLow, HoldsHigh, IsExact}
 use Rattle.pc_proof.specs.declared.answer.End.{End as AnswerEnd}
 use Rattle.pc_agg.specs.declared.extreme.Extreme.{Extreme}
 use Rattle.pc_agg.specs.declared.extreme.Extreme.TheVariants.{Low, High}

@@ -1,12 +1,13 @@
 -- The numbers of a column of numbers, over rows that can be lost, lie between the ends of their cells.
 use Rattle.std.proofs.Common.{◌≡◌, ℕ, ◌≤ℤ◌, List, All, Option, Some, None, IsSomeAnd, get_or, refl, subst}
+use Rattle.std.specs.Prelude.{⊤}
 use Rattle.pc_model.specs.declared.schema.Schema.{Schema}
 use Rattle.pc_model.specs.declared.row.Row.{Row}
 use Rattle.pc_model.specs.declared.region.Region.{Region}
 use Rattle.pc_model.specs.declared.constraint.Constraint.{Constraint}
 use Rattle.pc_model.specs.declared.tree.CutNode.{CutNode}
 use Rattle.pc_model.specs.declared.query.Agg.{Agg}
-use Rattle.pc_model.specs.declared.query.Agg.TheVariants.{Sum}
+use Rattle.pc_model.specs.declared.query.Agg.TheVariants.{Count, Sum, Min, Max, Avg}
 use Rattle.pc_model.specs.declared.query.Query.{Query}
 use Rattle.pc_model.specs.Aggregate.{number_at, asked}
 use Rattle.pc_model.specs.Accepted.{IsNumeric, IsColumnWhere, IsQuery, Measures}
@@ -56,8 +57,27 @@ asks_column : (schema : Schema) (query : Query) (column : Option ℕ) → query.
 asks_column schema query None is numeric = absurd numeric
 asks_column schema query (Some column) is numeric = record { column = column; column_is = is; numeric = numeric }
 
+-- every aggregate but a count
+abbrev pub IsOfNumbers : Agg → Type 0
+IsOfNumbers Count = ⊥
+IsOfNumbers Sum = ⊤
+IsOfNumbers Min = ⊤
+IsOfNumbers Max = ⊤
+IsOfNumbers Avg = ⊤
+
+measured_numbers : (schema : Schema) (agg : Agg) (column : Option ℕ) → IsOfNumbers agg → Measures schema agg column → IsSomeAnd column (IsColumnWhere IsNumeric schema)
+measured_numbers schema Count column of measured = absurd of
+measured_numbers schema Sum column of measured = measured
+measured_numbers schema Min column of measured = measured
+measured_numbers schema Max column of measured = measured
+measured_numbers schema Avg column of measured = measured
+
+pub asks_numbers : (schema : Schema) (query : Query) (agg : Agg) → IsQuery schema query → query.agg ≡ agg → IsOfNumbers agg → AsksNumbers schema query
+asks_numbers schema query agg well is of =
+    asks_column schema query query.column refl (measured_numbers schema agg query.column of (subst (λ (a : Agg). Measures schema a query.column) is well.measured))
+
 pub sum_asks_numbers : (schema : Schema) (query : Query) → IsQuery schema query → query.agg ≡ Sum → AsksNumbers schema query
-sum_asks_numbers schema query well sums = asks_column schema query query.column refl (subst (λ (agg : Agg). Measures schema agg query.column) sums well.measured)
+sum_asks_numbers schema query well is = asks_numbers schema query Sum well is tt
 
 module _ (s : Setting) (formed : IsWellFormed s.question.schema) (tree : IsSettledTree s.question.schema s.question.constraints (region_of s.question) s.nodes)
     (asks : AsksNumbers s.question.schema s.question.query) where

@@ -44,7 +44,7 @@ cross_within v w (Some x) (Some y) opposite first second cross = omega (arith, i
 
 module _ (s : Setting) (formed : IsWellFormed s.question.schema) (tree : IsSettledFor s) (lost : List Row)
     (possible : IsPossible s.question.schema s.question.constraints lost) where
-  gains_within : (gain : Class → ℤ) (t : Tree) → IsSound (program_for s gain) t → IsWithin (gains_of s gain lost) (bound_for (program_for s gain) t)
+  pub gains_within : (gain : Class → ℤ) (t : Tree) → IsSound (program_for s gain) t → IsWithin (gains_of s gain lost) (bound_for (program_for s gain) t)
   gains_within gain t sound =
       subst (λ v. IsWithin v (bound_for (program_for s gain) t)) (rows_are_worth s.question.schema s.question.constraints (region_of s.question) s.nodes gain lost formed tree possible)
       (tree-bounds (program_for s gain) (program_for s gain).floor (program_for s gain).cap (counts_of s.question.constraints (region_of s.question) (cells s) lost) (tree_of t.nodes) sound.proves

@@ -1,8 +1,16 @@
+pub mod Averages
 pub mod BlockLines
+pub mod Closed
+pub mod DocumentLines
+pub mod EndLines
 pub mod Ends
+pub mod Extremes
 pub mod Fractions
 pub mod Gains
 pub mod Groups
+pub mod Kept
+pub mod Lacks
+pub mod Numbers
 pub mod Parts
 pub mod Seen
 pub mod Shown

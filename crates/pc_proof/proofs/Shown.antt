@@ -1,35 +1,37 @@
--- What a proof of an end shows holds of the aggregate of every possible list.
-use Rattle.std.proofs.Common.{◌≡◌, ℤ, pos, neg_ℤ, ◌+ℤ◌, ◌-ℤ◌, ◌≤ℤ◌, ◌<ℤ◌, Bool, true, false, cond, List, map, get_or, Some, IfSome, refl, sym, ap, subst, ◌∙◌, true≢false, arith}
+-- What a proof of an end, of a lack or of no list shows holds of every possible list.
+use Rattle.std.proofs.Common.{◌≡◌, ℕ, ℤ, pos, neg_ℤ, ◌+ℤ◌, ◌-ℤ◌, ◌≤ℤ◌, ◌<ℤ◌, Bool, true, false, cond, List, length, get_or, IfSome, IsSome, IsNone, inl, inr, refl, sym, subst, true≢false, arith}
+use Rattle.std.specs.List.{reduce}
+use Rattle.std.specs.Int.{int_min, int_max}
 use Rattle.std.proofs.lemmas.Int.{ints}
 use Rattle.pc_model.specs.declared.row.Row.{Row}
 use Rattle.pc_model.specs.declared.query.Agg.{Agg}
 use Rattle.pc_model.specs.declared.query.Agg.TheVariants.{Count, Sum, Min, Max, Avg}
 use Rattle.pc_model.specs.Membership.{has}
-use Rattle.pc_model.specs.Aggregate.{Ratio, whole, IsAtMost, asked, int_sum}
+use Rattle.pc_model.specs.Aggregate.{Ratio, whole, IsAtMost, asked, int_sum, value_of}
 use Rattle.pc_model.specs.Right.{IsPossibleFor, value_for, always_has_value}
-use Rattle.pc_model.specs.Cells.{Class, class_of}
-use Rattle.pc_counting.proofs.Sums.{int_sum-same}
 use Rattle.pc_proof.specs.declared.answer.Proof.{Proof}
 use Rattle.pc_proof.specs.declared.answer.Proof.TheVariants as proofs
 use Rattle.pc_proof.specs.declared.answer.Bounded.{Bounded}
 use Rattle.pc_proof.specs.declared.answer.Why.{Why}
 use Rattle.pc_proof.specs.declared.answer.Why.TheVariants as whys
-use Rattle.pc_proof.specs.Setting.{Setting, region_of, seen_count, seen_sum, high_in, low_in, on_chosen}
-use Rattle.pc_proof.specs.Table.{ratio_of, none, one, minus_one, minus_low, ShowsHigh, ShowsLow}
-use Rattle.pc_proof.specs.Unbroken.{EndsCross, ShowsImpossible, IsWellPosed}
-use Rattle.pc_proof.proofs.Ends.{sum_asks_numbers, asked_between}
-use Rattle.pc_proof.proofs.Fractions.{lesser_at_most, greater_at_least, at_most_through}
+use Rattle.pc_proof.specs.declared.answer.NeverBy.{NeverBy}
+use Rattle.pc_proof.specs.declared.answer.NeverBy.TheVariants as nevers
+use Rattle.pc_proof.specs.declared.answer.AlwaysBy.{AlwaysBy}
+use Rattle.pc_proof.specs.declared.answer.AlwaysBy.TheVariants as alwayses
+use Rattle.pc_proof.specs.Setting.{Setting, region_of, seen, seen_count, seen_sum, high_in, low_in, on_chosen}
+use Rattle.pc_proof.specs.Table.{ratio_of, IsFormed, HasRatio, none, one, minus_one, minus_low, ShowsHigh, ShowsLow, EndsCross, HasValue, ShowsImpossible, ShowsNever, ShowsAlways}
+use Rattle.pc_proof.specs.Unbroken.{IsWellPosed}
+use Rattle.pc_proof.proofs.Averages.{avg_high, avg_low, avg_high_at, avg_low_at, avg_high_values, avg_low_values}
+use Rattle.pc_proof.proofs.Ends.{AsksNumbers, IsOfNumbers, asks_numbers}
+use Rattle.pc_proof.proofs.Extremes.{min_low, max_high, min_high, max_low, min_high_seen, max_low_seen}
+use Rattle.pc_proof.proofs.Fractions.{lesser_at_most, greater_at_least}
 use Rattle.pc_proof.proofs.Gains.{IsSettledFor, gains_of, shown_gains, none_possible, cross_possible}
 use Rattle.pc_proof.proofs.Groups.{keeps_region}
-use Rattle.pc_proof.proofs.Seen.{keeps, int_sum-neg, int_sum_mono, value-count, value-sum}
+use Rattle.pc_proof.proofs.Kept.{kept_count, kept_sum, kept_some, cell_of, count_is, minus_count_is, between, no_numbers}
+use Rattle.pc_proof.proofs.Lacks.{whole_if, none_from, not_crossed, gives_ratio, always_some, some_of, none_of}
+use Rattle.pc_proof.proofs.Seen.{keeps, all_numbers, how_many, what_sum, int_sum-neg, int_sum_mono}
 
 -- ---- one row
-
-neg_of_kept : (kept chosen : Bool) → kept ≡ chosen → cond chosen (neg_ℤ (pos 1)) (pos 0) ≡ neg_ℤ (cond kept (pos 1) (pos 0))
-neg_of_kept true true same = omega (arith, ints)
-neg_of_kept false false same = omega (arith, ints)
-neg_of_kept true false same = absurd (true≢false same)
-neg_of_kept false true same = absurd (true≢false (sym same))
 
 kept_under : (kept chosen : Bool) (n high : ℤ) → kept ≡ chosen → n ≤ℤ high → cond kept n (pos 0) ≤ℤ cond chosen high (pos 0)
 kept_under true true n high same under = under
@@ -46,105 +48,114 @@ kept_over false true n low same over = absurd (true≢false (sym same))
 -- ---- the rows of a possible list
 
 module _ (s : Setting) (posed : IsWellPosed s.question) (tree : IsSettledFor s) (lost : List Row) (possible : IsPossibleFor s.question lost) where
-  abbrev class : Row → Class
-  class row = class_of s.question.constraints (region_of s.question) row
+  abbrev numbers : List ℤ
+  numbers = all_numbers s.question lost
 
-  -- how many lost rows the query keeps, and the sum of their numbers
-  abbrev kept_count : ℤ
-  kept_count = int_sum (map (λ (row : Row). cond (keeps s.question row) (pos 1) (pos 0)) lost)
+  asks : (agg : Agg) → s.question.query.agg ≡ agg → IsOfNumbers agg → AsksNumbers s.question.schema s.question.query
+  asks agg is of = asks_numbers s.question.schema s.question.query agg posed.query is of
 
-  abbrev kept_sum : ℤ
-  kept_sum = int_sum (map (λ (row : Row). cond (keeps s.question row) (asked s.question.query row) (pos 0)) lost)
-
-  count_is : kept_count ≡ gains_of s (on_chosen one) lost
-  count_is =
-      int_sum-same (λ (row : Row). cond (keeps s.question row) (pos 1) (pos 0)) (λ (row : Row). on_chosen one (class row)) lost
-      (λ (row : Row). ap (λ test. cond test (pos 1) (pos 0)) (keeps_region s.question posed row))
-
-  minus_count_is : gains_of s (on_chosen minus_one) lost ≡ neg_ℤ kept_count
-  minus_count_is =
-      int_sum-same (λ (row : Row). on_chosen minus_one (class row)) (λ (row : Row). neg_ℤ (cond (keeps s.question row) (pos 1) (pos 0))) lost
-      (λ (row : Row). neg_of_kept (keeps s.question row) (has (region_of s.question) row) (keeps_region s.question posed row))
-      ∙ int_sum-neg (λ (row : Row). cond (keeps s.question row) (pos 1) (pos 0)) lost
-
-  sum_under : s.question.query.agg ≡ Sum → kept_sum ≤ℤ gains_of s (on_chosen (high_in s)) lost
-  sum_under sums =
-      let asks = sum_asks_numbers s.question.schema s.question.query posed.query sums in
-      int_sum_mono (λ (row : Row). cond (keeps s.question row) (asked s.question.query row) (pos 0)) (λ (row : Row). on_chosen (high_in s) (class row)) lost
+  sum_under : s.question.query.agg ≡ Sum → kept_sum s lost ≤ℤ gains_of s (on_chosen (high_in s)) lost
+  sum_under is =
+      int_sum_mono (λ (row : Row). cond (keeps s.question row) (asked s.question.query row) (pos 0)) (λ (row : Row). on_chosen (high_in s) (cell_of s row)) lost
       (λ place d inside.
-      kept_under (keeps s.question (get_or lost place d)) (has (region_of s.question) (get_or lost place d)) (asked s.question.query (get_or lost place d)) (high_in s (class (get_or lost place d)))
-      (keeps_region s.question posed (get_or lost place d)) (asked_between s posed.formed tree asks lost possible place d inside).1)
+      kept_under (keeps s.question (get_or lost place d)) (has (region_of s.question) (get_or lost place d)) (asked s.question.query (get_or lost place d)) (high_in s (cell_of s (get_or lost place d)))
+      (keeps_region s.question posed (get_or lost place d)) (between s posed tree lost possible (asks Sum is tt) place d inside).1)
 
-  minus_sum_under : s.question.query.agg ≡ Sum → neg_ℤ kept_sum ≤ℤ gains_of s (on_chosen (minus_low s)) lost
-  minus_sum_under sums =
-      let asks = sum_asks_numbers s.question.schema s.question.query posed.query sums in
+  minus_sum_under : s.question.query.agg ≡ Sum → neg_ℤ (kept_sum s lost) ≤ℤ gains_of s (on_chosen (minus_low s)) lost
+  minus_sum_under is =
       subst (λ n. n ≤ℤ gains_of s (on_chosen (minus_low s)) lost) (int_sum-neg (λ (row : Row). cond (keeps s.question row) (asked s.question.query row) (pos 0)) lost)
-      (int_sum_mono (λ (row : Row). neg_ℤ (cond (keeps s.question row) (asked s.question.query row) (pos 0))) (λ (row : Row). on_chosen (minus_low s) (class row)) lost
+      (int_sum_mono (λ (row : Row). neg_ℤ (cond (keeps s.question row) (asked s.question.query row) (pos 0))) (λ (row : Row). on_chosen (minus_low s) (cell_of s row)) lost
       (λ place d inside.
-      kept_over (keeps s.question (get_or lost place d)) (has (region_of s.question) (get_or lost place d)) (asked s.question.query (get_or lost place d)) (low_in s (class (get_or lost place d)))
-      (keeps_region s.question posed (get_or lost place d)) (asked_between s posed.formed tree asks lost possible place d inside).0))
+      kept_over (keeps s.question (get_or lost place d)) (has (region_of s.question) (get_or lost place d)) (asked s.question.query (get_or lost place d)) (low_in s (cell_of s (get_or lost place d)))
+      (keeps_region s.question posed (get_or lost place d)) (between s posed tree lost possible (asks Sum is tt) place d inside).0))
 
   -- ---- the ends
 
-  pub high_holds : (agg : Agg) (v : Ratio) (proof : Proof) → s.question.query.agg ≡ agg → pos 0 <ℤ v.den → ShowsHigh s agg v proof →
-      IfSome (value_for s.question lost) (λ x. IsAtMost x v)
-  high_holds Count v (proofs.Tree t) is above shows =
+  high_of : (agg : Agg) (v : Ratio) (proof : Proof) → s.question.query.agg ≡ agg → pos 0 <ℤ v.den → HasRatio proof → ShowsHigh s agg v proof →
+      IfSome (value_of agg numbers) (λ x. IsAtMost x v)
+  high_of Count v (proofs.Tree t) is above ratio shows =
       let found = shown_gains s posed.formed tree lost possible (on_chosen one) t (λ k. IsAtMost (whole (seen_count s.question +ℤ k)) v) shows in
-      subst (λ o. IfSome o (λ x. IsAtMost x v)) (sym (value-count s.question lost is))
-      (lesser_at_most (seen_count s.question +ℤ kept_count) (seen_count s.question +ℤ found.0) v above (omega (arith, ints, count_is, found.2)) found.1)
-  high_holds Sum v (proofs.Tree t) is above shows =
+      lesser_at_most (pos (length numbers)) (seen_count s.question +ℤ found.0) v above
+      (omega (arith, ints, how_many s.question lost, count_is s posed tree lost possible, found.2)) found.1
+  high_of Sum v (proofs.Tree t) is above ratio shows =
       let found = shown_gains s posed.formed tree lost possible (on_chosen (high_in s)) t (λ k. IsAtMost (whole (seen_sum s.question +ℤ k)) v) shows in
-      subst (λ o. IfSome o (λ x. IsAtMost x v)) (sym (value-sum s.question lost is))
-      (lesser_at_most (seen_sum s.question +ℤ kept_sum) (seen_sum s.question +ℤ found.0) v above (omega (arith, ints, sum_under is, found.2)) found.1)
-  high_holds Count v proofs.Rows is above shows = absurd shows
-  high_holds Count v (proofs.At q t) is above shows = absurd shows
-  high_holds Count v proofs.Values is above shows = absurd shows
-  high_holds Sum v proofs.Rows is above shows = absurd shows
-  high_holds Sum v (proofs.At q t) is above shows = absurd shows
-  high_holds Sum v proofs.Values is above shows = absurd shows
-  high_holds Min v proof is above shows = absurd shows
-  high_holds Max v proof is above shows = absurd shows
-  high_holds Avg v proof is above shows = absurd shows
+      lesser_at_most (int_sum numbers) (seen_sum s.question +ℤ found.0) v above (omega (arith, ints, what_sum s.question lost, sum_under is, found.2)) found.1
+  high_of Min v proofs.Rows is above ratio shows =
+      whole_if (reduce int_min numbers) (λ x. IsAtMost x v) (min_high_seen s posed tree lost possible (asks Min is tt) v above shows)
+  high_of Min v (proofs.Tree t) is above ratio shows =
+      whole_if (reduce int_min numbers) (λ x. IsAtMost x v) (min_high s posed tree lost possible (asks Min is tt) v above t shows)
+  high_of Max v (proofs.Tree t) is above ratio shows =
+      whole_if (reduce int_max numbers) (λ x. IsAtMost x v) (max_high s posed tree lost possible (asks Max is tt) v above t shows.0 shows.1)
+  high_of Avg v (proofs.Tree t) is above ratio shows = avg_high s posed tree lost possible (asks Avg is tt) v above t shows
+  high_of Avg v (proofs.At r t) is above ratio shows = avg_high_at s posed tree lost possible (asks Avg is tt) v above (ratio_of r) ratio t shows
+  high_of Avg v proofs.Values is above ratio shows = avg_high_values s posed tree lost possible (asks Avg is tt) v above shows
+  high_of agg v proof is above ratio shows = absurd shows
 
-  pub low_holds : (agg : Agg) (v : Ratio) (proof : Proof) → s.question.query.agg ≡ agg → pos 0 <ℤ v.den → ShowsLow s agg v proof →
-      IfSome (value_for s.question lost) (λ x. IsAtMost v x)
-  low_holds Count v (proofs.Tree t) is above shows =
+  low_of : (agg : Agg) (v : Ratio) (proof : Proof) → s.question.query.agg ≡ agg → pos 0 <ℤ v.den → HasRatio proof → ShowsLow s agg v proof →
+      IfSome (value_of agg numbers) (λ x. IsAtMost v x)
+  low_of Count v (proofs.Tree t) is above ratio shows =
       let found = shown_gains s posed.formed tree lost possible (on_chosen minus_one) t (λ k. IsAtMost v (whole (seen_count s.question -ℤ k))) shows in
-      subst (λ o. IfSome o (λ x. IsAtMost v x)) (sym (value-count s.question lost is))
-      (greater_at_least (seen_count s.question -ℤ found.0) (seen_count s.question +ℤ kept_count) v above (omega (arith, ints, minus_count_is, found.2)) found.1)
-  low_holds Sum v (proofs.Tree t) is above shows =
+      greater_at_least (seen_count s.question -ℤ found.0) (pos (length numbers)) v above
+      (omega (arith, ints, how_many s.question lost, minus_count_is s posed tree lost possible, found.2)) found.1
+  low_of Sum v (proofs.Tree t) is above ratio shows =
       let found = shown_gains s posed.formed tree lost possible (on_chosen (minus_low s)) t (λ k. IsAtMost v (whole (seen_sum s.question -ℤ k))) shows in
-      subst (λ o. IfSome o (λ x. IsAtMost v x)) (sym (value-sum s.question lost is))
-      (greater_at_least (seen_sum s.question -ℤ found.0) (seen_sum s.question +ℤ kept_sum) v above (omega (arith, ints, minus_sum_under is, found.2)) found.1)
-  low_holds Count v proofs.Rows is above shows = absurd shows
-  low_holds Count v (proofs.At q t) is above shows = absurd shows
-  low_holds Count v proofs.Values is above shows = absurd shows
-  low_holds Sum v proofs.Rows is above shows = absurd shows
-  low_holds Sum v (proofs.At q t) is above shows = absurd shows
-  low_holds Sum v proofs.Values is above shows = absurd shows
-  low_holds Min v proof is above shows = absurd shows
-  low_holds Max v proof is above shows = absurd shows
-  low_holds Avg v proof is above shows = absurd shows
+      greater_at_least (seen_sum s.question -ℤ found.0) (int_sum numbers) v above (omega (arith, ints, what_sum s.question lost, minus_sum_under is, found.2)) found.1
+  low_of Min v (proofs.Tree t) is above ratio shows =
+      whole_if (reduce int_min numbers) (λ x. IsAtMost v x) (min_low s posed tree lost possible (asks Min is tt) v above t shows.0 shows.1)
+  low_of Max v proofs.Rows is above ratio shows =
+      whole_if (reduce int_max numbers) (λ x. IsAtMost v x) (max_low_seen s posed tree lost possible (asks Max is tt) v above shows)
+  low_of Max v (proofs.Tree t) is above ratio shows =
+      whole_if (reduce int_max numbers) (λ x. IsAtMost v x) (max_low s posed tree lost possible (asks Max is tt) v above t shows)
+  low_of Avg v (proofs.Tree t) is above ratio shows = avg_low s posed tree lost possible (asks Avg is tt) v above t shows
+  low_of Avg v (proofs.At r t) is above ratio shows = avg_low_at s posed tree lost possible (asks Avg is tt) v above (ratio_of r) ratio t shows
+  low_of Avg v proofs.Values is above ratio shows = avg_low_values s posed tree lost possible (asks Avg is tt) v above shows
+  low_of agg v proof is above ratio shows = absurd shows
+
+  pub high_holds : (end : Bounded) → IsFormed end.value end.proof → ShowsHigh s s.question.query.agg (ratio_of end.value) end.proof →
+      IfSome (value_for s.question lost) (λ x. IsAtMost x (ratio_of end.value))
+  high_holds end formed shows = high_of s.question.query.agg (ratio_of end.value) end.proof refl formed.positive formed.ratio shows
+
+  pub low_holds : (end : Bounded) → IsFormed end.value end.proof → ShowsLow s s.question.query.agg (ratio_of end.value) end.proof →
+      IfSome (value_for s.question lost) (λ x. IsAtMost (ratio_of end.value) x)
+  low_holds end formed shows = low_of s.question.query.agg (ratio_of end.value) end.proof refl formed.positive formed.ratio shows
+
+  -- ends do not cross where the list gives a value
+  pub ends_cross : (low high : Bounded) → IsSome (value_for s.question lost) → EndsCross s low high → ⊥
+  ends_cross low high some cross =
+      cross.above
+      (not_crossed (value_for s.question lost) (ratio_of low.value) (ratio_of high.value) cross.formed.0.positive cross.formed.1.positive some
+      (gives_ratio s.question.query.agg numbers) (low_holds low cross.formed.0 cross.low_holds) (high_holds high cross.formed.1 cross.high_holds))
+
+  -- ---- values, and none
+
+  has_value : HasValue s.question → IsSome (value_for s.question lost)
+  has_value (inl always) = always_some s.question.query.agg numbers always
+  has_value (inr some) = some_of s.question.query.agg numbers (omega (arith, ints, how_many s.question lost, kept_some s lost, some))
+
+  pub never_holds : (by' : NeverBy) → ShowsNever s by' → IsSome (value_for s.question lost)
+  never_holds nevers.Rows shows = has_value (inr shows)
+  never_holds (nevers.Tree t) shows =
+      let found = shown_gains s posed.formed tree lost possible (on_chosen minus_one) t (λ k. k ≤ℤ neg_ℤ (pos 1)) shows in
+      some_of s.question.query.agg numbers
+      (enough (length (seen s.question)) (kept_count s lost) found.0 (pos (length numbers)) (how_many s.question lost) (omega (arith, ints, minus_count_is s posed tree lost possible, found.2)) found.1)
+    where
+      enough : (n : ℕ) (kept k count : ℤ) → count ≡ pos n +ℤ kept → neg_ℤ kept ≤ℤ k → k ≤ℤ neg_ℤ (pos 1) → pos 1 ≤ℤ count
+      enough n kept k count is within few = omega (arith, ints, is, within, few)
+
+  pub always_holds : (by' : AlwaysBy) → always_has_value s.question.query.agg ≡ false → ShowsAlways s by' → IsNone (value_for s.question lost)
+  always_holds (alwayses.Tree t) lacks shows =
+      let found = shown_gains s posed.formed tree lost possible (on_chosen one) t (λ k. k ≤ℤ pos 0) shows.1 in
+      let empty = no_numbers s lost shows.0 (omega (arith, ints, count_is s posed tree lost possible, found.1, found.2)) in
+      subst (λ (xs : List ℤ). IsNone (value_of s.question.query.agg xs)) (sym empty) (none_of s.question.query.agg lacks)
+  always_holds (alwayses.Ends low high) lacks shows = none_from (value_for s.question lost) (λ some. ends_cross low high some shows.1)
 
   -- ---- that there is no such list
-
-  value_is_whole : (agg : Agg) → s.question.query.agg ≡ agg → always_has_value agg ≡ true → (n : ℤ) × (value_for s.question lost ≡ Some (whole n))
-  value_is_whole Count is always = (seen_count s.question +ℤ kept_count, value-count s.question lost is)
-  value_is_whole Sum is always = (seen_sum s.question +ℤ kept_sum, value-sum s.question lost is)
-  value_is_whole Min is always = absurd (true≢false (sym always))
-  value_is_whole Max is always = absurd (true≢false (sym always))
-  value_is_whole Avg is always = absurd (true≢false (sym always))
-
-  ends_cross : (low high : Bounded) → EndsCross s low high → ⊥
-  ends_cross low high cross =
-      let value = value_is_whole s.question.query.agg refl cross.always in
-      let above = low_holds s.question.query.agg (ratio_of low.value) low.proof refl cross.low_den cross.low_holds in
-      let below = high_holds s.question.query.agg (ratio_of high.value) high.proof refl cross.high_den cross.high_holds in
-      cross.above
-      (at_most_through (ratio_of low.value) (ratio_of high.value) value.0 cross.low_den cross.high_den (subst (λ o. IfSome o (λ x. IsAtMost (ratio_of low.value) x)) value.1 above)
-      (subst (λ o. IfSome o (λ x. IsAtMost x (ratio_of high.value))) value.1 below))
 
   pub impossible_holds : (why : Why) → ShowsImpossible s why → ⊥
   impossible_holds (whys.Void t) shows = none_possible s posed.formed tree lost possible none t shows
   impossible_holds (whys.Cross t u) shows = cross_possible s posed.formed tree lost possible t u shows.0 shows.1 shows.2
-  impossible_holds (whys.Ends low high) shows = ends_cross low high shows
+  impossible_holds (whys.Ends low high) shows = ends_cross low high (has_value shows.1) shows.0
+
+pub given_ends : (s : Setting) (lost : List Row) (low high : Bounded) → IsWellPosed s.question → IsSettledFor s → IsPossibleFor s.question lost →
+    IsSome (value_for s.question lost) → EndsCross s low high → ⊥
+given_ends s lost low high posed tree possible some cross = ends_cross s posed tree lost possible low high some cross

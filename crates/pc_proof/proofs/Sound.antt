@@ -1,39 +1,35 @@
 -- An answer that breaks no rule is right.
-use Rattle.std.proofs.Common.{◌≡◌, pos, ◌<ℤ◌, true, Option, Some, None, IfSome, ◌∙◌, true≢false, sym, refl}
+use Rattle.std.proofs.Common.{◌≡◌, pos, ◌<ℤ◌, Bool, ◌||◌, Option, Some, None, IfSome, ◌∙◌, refl}
 use Rattle.std.specs.Prelude.{is_none}
 use Rattle.pc_num.specs.declared.Frac.{Frac}
 use Rattle.pc_model.specs.Aggregate.{Ratio, IsAtMost}
-use Rattle.pc_model.specs.Right.{Question, IsPossibleFor, value_for, ContainsAnswers, IsRight, IsRightRelation, IsRightLack, IsRightEnd, is_silent, is_impossible, is_always}
+use Rattle.pc_model.specs.Right.{value_for, always_has_value, ContainsAnswers, IsRight, IsRightRelation, IsRightLack, IsRightEnd, is_silent, is_impossible}
 use Rattle.pc_model.specs.Right as plain
 use Rattle.pc_proof.specs.declared.answer.Relation.{Relation}
 use Rattle.pc_proof.specs.declared.answer.Relation.TheVariants as relations
+use Rattle.pc_proof.specs.declared.answer.Lack.{Lack}
+use Rattle.pc_proof.specs.declared.answer.Lack.TheVariants as lacks
 use Rattle.pc_proof.specs.declared.answer.Mark.{Mark}
 use Rattle.pc_proof.specs.declared.answer.Mark.TheVariants as marks
 use Rattle.pc_proof.specs.declared.answer.End.{End}
 use Rattle.pc_proof.specs.declared.answer.Answer.{Answer}
 use Rattle.pc_proof.specs.Setting.{Setting}
-use Rattle.pc_proof.specs.Table.{ratio_of}
-use Rattle.pc_proof.specs.Unbroken.{plain_relation, plain_lack, plain_mark, plain_ends, plain_answer, HoldsRelation, HoldsMark, HoldsLow, HoldsHigh, MayStand, IsUnbroken, HasForm, IsWellPosed}
+use Rattle.pc_proof.specs.Table.{ratio_of, IsFormed}
+use Rattle.pc_proof.specs.Unbroken.{plain_relation, plain_lack, plain_mark, plain_ends, plain_answer, HoldsRelation, HoldsLack, HoldsMark, HoldsLow, HoldsHigh, MayStand, IsUnbroken, HasForm, IsWellPosed}
 use Rattle.pc_proof.proofs.Gains.{IsSettledFor}
-use Rattle.pc_proof.proofs.Shown.{high_holds, low_holds, impossible_holds}
+use Rattle.pc_proof.proofs.Lacks.{neither}
+use Rattle.pc_proof.proofs.Shown.{high_holds, low_holds, never_holds, always_holds, impossible_holds}
 
 -- ---- the parts of an answer
-
-right_lack : (q : Question) (lack : plain.Lack) → is_silent lack ≡ true → IsRightLack q lack
-right_lack q plain.silent silent = tt
-right_lack q plain.never silent = absurd (true≢false (sym silent))
-right_lack q (plain.sometimes without with') silent = absurd (true≢false (sym silent))
-right_lack q plain.always silent = absurd (true≢false (sym silent))
-right_lack q plain.unsettled silent = tt
 
 as_absent : (ends : Option (End × End)) → is_none (plain_ends ends) ≡ is_none ends
 as_absent None = refl
 as_absent (Some ends) = refl
 
-both_positive : (ends : Option (End × End)) → IfSome ends (λ e. pos 0 <ℤ e.0.value.den) → IfSome ends (λ e. pos 0 <ℤ e.1.value.den) →
+both_positive : (ends : Option (End × End)) → IfSome ends (λ e. IsFormed e.0.value e.0.proof) → IfSome ends (λ e. IsFormed e.1.value e.1.proof) →
     IfSome (plain_ends ends) (λ e. (pos 0 <ℤ e.0.value.den) × (pos 0 <ℤ e.1.value.den))
 both_positive None low high = tt
-both_positive (Some ends) low high = (low, high)
+both_positive (Some ends) low high = (low.positive, high.positive)
 
 -- a value that passes two tests passes both
 both_of_value : (value : Option Ratio) (P Q : Ratio → Type 0) → IfSome value P → IfSome value Q → IfSome value (λ v. P v × Q v)
@@ -61,29 +57,37 @@ module _ (s : Setting) where
     right_relation (relations.Impossible why) holds = λ lost possible. impossible_holds s posed tree lost possible why holds
     right_relation relations.Undecided holds = tt
 
-    contains_all : (relation : Relation) (ends : Option (End × End)) → IfSome ends (λ e. pos 0 <ℤ e.0.value.den) → IfSome ends (λ e. pos 0 <ℤ e.1.value.den) →
+    right_lack : (lack : Lack) (impossible : Bool) → is_silent (plain_lack lack) ≡ (always_has_value s.question.query.agg || impossible) → HoldsLack s lack →
+        IsRightLack s.question (plain_lack lack)
+    right_lack lacks.Silent impossible silent holds = tt
+    right_lack (lacks.Never by') impossible silent holds = λ lost possible. never_holds s posed tree lost possible by' holds
+    right_lack (lacks.Sometimes without with') impossible silent holds = (holds.0.by, holds.0.none, holds.1.by, holds.1.some)
+    right_lack (lacks.Always by') impossible silent holds =
+        λ lost possible. always_holds s posed tree lost possible by' (neither (always_has_value s.question.query.agg) impossible silent) holds
+    right_lack lacks.Undecided impossible silent holds = tt
+
+    contains_all : (relation : Relation) (ends : Option (End × End)) → IfSome ends (λ e. IsFormed e.0.value e.0.proof) → IfSome ends (λ e. IsFormed e.1.value e.1.proof) →
         IfSome ends (λ e. HoldsLow s e.0 × MayStand relation e.0) → IfSome ends (λ e. HoldsHigh s e.1 × MayStand relation e.1) →
         IfSome (plain_ends ends) (λ e. ContainsAnswers s.question e.0.value e.1.value)
-    contains_all relation None low_den high_den low high = tt
-    contains_all relation (Some ends) low_den high_den low high =
+    contains_all relation None low_formed high_formed low high = tt
+    contains_all relation (Some ends) low_formed high_formed low high =
         λ lost possible.
         both_of_value (value_for s.question lost) (λ v. IsAtMost (ratio_of ends.0.value) v) (λ v. IsAtMost v (ratio_of ends.1.value))
-        (low_holds s posed tree lost possible s.question.query.agg (ratio_of ends.0.value) ends.0.proof refl low_den low.0.shown)
-        (high_holds s posed tree lost possible s.question.query.agg (ratio_of ends.1.value) ends.1.proof refl high_den high.0.shown)
+        (low_holds s posed tree lost possible (record { value = ends.0.value; proof = ends.0.proof }) low_formed low.0.shown)
+        (high_holds s posed tree lost possible (record { value = ends.1.value; proof = ends.1.proof }) high_formed high.0.shown)
 
 -- ---- the whole
 
-pub right_from_unbroken : (s : Setting) (answer : Answer) → is_silent (plain_lack answer.lack) ≡ true → IsWellPosed s.question → HasForm s answer → IsUnbroken s answer →
-    IsRight s.question (plain_answer answer)
-right_from_unbroken s answer silent posed form unbroken =
+pub right_from_unbroken : (s : Setting) (answer : Answer) → IsWellPosed s.question → HasForm s answer → IsUnbroken s answer → IsRight s.question (plain_answer answer)
+right_from_unbroken s answer posed form unbroken =
     let tree : IsSettledFor s = record { preorder = form.preorder; proper = unbroken.proper; settled = unbroken.settled } in
     record {
       relation = right_relation s posed tree answer.relation unbroken.relation;
-      lack = right_lack s.question (plain_lack answer.lack) silent;
+      lack = right_lack s posed tree answer.lack (is_impossible (plain_relation answer.relation)) form.silent unbroken.lack;
       silent = form.silent;
       absent = as_absent answer.ends ∙ form.absent;
-      positive = both_positive answer.ends form.low_den form.high_den;
-      contains = contains_all s posed tree answer.relation answer.ends form.low_den form.high_den unbroken.low unbroken.high;
+      positive = both_positive answer.ends form.low form.high;
+      contains = contains_all s posed tree answer.relation answer.ends form.low form.high unbroken.low unbroken.high;
       low = right_low s answer.relation answer.ends unbroken.low;
       high = right_high s answer.relation answer.ends unbroken.high;
     }

@@ -1,4 +1,6 @@
 pub mod Demands
+pub mod Documents
+pub mod Samples
 pub mod Setting
 pub mod Table
 pub mod Unbroken

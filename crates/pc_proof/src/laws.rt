@@ -1,11 +1,27 @@
-ghost use Rattle.std.specs.Prelude.{◌≡◌, true};
-ghost use Rattle.pc_model.specs.Right.{IsRight};
-ghost use Rattle.pc_model.specs.Right as plain;
+ghost use Rattle.std.specs.Prelude.{List, Option, IsSome};
+ghost use Rattle.pc_model.specs.declared.row.Row.{Row};
+ghost use Rattle.pc_model.specs.declared.tree.CutNode.{CutNode};
+ghost use Rattle.pc_model.specs.Right.{IsRight, IsPossibleFor, value_for};
 ghost use Rattle.pc_proof.specs.declared.answer.Answer.{Answer};
-ghost use Rattle.pc_proof.specs.Setting.{Setting};
-ghost use Rattle.pc_proof.specs.Unbroken.{HasForm, IsUnbroken, IsWellPosed, plain_answer, plain_lack};
+ghost use Rattle.pc_proof.specs.declared.answer.Bounded.{Bounded};
+ghost use Rattle.pc_proof.specs.declared.document.Block.{Block};
+ghost use Rattle.pc_model.specs.Cells.{IsSettledTree};
+ghost use Rattle.pc_proof.specs.Setting.{Setting, region_of};
+ghost use Rattle.pc_proof.specs.Table.{EndsCross};
+ghost use Rattle.pc_proof.specs.Unbroken.{HasForm, IsUnbroken, IsWellPosed, plain_answer};
+ghost use Rattle.pc_proof.specs.Documents.{Premises, ArePosed, HaveForm, AreUnbroken, AreRight};
 
-/// An answer that is silent of a lack and breaks no rule is right.
+/// An answer that has its form and breaks no rule is right, whatever its aggregate, grouped or not.
 pub fn unbroken_is_right()
-    ensures { (s : Setting) (answer : Answer) → plain.is_silent (plain_lack answer.lack) ≡ true → IsWellPosed s.question → HasForm s answer → IsUnbroken s answer → IsRight s.question (plain_answer answer) }
+    ensures { (s : Setting) (answer : Answer) → IsWellPosed s.question → HasForm s answer → IsUnbroken s answer → IsRight s.question (plain_answer answer) }
+{}
+
+/// Where some possible list gives a value, ends with their proofs do not cross.
+pub fn given_ends_do_not_cross()
+    ensures { (s : Setting) (lost : List Row) (low high : Bounded) → IsWellPosed s.question → IsSettledTree s.question.schema s.question.constraints (region_of s.question) s.nodes → IsPossibleFor s.question lost → IsSome (value_for s.question lost) → EndsCross s low high → ⊥ }
+{}
+
+/// The blocks of a document that breaks no rule are right, each with the tree that it means.
+pub fn unbroken_are_right()
+    ensures { (case : Premises) (before : Option (List CutNode)) (blocks : List Block) → ArePosed case blocks → HaveForm case before blocks → AreUnbroken case before blocks → AreRight case blocks }
 {}

@@ -4,9 +4,10 @@
 mod answer;
 mod document;
 mod laws;
+mod samples;
 mod verdicts;
 
 pub use answer::{AlwaysBy, Answer, Bounded, End, Lack, Mark, NeverBy, Proof, Relation, Why};
 pub use document::{Block, BlockTree, Document};
-pub use laws::unbroken_is_right;
-pub use verdicts::{demands_are_the_rules, one_verdict};
+pub use laws::{given_ends_do_not_cross, unbroken_are_right, unbroken_is_right};
+pub use verdicts::{broken_or_unbroken, demands_are_the_rules, one_first_broken, one_verdict};
