@@ -10,14 +10,14 @@ use Rattle.pc_agg.specs.Targets.{cell_at, gain_in, IsPickIn, IsTarget, AreTarget
 
 module _ (column : Option ℕ) (extreme : Extreme) where
   pub no_targets : AreTargets column extreme [] [] []
-  no_targets = record { gained = refl; picked = tt; small = All-nil (λ (gain : ℤ). nat_abs gain < 2 ^ 87) }
+  no_targets = record { gained = refl; picked = tt; small = All-nil (λ (gain : ℤ). nat_abs gain ≤ 2 ^ 63) }
 
   one_more : (cells : List Cell) (cell : Cell) (gains : List ℤ) (gain : ℤ) (picks : List Row) (pick : Row) → AreTargets column extreme cells gains picks → IsTarget column extreme cell gain pick →
       AreTargets column extreme (cells ++ cell ∷ []) (gains ++ gain ∷ []) (picks ++ pick ∷ [])
   one_more cells cell gains gain picks pick before one = record {
     gained = rw (before.gained, one.gained, map-append (gain_in column extreme) cells (cell ∷ [])) refl;
     picked = all_zipped_more (IsPickIn column extreme) cells picks cell pick before.picked one.picked;
-    small = All-push (λ (other : ℤ). nat_abs other < 2 ^ 87) gains gain before.small one.small;
+    small = All-push (λ (other : ℤ). nat_abs other ≤ 2 ^ 63) gains gain before.small one.small;
   }
 
   pub more_targets : (cells : List Cell) (place : ℕ) (gains : List ℤ) (gain : ℤ) (picks : List Row) (pick : Row) → place < length cells → AreTargets column extreme (take place cells) gains picks → IsTarget column extreme (cell_at cells place) gain pick →

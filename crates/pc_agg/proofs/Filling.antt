@@ -1,30 +1,23 @@
 -- A row of each cell, and the lists that they make.
-use Rattle.std.proofs.Common.{◌≡◌, ℕ, ◌+◌, ◌<◌, true, false, ℤ, List, [], ◌∷◌, ◌++◌, take, length, map, get_or, All, sym, subst}
+use Rattle.std.proofs.Common.{◌≡◌, ℕ, ◌+◌, ◌<◌, true, false, List, [], ◌∷◌, ◌++◌, take, length, map, get_or, All, sym, ap, ◌∙◌, subst}
 use Rattle.std.specs.List.{AllZip}
 use Rattle.std.proofs.lemmas.List.{get_or_default, take_more}
 use Rattle.std.proofs.lemmas.Slice.Zip.{all_zipped_more}
 use Rattle.pc_model.specs.declared.schema.Schema.{Schema}
 use Rattle.pc_model.specs.declared.row.Row.{Row}
-use Rattle.pc_model.specs.declared.row.Run.{Run}
 use Rattle.pc_model.specs.declared.region.Region.{Region}
 use Rattle.pc_model.specs.declared.constraint.Constraint.{Constraint}
 use Rattle.pc_model.specs.declared.tree.CutNode.{CutNode}
-use Rattle.pc_model.specs.declared.tree.Mult.{Mult}
-use Rattle.pc_model.specs.declared.query.Query.{Query}
 use Rattle.pc_model.specs.Membership.{has}
-use Rattle.pc_model.specs.Right.{ArePossible}
-use Rattle.pc_model.specs.Runs.{runs_from}
 use Rattle.pc_model.specs.WellFormed.{IsWellFormed}
 use Rattle.pc_model.specs.Cells.{Class, IsRowOf, IsInSome, IsSettledTree, leaves_in, classes_of}
 use Rattle.pc_class.proofs.SettledTrees.{rows_of_tree}
-use Rattle.pc_program.specs.declared.solving.Solved.TheVariants.{Best}
-use Rattle.pc_program.specs.Solved.{IsSolved}
+use Rattle.pc_model.specs.declared.query.Query.{Query}
 use Rattle.pc_cells.specs.declared.cells.Cell.{Cell}
+use Rattle.pc_cells.proofs.Decomposed.{classes_of_cells}
+use Rattle.pc_agg.specs.Settings.{unseen}
+use Rattle.pc_agg.specs.Settling.{AreRowsOfCells}
 use Rattle.pc_cells.specs.Found.{class_of_cell, cell_of, cells_of, IsFilled, leaves_at, leaf_at}
-use Rattle.pc_witness.proofs.Allocations.{allocation-possible}
-use Rattle.pc_proof.specs.Table.{none}
-use Rattle.pc_bound.specs.CellPrograms.{program_with}
-use Rattle.pc_agg.specs.Settings.{question_of}
 
 -- ---- as far as a loop has come
 
@@ -61,12 +54,8 @@ module _ (schema : Schema) (constraints : List Constraint) (chosen : Region) (no
       subst (λ cells. AllZip (IsRowOf schema constraints chosen) (map class_of_cell cells) picks) (sym is)
       (rows_of_classes (classes_of (leaves_in schema nodes)) picks (subst (λ cells. AllZip IsIn cells picks) is paired))
 
--- ---- the list of an allocation
-
-pub possible_for : (schema : Schema) (observed : List Row) (constraints : List Constraint) (query : Query) (classes : List Class) (gains : List ℤ) (picks : List Row) (counts : List ℕ) (value : ℤ) (mult : Mult) (runs : List Run) →
-    AllZip (IsRowOf schema constraints query.chosen) classes picks → IsSolved (program_with constraints classes gains) (Best counts value mult) →
-    runs ≡ runs_from picks counts → ArePossible (question_of schema observed constraints query) runs
-possible_for schema observed constraints query classes gains picks counts value mult runs rows solved is =
-    let p = program_with constraints classes gains in
-    let possible = allocation-possible schema constraints query.chosen classes picks rows none p.floor p.cap counts (record { sized = solved.0.sized; within = solved.0.within; met = solved.0.met }) in
-    subst (ArePossible (question_of schema observed constraints query)) (sym is) (record { each_stands = possible.0; are_possible = possible.1 })
+pub rows_of_cells : (schema : Schema) (constraints : List Constraint) (query : Query) (nodes : List CutNode) → IsWellFormed schema → IsSettledTree schema constraints query.chosen nodes →
+    (found : List Cell) (picks : List Row) → found ≡ cells_of (leaves_in schema nodes) → AllZip IsIn found picks → AreRowsOfCells (unseen schema constraints query nodes) picks
+rows_of_cells schema constraints query nodes formed tree found picks is paired =
+    subst (λ classes. AllZip (IsRowOf schema constraints query.chosen) classes picks) (ap (map class_of_cell) is ∙ classes_of_cells (leaves_in schema nodes) (classes_of (leaves_in schema nodes)))
+    (rows_of_found schema constraints query.chosen nodes formed tree found picks is paired)

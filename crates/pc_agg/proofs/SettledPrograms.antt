@@ -1,5 +1,5 @@
 -- The program of the cells of a settled tree over disjoint constraints.
-use Rattle.std.proofs.Common.{◌≡◌, ℕ, ◌<◌, ◌^◌, List, length, map, get_or, All, AllPairs, Contains, sym, ap, subst, ◌∙◌, arith}
+use Rattle.std.proofs.Common.{◌≡◌, ℕ, ◌<◌, ◌≤◌, ◌^◌, List, length, map, get_or, All, AllPairs, Contains, sym, ap, subst, ◌∙◌, arith}
 use Rattle.std.specs.Prelude.{ℤ, pos, nat_abs}
 use Rattle.std.proofs.lemmas.List.{length-map}
 use Rattle.std.proofs.lemmas.List.Elements.{All-weaker, All-contains_itself}
@@ -17,12 +17,17 @@ use Rattle.pc_class.proofs.SettledTrees.{classes_of_tree}
 use Rattle.pc_bound.specs.declared.program.Program.{Program}
 use Rattle.pc_bound.specs.Allocation.{IsProgram}
 use Rattle.pc_program.specs.Settled.{is_in, HasOneBits}
+use Rattle.pc_bound.specs.Bound.{HasFitWidth}
+use Rattle.pc_branch.specs.Ends.{HasSmallGains}
+use Rattle.pc_branch.specs.Licence.{no_multipliers}
+use Rattle.pc_branch.proofs.Widths.{HasFitWidth-small}
 use Rattle.pc_cells.specs.declared.cells.Cell.{Cell}
 use Rattle.pc_cells.specs.Found.{class_of_cell, cells_of}
 use Rattle.pc_cells.proofs.Decomposed.{classes_of_cells}
 use Rattle.pc_bound.specs.CellPrograms.{program_with}
 use Rattle.pc_agg.proofs.OneBits.{Differ, cell_bit, no_third, few_cells}
 use Rattle.pc_bound.proofs.CellPlaces.{no_class, cell_inside, mask_is, floor_is}
+use Rattle.pc_agg.proofs.ManyCells.{many_cells, small_gains}
 use Rattle.pc_agg.proofs.ProgramEnds.{is_program}
 
 -- ---- of classes with rows that differ
@@ -35,7 +40,7 @@ module _ (schema : Schema) (constraints : List Constraint) (chosen : Region) (cl
   in_class : (i k : ℕ) → i < length classes → is_in program i k ≡ has_bit (get_or classes i no_class).mask k
   in_class i k h = ap (λ mask. has_bit mask k) (mask_is constraints classes gains i h)
 
-  has_one_bits : AreConstraints schema constraints → length gains ≡ length classes → All (λ gain. nat_abs gain < 2 ^ 87) gains → HasOneBits program
+  has_one_bits : AreConstraints schema constraints → length gains ≡ length classes → All (λ gain. nat_abs gain ≤ 2 ^ 63) gains → HasOneBits program
   has_one_bits are sized small = record {
     bit_of = λ i h.
         let there = inside i h in
@@ -49,7 +54,7 @@ module _ (schema : Schema) (constraints : List Constraint) (chosen : Region) (cl
         no_third schema constraints chosen classes disjoint rows differ h i j k first second last
         (sym (in_class h k (omega arith)) ∙ a) (sym (in_class i k (omega arith)) ∙ b) (sym (in_class j k last) ∙ c);
     floors = λ i h. floor_is constraints classes gains i (inside i h);
-    small = λ i h. let there = inside i h in small i (pos 0) (omega (arith, there, sized));
+    small = λ i h. let there = inside i h in let gain = small i (pos 0) (omega (arith, there, sized)) in omega (arith, gain);
     few = omega (arith, are.few, few_cells schema constraints chosen classes disjoint rows differ, length-map classes (λ (class : Class). class.mask));
   }
     where
@@ -60,7 +65,7 @@ module _ (schema : Schema) (constraints : List Constraint) (chosen : Region) (cl
 
 module _ (schema : Schema) (constraints : List Constraint) (chosen : Region) (nodes : List CutNode) (cells : List Cell) (gains : List ℤ) (formed : IsWellFormed schema)
     (tree : IsSettledTree schema constraints chosen nodes) (cells_are : cells ≡ cells_of (leaves_in schema nodes)) where
-  classes_are : map class_of_cell cells ≡ classes_of (leaves_in schema nodes)
+  pub classes_are : map class_of_cell cells ≡ classes_of (leaves_in schema nodes)
   classes_are = ap (map class_of_cell) cells_are ∙ classes_of_cells (leaves_in schema nodes) (classes_of (leaves_in schema nodes))
 
   have_rows : All (HasRowOf schema constraints chosen) (classes_of (leaves_in schema nodes))
@@ -76,8 +81,22 @@ module _ (schema : Schema) (constraints : List Constraint) (chosen : Region) (no
   cells_program p is are sized = subst IsProgram (sym is) (is_program constraints (map class_of_cell cells) gains schema are (sized_classes sized))
 
   pub cells_one_bits : (p : Program) → p ≡ program_with constraints (map class_of_cell cells) gains → AreConstraints schema constraints → AreDisjoint schema constraints
-      → length gains ≡ length cells → All (λ gain. nat_abs gain < 2 ^ 87) gains → HasOneBits p
+      → length gains ≡ length cells → All (λ gain. nat_abs gain ≤ 2 ^ 63) gains → HasOneBits p
   cells_one_bits p is are disjoint sized small =
       subst HasOneBits (sym is)
       (has_one_bits schema constraints chosen (map class_of_cell cells) gains disjoint (subst (All (HasRowOf schema constraints chosen)) (sym classes_are) have_rows)
       (subst (AllPairs Differ) (sym classes_are) (classes_of-differ (leaves_in schema nodes))) are (sized_classes sized) small)
+
+  pub cells_small : (p : Program) → p ≡ program_with constraints (map class_of_cell cells) gains → AreConstraints schema constraints
+      → length gains ≡ length cells → All (λ gain. nat_abs gain ≤ 2 ^ 63) gains → HasSmallGains p
+  cells_small p is are sized small =
+      let differ = subst (AllPairs Differ) (sym classes_are) (classes_of-differ (leaves_in schema nodes)) in
+      let many = many_cells schema constraints chosen (map class_of_cell cells) (subst (All (HasRowOf schema constraints chosen)) (sym classes_are) have_rows) differ in
+      subst HasSmallGains (sym is) (small_gains constraints (map class_of_cell cells) gains schema are many (sized_classes sized) small)
+
+  pub program_is : (p : Program) → p ≡ program_with constraints (map class_of_cell cells) gains → p ≡ program_with constraints (classes_of (leaves_in schema nodes)) gains
+  program_is p is = is ∙ ap (λ classes. program_with constraints classes gains) classes_are
+
+  pub cells_fit : (p : Program) → p ≡ program_with constraints (map class_of_cell cells) gains → AreConstraints schema constraints
+      → length gains ≡ length cells → All (λ gain. nat_abs gain ≤ 2 ^ 63) gains → HasFitWidth p (no_multipliers p)
+  cells_fit p is are sized small = HasFitWidth-small p (cells_program p is are sized) (cells_small p is are sized small)

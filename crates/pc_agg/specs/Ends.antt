@@ -1,4 +1,4 @@
--- The ends of a range, and what the cells gain towards them.
+-- What the cells gain towards the ends of a range, and the programs of that.
 use Rattle.std.specs.Prelude.{◌≡◌, ℤ, pos, neg_ℤ, cond}
 use Rattle.pc_model.specs.declared.row.Row.{Row}
 use Rattle.pc_model.specs.declared.query.Agg.{Agg}
@@ -7,14 +7,13 @@ use Rattle.pc_model.specs.declared.query.Query.{Query}
 use Rattle.pc_model.specs.Membership.{has}
 use Rattle.pc_model.specs.Aggregate.{asked}
 use Rattle.pc_model.specs.Cells.{Class, IsRowOf}
-use Rattle.pc_proof.specs.Setting.{Setting, seen_count, seen_sum, high_in, on_chosen}
-use Rattle.pc_proof.specs.Table.{one, minus_one, minus_low, ShowsImpossible}
-use Rattle.pc_proof.specs.Unbroken.{HoldsLow, HoldsHigh, IsExact}
+use Rattle.pc_bound.specs.declared.program.Program.{Program}
+use Rattle.pc_proof.specs.Setting.{Setting, high_in, on_chosen, program_for}
+use Rattle.pc_proof.specs.Table.{one, minus_one, minus_low}
+use Rattle.pc_proof.specs.Unbroken.{HoldsLow, HoldsHigh}
 use Rattle.pc_proof.specs.declared.answer.End.{End as AnswerEnd}
 use Rattle.pc_agg.specs.declared.extreme.Extreme.{Extreme}
 use Rattle.pc_agg.specs.declared.extreme.Extreme.TheVariants.{Low, High}
-use Rattle.pc_agg.specs.declared.ends.Reached.{Reached}
-use Rattle.pc_agg.specs.declared.ends.Reached.TheVariants.{At, Nothing}
 
 -- what a row of a cell gains towards an end of a count or a sum; nothing for other aggregates
 abbrev pub gain_towards : Setting → Agg → Extreme → Class → ℤ
@@ -40,18 +39,11 @@ pub record IsPick (s : Setting) (agg : Agg) (extreme : Extreme) (class : Class) 
   pub of_cell : IsRowOf s.question.schema s.question.constraints s.question.query.chosen class row
   pub adds : signed extreme (adds agg s.question.query row) ≡ gain_towards s agg extreme class
 
--- the aggregate of the observed rows
-abbrev pub seen_value : Agg → Setting → ℤ
-seen_value Count s = seen_count s.question
-seen_value Sum s = seen_sum s.question
-seen_value agg s = pos 0
-
 -- an end that breaks no rule
 abbrev pub HoldsEnd : Setting → Extreme → AnswerEnd → Type 0
 HoldsEnd s Low end = HoldsLow s end
 HoldsEnd s High end = HoldsHigh s end
 
--- the end is reached and breaks no rule, or no lost rows meet the constraints
-abbrev pub IsReached : Setting → Extreme → Reached → Type 0
-IsReached s extreme (At end) = HoldsEnd s extreme end × IsExact end.mark × (end.value.den ≡ pos 1)
-IsReached s extreme (Nothing why) = ShowsImpossible s why
+-- the program of an end
+abbrev pub program_towards : Setting → Agg → Extreme → Program
+program_towards s agg extreme = program_for s (gain_towards s agg extreme)

@@ -1,5 +1,10 @@
 pub mod Answered
+pub mod Asked
 pub mod Ends
+pub mod Limits
+pub mod Marks
 pub mod Observed
+pub mod Owed
 pub mod Settings
+pub mod Settling
 pub mod Targets

@@ -1,5 +1,5 @@
 -- What the answers of one case are judged by.
-use Rattle.std.specs.Prelude.{List, None}
+use Rattle.std.specs.Prelude.{List, [], None}
 use Rattle.pc_model.specs.declared.schema.Schema.{Schema}
 use Rattle.pc_model.specs.declared.row.Row.{Row}
 use Rattle.pc_model.specs.declared.constraint.Constraint.{Constraint}
@@ -14,3 +14,7 @@ question_of schema observed constraints query = record { schema = schema; observ
 
 abbrev pub setting_of : Schema → List Row → List Constraint → Query → List CutNode → Setting
 setting_of schema observed constraints query nodes = record { question = question_of schema observed constraints query; nodes = nodes }
+
+-- as if no rows were observed: what the cells alone say
+abbrev pub unseen : Schema → List Constraint → Query → List CutNode → Setting
+unseen schema constraints query nodes = setting_of schema [] constraints query nodes

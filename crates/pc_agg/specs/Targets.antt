@@ -1,5 +1,5 @@
 -- What rows of cells gain towards an end, as the leaves of the cells alone say it.
-use Rattle.std.specs.Prelude.{◌≡◌, ◌<◌, ◌^◌, ℕ, ℤ, pos, nat_abs, cond, false, List, [], map, All, Option, Some, None, IfSome, slice_get, slice_index_or}
+use Rattle.std.specs.Prelude.{◌≡◌, ◌≤◌, ◌^◌, ℕ, ℤ, pos, nat_abs, cond, false, List, [], map, All, Option, Some, None, IfSome, slice_get, slice_index_or}
 use Rattle.std.specs.List.{AllZip}
 use Rattle.pc_model.specs.declared.row.Row.{Row}
 use Rattle.pc_model.specs.declared.region.Region.{Region}
@@ -31,10 +31,10 @@ pub record IsPickIn (column : Option ℕ) (extreme : Extreme) (cell : Cell) (row
 pub record IsTarget (column : Option ℕ) (extreme : Extreme) (cell : Cell) (gain : ℤ) (pick : Row) : Type 0 where
   pub gained : gain ≡ gain_in column extreme cell
   pub picked : IsPickIn column extreme cell pick
-  pub small : nat_abs gain < 2 ^ 87
+  pub small : nat_abs gain ≤ 2 ^ 63
 
 -- the same of each cell, in order
 pub record AreTargets (column : Option ℕ) (extreme : Extreme) (cells : List Cell) (gains : List ℤ) (picks : List Row) : Type 0 where
   pub gained : gains ≡ map (gain_in column extreme) cells
   pub picked : AllZip (IsPickIn column extreme) cells picks
-  pub small : All (λ gain. nat_abs gain < 2 ^ 87) gains
+  pub small : All (λ gain. nat_abs gain ≤ 2 ^ 63) gains

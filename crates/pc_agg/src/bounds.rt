@@ -1,28 +1,24 @@
-ghost use Rattle.std.specs.Prelude.{◌≡◌, ◌≤◌, ◌^◌, ℕ, List, nat_abs, true, None, All, IfOk};
-ghost use Rattle.pc_model.specs.declared.row.Row.{Row};
+ghost use Rattle.std.specs.Prelude.{◌≡◌, ◌≤◌, ◌^◌, ◌++◌, nat_abs, true, IfOk};
 ghost use Rattle.pc_model.specs.declared.query.Agg.TheVariants as aggs;
-ghost use Rattle.pc_model.specs.Accepted.{AreConstraints, IsQuery, IsNumeric, IsColumnWhere};
-ghost use Rattle.pc_model.specs.Folds.{IsFold};
-ghost use Rattle.pc_model.specs.Membership.{AreDisjoint};
-ghost use Rattle.pc_model.specs.Right.{IsRight, always_has_value};
-ghost use Rattle.pc_model.specs.WellFormed.{IsWellFormed};
-ghost use Rattle.pc_model.specs.Cells.{IsSettledTree, leaves_in};
-ghost use Rattle.pc_cells.specs.Found.{cells_of, IsFilled, HasNumbers};
-ghost use Rattle.pc_proof.specs.Unbroken.{HasForm, IsUnbroken, IsSharp, plain_answer};
-ghost use Rattle.pc_agg.specs.Answered.{answer_between, impossible_by};
-ghost use Rattle.pc_agg.specs.Settings.{question_of, setting_of};
+ghost use Rattle.pc_model.specs.Right.{always_has_value};
+ghost use Rattle.pc_agg.specs.Answered.{answer_between, bounded_by, found_of, impossible_by, is_open, CanEnd, IsAnswer};
+ghost use Rattle.pc_agg.specs.Asked.{AreAsked, Asking, setting_for};
+ghost use Rattle.pc_agg.specs.Owed.{Owes};
 
-use crate::ends::{Reached, reach};
+use crate::aim::{Aim, Aimed, aim_at};
+use crate::ends::end_towards;
 use crate::extreme::Extreme;
-use crate::settling::{Settled, settle};
+use crate::limit::Limit;
+use crate::settling::{Settled, listed, settle_totals};
 use pc_cells::Cells;
 use pc_list::Seq;
-use pc_model::{Constraint, Folded, Query, Run, Schema};
+use pc_model::{Agg, Constraint, Folded, Query, Schema};
 use pc_num::Memory;
-use pc_proof::{Answer, Lack, Relation, Why};
+use pc_proof::{Answer, Bounded, End, Lack, Relation, Why};
 use std::alloc::Global;
 
-/// The range of the number of rows that the query chooses, where those observed come to `seen`.
+/// The range of the number of rows that the query chooses, where those observed come to `seen`, by searches of at most
+/// so many nodes each.
 pub fn bound_count(
     alloc: Global,
     schema: &Schema,
@@ -30,28 +26,17 @@ pub fn bound_count(
     constraints: &[Constraint],
     cells: &Cells,
     query: &Query,
+    nodes: u32,
 ) -> Result<Answer, Memory>
-    requires well_formed { IsWellFormed schema.now }
-    requires constraints { AreConstraints schema.now constraints.now }
-    requires disjoint { AreDisjoint schema.now constraints.now }
-    requires query { IsQuery schema.now query.now }
-    requires ungrouped { query.now.group ≡ None }
+    requires asked { AreAsked schema.now seen.now constraints.now cells.now query.now nodes }
     requires counts { query.now.agg ≡ aggs.Count }
-    requires settled { IsSettledTree schema.now constraints.now query.now.chosen cells.now.tree.nodes }
-    requires cells { cells.now.cells ≡ cells_of (leaves_in schema.now cells.now.tree.nodes) }
-    requires filled { All IsFilled cells.now.cells }
-    requires numbers { (column : ℕ) → IsColumnWhere IsNumeric schema.now column → All (HasNumbers column) cells.now.cells }
-    requires few_seen { seen.now.count ≤ 1_000_000 }
-    requires small_seen { nat_abs seen.now.sum ≤ 2 ^ 83 }
-    ensures right { IfOk result (λ answer. (observed : List Row) → IsFold query.now observed seen.now → IsRight (question_of schema.now observed constraints.now query.now) (plain_answer answer)) }
-    ensures form { IfOk result (λ answer. (observed : List Row) → IsFold query.now observed seen.now → HasForm (setting_of schema.now observed constraints.now query.now cells.now.tree.nodes) answer) }
-    ensures unbroken { IfOk result (λ answer. (observed : List Row) → IsFold query.now observed seen.now → IsUnbroken (setting_of schema.now observed constraints.now query.now cells.now.tree.nodes) answer) }
-    ensures sharp { IfOk result IsSharp }
+    ensures owes { IfOk result (λ answer. (asking : Asking schema.now constraints.now query.now seen.now) → Owes (setting_for schema.now constraints.now query.now seen.now cells.now.tree.nodes asking) nodes answer) }
 {
-    bound(alloc, schema, seen, constraints, cells, query)
+    bound(alloc, schema, seen, constraints, cells, query, nodes)
 }
 
-/// The range of the sum of a column over the rows that the query chooses, where those observed come to `seen`.
+/// The range of the sum of a column over the rows that the query chooses, where those observed come to `seen`, by searches
+/// of at most so many nodes each.
 pub fn bound_sum(
     alloc: Global,
     schema: &Schema,
@@ -59,25 +44,13 @@ pub fn bound_sum(
     constraints: &[Constraint],
     cells: &Cells,
     query: &Query,
+    nodes: u32,
 ) -> Result<Answer, Memory>
-    requires well_formed { IsWellFormed schema.now }
-    requires constraints { AreConstraints schema.now constraints.now }
-    requires disjoint { AreDisjoint schema.now constraints.now }
-    requires query { IsQuery schema.now query.now }
-    requires ungrouped { query.now.group ≡ None }
+    requires asked { AreAsked schema.now seen.now constraints.now cells.now query.now nodes }
     requires sums { query.now.agg ≡ aggs.Sum }
-    requires settled { IsSettledTree schema.now constraints.now query.now.chosen cells.now.tree.nodes }
-    requires cells { cells.now.cells ≡ cells_of (leaves_in schema.now cells.now.tree.nodes) }
-    requires filled { All IsFilled cells.now.cells }
-    requires numbers { (column : ℕ) → IsColumnWhere IsNumeric schema.now column → All (HasNumbers column) cells.now.cells }
-    requires few_seen { seen.now.count ≤ 1_000_000 }
-    requires small_seen { nat_abs seen.now.sum ≤ 2 ^ 83 }
-    ensures right { IfOk result (λ answer. (observed : List Row) → IsFold query.now observed seen.now → IsRight (question_of schema.now observed constraints.now query.now) (plain_answer answer)) }
-    ensures form { IfOk result (λ answer. (observed : List Row) → IsFold query.now observed seen.now → HasForm (setting_of schema.now observed constraints.now query.now cells.now.tree.nodes) answer) }
-    ensures unbroken { IfOk result (λ answer. (observed : List Row) → IsFold query.now observed seen.now → IsUnbroken (setting_of schema.now observed constraints.now query.now cells.now.tree.nodes) answer) }
-    ensures sharp { IfOk result IsSharp }
+    ensures owes { IfOk result (λ answer. (asking : Asking schema.now constraints.now query.now seen.now) → Owes (setting_for schema.now constraints.now query.now seen.now cells.now.tree.nodes asking) nodes answer) }
 {
-    bound(alloc, schema, seen, constraints, cells, query)
+    bound(alloc, schema, seen, constraints, cells, query, nodes)
 }
 
 fn bound(
@@ -87,59 +60,120 @@ fn bound(
     constraints: &[Constraint],
     cells: &Cells,
     query: &Query,
+    nodes: u32,
 ) -> Result<Answer, Memory>
-    requires well_formed { IsWellFormed schema.now }
-    requires constraints { AreConstraints schema.now constraints.now }
-    requires disjoint { AreDisjoint schema.now constraints.now }
-    requires query { IsQuery schema.now query.now }
-    requires ungrouped { query.now.group ≡ None }
+    requires asked { AreAsked schema.now seen.now constraints.now cells.now query.now nodes }
     requires has_value { always_has_value query.now.agg ≡ true }
-    requires settled { IsSettledTree schema.now constraints.now query.now.chosen cells.now.tree.nodes }
-    requires cells { cells.now.cells ≡ cells_of (leaves_in schema.now cells.now.tree.nodes) }
-    requires filled { All IsFilled cells.now.cells }
-    requires numbers { (column : ℕ) → IsColumnWhere IsNumeric schema.now column → All (HasNumbers column) cells.now.cells }
+    ensures owes { IfOk result (λ answer. (asking : Asking schema.now constraints.now query.now seen.now) → Owes (setting_for schema.now constraints.now query.now seen.now cells.now.tree.nodes asking) nodes answer) }
+{
+    let low = match aim_at(
+        alloc,
+        schema,
+        constraints,
+        cells,
+        query,
+        Extreme::Low,
+        nodes,
+    )? {
+        Aimed::At(aim) => aim,
+        Aimed::Nothing(tree) => return Ok(impossible_by(Why::Void(tree))),
+    };
+    let high = match aim_at(
+        alloc,
+        schema,
+        constraints,
+        cells,
+        query,
+        Extreme::High,
+        nodes,
+    )? {
+        Aimed::At(aim) => aim,
+        Aimed::Nothing(tree) => return Ok(impossible_by(Why::Void(tree))),
+    };
+    let found = found_by(alloc, &low.limit, &high.limit)?;
+    if !found.is_empty() {
+        let settled = listed(alloc, low.picks.as_slice(), found)?;
+        return between(alloc, seen, query.agg, settled, low, high);
+    }
+    let settled = settle_totals(alloc, schema, constraints, cells, query, nodes)?;
+    between(alloc, seen, query.agg, settled, low, high)
+}
+
+/// What the searches of both ends found.
+fn found_by(alloc: Global, low: &Limit, high: &Limit) -> Result<Seq<Seq<u64>>, Memory>
+    ensures { IfOk result (λ found. found ≡ found_of low.now.found ++ found_of high.now.found) }
+{
+    let found = with_found(Seq::new(alloc), &low.found)?;
+    with_found(found, &high.found)
+}
+
+fn with_found(found: Seq<Seq<u64>>, more: &Option<Seq<u64>>) -> Result<Seq<Seq<u64>>, Memory>
+    ensures { IfOk result (λ all. all ≡ found ++ found_of more.now) }
+{
+    let Some(counts) = more else {
+        return Ok(found);
+    };
+    let mut all = found;
+    all.push(counts.clone()?)?;
+    Ok(all)
+}
+
+/// The answer over what was settled: nothing where that is impossible, or both ends.
+fn between(
+    alloc: Global,
+    seen: &Folded,
+    agg: Agg,
+    settled: Settled,
+    low: Aim,
+    high: Aim,
+) -> Result<Answer, Memory>
     requires few_seen { seen.now.count ≤ 1_000_000 }
     requires small_seen { nat_abs seen.now.sum ≤ 2 ^ 83 }
-    ensures right { IfOk result (λ answer. (observed : List Row) → IsFold query.now observed seen.now → IsRight (question_of schema.now observed constraints.now query.now) (plain_answer answer)) }
-    ensures form { IfOk result (λ answer. (observed : List Row) → IsFold query.now observed seen.now → HasForm (setting_of schema.now observed constraints.now query.now cells.now.tree.nodes) answer) }
-    ensures unbroken { IfOk result (λ answer. (observed : List Row) → IsFold query.now observed seen.now → IsUnbroken (setting_of schema.now observed constraints.now query.now cells.now.tree.nodes) answer) }
-    ensures sharp { IfOk result IsSharp }
+    requires low { CanEnd settled.found low }
+    requires high { CanEnd settled.found high }
+    ensures { IfOk result (IsAnswer seen.now agg settled.relation settled.found low high) }
 {
-    let Settled { relation, .. } = settle(alloc, schema, constraints, cells, query)?;
-    match relation {
-        Relation::Possible(runs) => {
-            let low = reach(alloc, schema, seen, constraints, cells, query, Extreme::Low)?;
-            let high = reach(
-                alloc,
-                schema,
-                seen,
-                constraints,
-                cells,
-                query,
-                Extreme::High,
-            )?;
-            Ok(answer_between(runs, low, high))
-        }
-        Relation::Impossible(why) => Ok(impossible_by(why)),
-        Relation::Undecided => unreachable!(),
+    let Settled {
+        relation,
+        lack: _,
+        found,
+    } = settled;
+    if let Relation::Impossible(why) = relation {
+        return Ok(impossible_by(why));
+    }
+    let low = end_towards(alloc, seen, agg, Extreme::Low, low, found.as_slice())?;
+    let high = end_towards(alloc, seen, agg, Extreme::High, high, found.as_slice())?;
+    Ok(answer_between(relation, low, high))
+}
+
+fn answer_between(relation: Relation, low: End, high: End) -> Answer
+    ensures { result ≡ answer_between relation low high }
+{
+    if is_open(&relation) && high.value.num < low.value.num {
+        return impossible_by(Why::Ends(bounded_by(low), bounded_by(high)));
+    }
+    Answer {
+        relation,
+        lack: Lack::Silent,
+        ends: Some((low, high)),
     }
 }
 
-fn answer_between(runs: Seq<Run>, low: Reached, high: Reached) -> Answer
-    ensures { result ≡ answer_between runs low high }
+fn is_open(relation: &Relation) -> bool
+    ensures { result ≡ is_open relation.now }
 {
-    let low = match low {
-        Reached::At(end) => end,
-        Reached::Nothing(why) => return impossible_by(why),
-    };
-    let high = match high {
-        Reached::At(end) => end,
-        Reached::Nothing(why) => return impossible_by(why),
-    };
-    Answer {
-        relation: Relation::Possible(runs),
-        lack: Lack::Silent,
-        ends: Some((low, high)),
+    match relation {
+        Relation::Possible(_) | Relation::Impossible(_) => false,
+        Relation::Undecided => true,
+    }
+}
+
+fn bounded_by(end: End) -> Bounded
+    ensures { result ≡ bounded_by end }
+{
+    Bounded {
+        value: end.value,
+        proof: end.proof,
     }
 }
 

@@ -1,82 +1,81 @@
-ghost use Rattle.std.specs.Prelude.{◌≡◌, ◌*◌, ◌≤◌, ◌^◌, ◌+ℤ◌, ℕ, pos, List, [], ◌∷◌, length, nat_abs, true, None, All, IfOk};
-ghost use Rattle.pc_model.specs.declared.row.Row.{Row};
-ghost use Rattle.pc_model.specs.Accepted.{AreConstraints, IsQuery, IsNumeric, IsColumnWhere};
-ghost use Rattle.pc_model.specs.Folds.{IsFold};
-ghost use Rattle.pc_model.specs.Membership.{AreDisjoint};
-ghost use Rattle.pc_model.specs.Right.{always_has_value};
-ghost use Rattle.pc_model.specs.WellFormed.{IsWellFormed};
-ghost use Rattle.pc_model.specs.Cells.{IsSettledTree, leaves_in};
-ghost use Rattle.pc_cells.specs.Found.{cells_of, IsFilled, HasNumbers};
-ghost use Rattle.pc_model.specs.Runs.{runs_from};
-ghost use Rattle.pc_model.specs.declared.tree.TreeNode.TheVariants as nodes;
-ghost use Rattle.pc_proof.specs.declared.answer.Mark.TheVariants as marks;
-ghost use Rattle.pc_proof.specs.declared.answer.Proof.TheVariants as proofs;
-ghost use Rattle.pc_agg.specs.Answered.{IsExactlyReached};
-ghost use Rattle.pc_agg.specs.Ends.{IsReached, signed};
+ghost use Rattle.std.specs.Prelude.{◌≡◌, ◌≤◌, ◌^◌, ◌+ℤ◌, length, nat_abs, All, IfOk};
+ghost use Rattle.pc_bound.specs.Allocation.{IsProgram, IsAllocation, cells_of};
+ghost use Rattle.pc_branch.specs.Ends.{HasSmallGains};
+ghost use Rattle.pc_agg.specs.Answered.{CanEnd, IsEnd};
+ghost use Rattle.pc_agg.specs.Ends.{signed};
+ghost use Rattle.pc_agg.specs.Marks.{IsMarked, IsEndOf};
 ghost use Rattle.pc_agg.specs.Observed.{folded_value};
-ghost use Rattle.pc_agg.specs.Settings.{setting_of};
 
+use crate::aim::Aim;
 use crate::extreme::Extreme;
-use crate::programs::solve_cells;
-use crate::single::{single, void};
-use crate::targets::{Targets, find_targets};
-use pc_cells::Cells;
-use pc_model::{Agg, Constraint, Folded, Mult, Query, Row, Schema, TreeNode};
+use crate::limit::Limit;
+use crate::reached::find_worth;
+use pc_list::Seq;
+use pc_model::{Agg, Folded, Row};
 use pc_num::{Frac, Memory};
-use pc_program::Solved;
-use pc_proof::{End, Mark, Proof, Why};
+use pc_proof::{End, Mark, Proof};
 use pc_witness::rebuild;
 use std::alloc::Global;
 
-/// An end with runs that reach it, or why no lost rows meet the constraints.
-#[derive(Debug, Drop)]
-pub(crate) enum Reached {
-    At(End),
-    Nothing(Why),
-}
-
-/// An end of a count or a sum.
-pub(crate) fn reach(
+/// The end of an aim: what the observed rows come to with what the lost ones add, reached where some counts that were
+/// found are worth the limit.
+pub(crate) fn end_towards(
     alloc: Global,
-    schema: &Schema,
     seen: &Folded,
-    constraints: &[Constraint],
-    cells: &Cells,
-    query: &Query,
+    agg: Agg,
     extreme: Extreme,
-) -> Result<Reached, Memory>
-    requires well_formed { IsWellFormed schema.now }
-    requires constraints { AreConstraints schema.now constraints.now }
-    requires disjoint { AreDisjoint schema.now constraints.now }
-    requires query { IsQuery schema.now query.now }
-    requires ungrouped { query.now.group ≡ None }
-    requires has_value { always_has_value query.now.agg ≡ true }
-    requires settled { IsSettledTree schema.now constraints.now query.now.chosen cells.now.tree.nodes }
-    requires cells { cells.now.cells ≡ cells_of (leaves_in schema.now cells.now.tree.nodes) }
-    requires filled { All IsFilled cells.now.cells }
-    requires numbers { (column : ℕ) → IsColumnWhere IsNumeric schema.now column → All (HasNumbers column) cells.now.cells }
+    aim: Aim,
+    found: &[Seq<u64>],
+) -> Result<End, Memory>
     requires few_seen { seen.now.count ≤ 1_000_000 }
     requires small_seen { nat_abs seen.now.sum ≤ 2 ^ 83 }
-    ensures reached { IfOk result (λ found. (observed : List Row) → IsFold query.now observed seen.now → IsReached (setting_of schema.now observed constraints.now query.now cells.now.tree.nodes) extreme found) }
-    ensures exact { IfOk result IsExactlyReached }
+    requires can { CanEnd found.now aim }
+    ensures { IfOk result (IsEnd seen.now agg extreme found.now aim) }
 {
-    let targets = find_targets(alloc, schema, constraints, cells, query, extreme)?;
-    let Targets { gains, picks } = targets;
-    let chosen = &query.chosen;
-    match solve_cells(alloc, schema, constraints, chosen, cells, gains)? {
-        Solved::Best {
-            counts,
-            value,
-            mult,
-        } => {
-            let number = end_number(seen, query.agg, extreme, value);
-            let end = reached_end(alloc, number, picks.as_slice(), counts.as_slice(), mult)?;
-            Ok(Reached::At(end))
+    let Aim { limit, picks } = aim;
+    let number = end_number(seen, agg, extreme, limit.most);
+    end_of(alloc, number, limit, picks.as_slice(), found)
+}
+
+/// The end at a number, reached where some counts that were found are worth the limit.
+fn end_of(
+    alloc: Global,
+    number: i128,
+    limit: Limit,
+    picks: &[Row],
+    found: &[Seq<u64>],
+) -> Result<End, Memory>
+    requires program { IsProgram limit.program }
+    requires small { HasSmallGains limit.program }
+    requires allowed { All (IsAllocation limit.program limit.program.floor limit.program.cap) found.now }
+    requires picked { length picks.now ≡ cells_of limit.program }
+    ensures { IfOk result (IsEndOf limit picks.now found.now number) }
+{
+    let mark = mark_of(alloc, &limit, picks, found)?;
+    Ok(End {
+        value: Frac {
+            num: number,
+            den: 1,
+        },
+        mark,
+        proof: Proof::Tree(limit.tree),
+    })
+}
+
+/// The runs of the first counts that are worth the limit.
+fn mark_of(alloc: Global, limit: &Limit, picks: &[Row], found: &[Seq<u64>]) -> Result<Mark, Memory>
+    requires program { IsProgram limit.now.program }
+    requires small { HasSmallGains limit.now.program }
+    requires allowed { All (IsAllocation limit.now.program limit.now.program.floor limit.now.program.cap) found.now }
+    requires picked { length picks.now ≡ cells_of limit.now.program }
+    ensures { IfOk result (IsMarked limit.now.program limit.now.most picks.now found.now) }
+{
+    match find_worth(&limit.program, found, limit.most) {
+        Some(place) => {
+            let runs = rebuild(alloc, picks, found[place].as_slice())?;
+            Ok(Mark::Exact(runs))
         }
-        Solved::Nothing { mult } => {
-            let why = void(alloc, mult)?;
-            Ok(Reached::Nothing(why))
-        }
+        None => Ok(Mark::Outer),
     }
 }
 
@@ -84,7 +83,7 @@ pub(crate) fn reach(
 fn end_number(seen: &Folded, agg: Agg, extreme: Extreme, gained: i128) -> i128
     requires few_seen { seen.now.count ≤ 1_000_000 }
     requires small_seen { nat_abs seen.now.sum ≤ 2 ^ 83 }
-    requires small { nat_abs gained ≤ 40 * 2 ^ 117 }
+    requires small { nat_abs gained ≤ 10 ^ 37 }
     ensures { result ≡ folded_value agg seen.now +ℤ signed extreme gained }
 {
     let observed = folded_value(seen, agg);
@@ -105,27 +104,4 @@ fn folded_value(seen: &Folded, agg: Agg) -> i128
         Agg::Sum => seen.sum,
         _ => 0,
     }
-}
-
-/// The end at a number that the runs of the picks reach, with the multipliers that show it.
-fn reached_end(
-    alloc: Global,
-    number: i128,
-    picks: &[Row],
-    counts: &[u64],
-    mult: Mult,
-) -> Result<End, Memory>
-    requires { length picks.now ≡ length counts.now }
-    ensures { IfOk result (λ end. end ≡ record { value = record { num = number; den = pos 1 }; mark = marks.Exact (runs_from picks.now counts.now); proof = proofs.Tree (record { nodes = nodes.Bound mult ∷ [] }) }) }
-{
-    let runs = rebuild(alloc, picks, counts)?;
-    let tree = single(alloc, TreeNode::Bound { mult })?;
-    Ok(End {
-        value: Frac {
-            num: number,
-            den: 1,
-        },
-        mark: Mark::Exact(runs),
-        proof: Proof::Tree(tree),
-    })
 }

@@ -1,15 +1,20 @@
-//! Sure ranges of counts and sums under constraints whose predicates are disjoint, with what shows them.
+//! Sure ranges of counts and sums under any constraints, by searches within a budget of nodes, with what shows them and
+//! what licenses that they stay open.
 #![tactic(auto)]
 
+mod aim;
 mod bounds;
 mod ends;
 mod extreme;
+mod laws;
+mod limit;
 mod programs;
+mod reached;
 mod settling;
-mod single;
 mod targets;
 #[cfg(test)]
 mod tests;
 
 pub use bounds::{bound_count, bound_sum};
+pub use laws::folds_are_asked_of;
 pub use settling::{Settled, settle};

@@ -1,49 +1,19 @@
-ghost use Rattle.std.specs.Prelude.{◌≡◌, ◌<◌, ◌^◌, ℕ, Some, nat_abs, length, map, min, unwrap_or, if◌then◌else◌, All, IfOk};
+ghost use Rattle.std.specs.Prelude.{◌≡◌, Some, map, min, unwrap_or, if◌then◌else◌, IfOk};
 ghost use Rattle.pc_model.specs.declared.constraint.Constraint.{Constraint};
-ghost use Rattle.pc_model.specs.Accepted.{AreConstraints};
-ghost use Rattle.pc_model.specs.Membership.{AreDisjoint};
 ghost use Rattle.pc_model.specs.Places.{has_bit};
-ghost use Rattle.pc_model.specs.WellFormed.{IsWellFormed};
-ghost use Rattle.pc_model.specs.Cells.{IsSettledTree, leaves_in};
-ghost use Rattle.pc_bound.specs.CellPrograms.{cap_of};
-ghost use Rattle.pc_program.specs.Solved.{IsSolved, IsSmall};
+ghost use Rattle.pc_bound.specs.CellPrograms.{cap_of, program_with};
 ghost use Rattle.pc_cells.specs.declared.cells.Cell.{Cell};
-ghost use Rattle.pc_cells.specs.Found.{class_of_cell, cells_of};
-ghost use Rattle.pc_bound.specs.CellPrograms.{program_with};
+ghost use Rattle.pc_cells.specs.Found.{class_of_cell};
 
 use pc_bound::Program;
-use pc_cells::{Cell, Cells};
+use pc_cells::Cell;
 use pc_list::Seq;
-use pc_model::{Constraint, Region, Schema};
+use pc_model::Constraint;
 use pc_num::Memory;
-use pc_program::{Solved, greedy};
 use std::alloc::Global;
 
-/// The allocation of the cells' program that gains most, or that there is none.
-pub(crate) fn solve_cells(
-    alloc: Global,
-    schema: &Schema,
-    constraints: &[Constraint],
-    chosen: &Region,
-    cells: &Cells,
-    gains: Seq<i128>,
-) -> Result<Solved, Memory>
-    requires well_formed { IsWellFormed schema.now }
-    requires constraints { AreConstraints schema.now constraints.now }
-    requires disjoint { AreDisjoint schema.now constraints.now }
-    requires settled { IsSettledTree schema.now constraints.now chosen.now cells.now.tree.nodes }
-    requires cells { cells.now.cells ≡ cells_of (leaves_in schema.now cells.now.tree.nodes) }
-    requires sized { length gains ≡ length cells.now.cells }
-    requires small_gains { All (λ gain. nat_abs gain < 2 ^ 87) gains }
-    ensures solved { IfOk result (IsSolved (program_with constraints.now (map class_of_cell cells.now.cells) gains)) }
-    ensures small { IfOk result IsSmall }
-{
-    let program = program_of(alloc, constraints, cells.cells.as_slice(), gains)?;
-    greedy(alloc, &program)
-}
-
 /// The program of the counts of rows in the cells.
-fn program_of(
+pub(crate) fn program_of(
     alloc: Global,
     constraints: &[Constraint],
     cells: &[Cell],

@@ -1,93 +1,235 @@
-ghost use Rattle.std.specs.Prelude.{◌≡◌, pos, List, replicate, true, None, All, IfOk};
+ghost use Rattle.std.specs.Prelude.{◌≡◌, ℕ, ◌<◌, ◌≤◌, ◌^◌, ◌⊎◌, pos, neg_ℤ, nat_abs, length, replicate, [], ◌∷◌, slice_index_or, true, All, IfOk, IfSome};
 ghost use Rattle.std.specs.List.{AllZip};
 ghost use Rattle.pc_cells.specs.declared.cells.Cell.{Cell};
-ghost use Rattle.pc_model.specs.declared.row.Row.{Row};
-ghost use Rattle.pc_model.specs.Accepted.{AreConstraints, IsQuery};
+ghost use Rattle.pc_model.specs.Accepted.{AreConstraints};
 ghost use Rattle.pc_model.specs.Membership.{AreDisjoint};
 ghost use Rattle.pc_model.specs.Right.{always_has_value};
+ghost use Rattle.pc_model.specs.Runs.{runs_from};
 ghost use Rattle.pc_model.specs.WellFormed.{IsWellFormed};
-ghost use Rattle.pc_model.specs.Cells.{IsSettledTree, IsInSome, leaves_in};
-ghost use Rattle.pc_cells.specs.Found.{cells_of, IsFilled};
-ghost use Rattle.pc_proof.specs.Unbroken.{HoldsRelation, IsDecided};
+ghost use Rattle.pc_model.specs.Cells.{IsInSome};
+ghost use Rattle.pc_cells.specs.Found.{IsFilled};
+ghost use Rattle.pc_proof.specs.Setting.{program_for};
+ghost use Rattle.pc_proof.specs.declared.answer.Relation.TheVariants as relations;
 ghost use Rattle.pc_proof.specs.declared.answer.Lack.TheVariants as lacks;
-ghost use Rattle.pc_agg.specs.Settings.{setting_of};
+ghost use Rattle.pc_proof.specs.Unbroken.{IsDecided};
+ghost use Rattle.pc_licence.specs.Pools.{AreLawful};
+ghost use Rattle.pc_agg.specs.Asked.{AreCells, AreAsked, Asking, setting_for};
+ghost use Rattle.pc_agg.specs.Owed.{OwesSettled};
+ghost use Rattle.pc_agg.specs.Settings.{unseen};
+ghost use Rattle.pc_agg.specs.Settling.{IsSettled, IsTotal, IsTotalDecided, IsTotalOf, left_open};
 
-use crate::programs::solve_cells;
-use crate::single::void;
+use crate::limit::{Limit, Sought, seek};
 use pc_cells::Cells;
 use pc_list::Seq;
-use pc_model::{Constraint, Query, Row, Schema};
+use pc_model::{Constraint, Folded, Query, Row, Schema};
 use pc_num::Memory;
-use pc_program::Solved;
-use pc_proof::{Lack, Relation};
+use pc_proof::{Lack, Relation, Why};
 use pc_witness::rebuild;
 use std::alloc::Global;
 
-/// Whether lost rows can meet the constraints, and whether the aggregate can lack a value.
-#[derive(Clone, Debug, PartialEq, Eq, Drop)]
+/// Whether lost rows can meet the constraints, whether the aggregate can lack a value, and the counts of rows in the
+/// cells that were found for it.
+#[derive(Debug, PartialEq, Eq, Drop)]
 pub struct Settled {
     pub relation: Relation,
     pub lack: Lack,
+    pub found: Seq<Seq<u64>>,
 }
 
-/// Settles the relation of a count or a sum, which never lacks a value.
+/// What the search for the most or the fewest rows comes to: the relation, or a bound below which nothing was found.
+#[derive(Debug, Drop)]
+enum Total {
+    Settled(Settled),
+    Open(Limit),
+}
+
+/// Settles the relation of a count or a sum, which never lacks a value, by the most and the fewest rows that can be
+/// lost.
 pub fn settle(
     alloc: Global,
     schema: &Schema,
+    seen: &Folded,
     constraints: &[Constraint],
     cells: &Cells,
     query: &Query,
+    nodes: u32,
 ) -> Result<Settled, Memory>
-    requires well_formed { IsWellFormed schema.now }
-    requires constraints { AreConstraints schema.now constraints.now }
-    requires disjoint { AreDisjoint schema.now constraints.now }
-    requires query { IsQuery schema.now query.now }
-    requires ungrouped { query.now.group ≡ None }
+    requires asked { AreAsked schema.now seen.now constraints.now cells.now query.now nodes }
     requires has_value { always_has_value query.now.agg ≡ true }
-    requires settled { IsSettledTree schema.now constraints.now query.now.chosen cells.now.tree.nodes }
-    requires cells { cells.now.cells ≡ cells_of (leaves_in schema.now cells.now.tree.nodes) }
-    requires filled { All IsFilled cells.now.cells }
-    ensures relation { IfOk result (λ settled. (observed : List Row) → HoldsRelation (setting_of schema.now observed constraints.now query.now cells.now.tree.nodes) settled.relation) }
-    ensures decided { IfOk result (λ settled. IsDecided settled.relation) }
-    ensures lack { IfOk result (λ settled. settled.lack ≡ lacks.Silent) }
+    ensures owes { IfOk result (λ settled. (asking : Asking schema.now constraints.now query.now seen.now) → OwesSettled (setting_for schema.now constraints.now query.now seen.now cells.now.tree.nodes asking) nodes settled.relation settled.lack settled.found) }
 {
-    let relation = relate(alloc, schema, constraints, cells, query)?;
-    Ok(Settled {
-        relation,
-        lack: Lack::Silent,
-    })
+    settle_totals(alloc, schema, constraints, cells, query, nodes)
 }
 
-/// Runs of lost rows that meet the constraints, or why there are none.
-fn relate(
+/// The same by what the cells alone say.
+pub(crate) fn settle_totals(
     alloc: Global,
     schema: &Schema,
     constraints: &[Constraint],
     cells: &Cells,
     query: &Query,
-) -> Result<Relation, Memory>
+    nodes: u32,
+) -> Result<Settled, Memory>
     requires well_formed { IsWellFormed schema.now }
     requires constraints { AreConstraints schema.now constraints.now }
-    requires disjoint { AreDisjoint schema.now constraints.now }
-    requires settled { IsSettledTree schema.now constraints.now query.now.chosen cells.now.tree.nodes }
-    requires cells { cells.now.cells ≡ cells_of (leaves_in schema.now cells.now.tree.nodes) }
-    requires filled { All IsFilled cells.now.cells }
-    ensures holds { IfOk result (λ relation. (observed : List Row) → HoldsRelation (setting_of schema.now observed constraints.now query.now cells.now.tree.nodes) relation) }
-    ensures decided { IfOk result IsDecided }
+    requires cells { AreCells schema.now constraints.now query.now cells.now }
+    requires nodes { (1 ≤ nodes) × (nodes ≤ 100_000) }
+    ensures settled { IfOk result (IsSettled (unseen schema.now constraints.now query.now cells.now.tree.nodes) nodes) }
+    ensures disjoint { AreDisjoint schema.now constraints.now → IfOk result (λ settled. IsDecided settled.relation) }
+{
+    let most = match find_total(alloc, schema, constraints, cells, query, 1, nodes)? {
+        Total::Settled(settled) => return Ok(settled),
+        Total::Open(limit) => limit,
+    };
+    let fewest = match find_total(alloc, schema, constraints, cells, query, -1, nodes)? {
+        Total::Settled(settled) => return Ok(settled),
+        Total::Open(limit) => limit,
+    };
+    Ok(left_open(alloc, most, fewest))
+}
+
+/// The most rows that can be lost, by a gain of 1 for each, or the fewest, by a gain of -1.
+fn find_total(
+    alloc: Global,
+    schema: &Schema,
+    constraints: &[Constraint],
+    cells: &Cells,
+    query: &Query,
+    gain: i128,
+    nodes: u32,
+) -> Result<Total, Memory>
+    requires well_formed { IsWellFormed schema.now }
+    requires constraints { AreConstraints schema.now constraints.now }
+    requires cells { AreCells schema.now constraints.now query.now cells.now }
+    requires one { (gain ≡ pos 1) ⊎ (gain ≡ neg_ℤ (pos 1)) }
+    requires nodes { (1 ≤ nodes) × (nodes ≤ 100_000) }
+    ensures total { IfOk result (IsTotal (unseen schema.now constraints.now query.now cells.now.tree.nodes) nodes (program_for (unseen schema.now constraints.now query.now cells.now.tree.nodes) (λ _. gain))) }
+    ensures disjoint { AreDisjoint schema.now constraints.now → IfOk result IsTotalDecided }
+{
+    let gains = equal_gains(alloc, cells.cells.len(), gain)?;
+    let chosen = &query.chosen;
+    match seek(alloc, schema, constraints, chosen, cells, gains, nodes)? {
+        Sought::Within(limit) => settled_within(alloc, schema, constraints, cells, query, limit),
+        Sought::Nothing(tree) => Ok(Total::Settled(impossible(alloc, Why::Void(tree)))),
+    }
+}
+
+/// The same gain for each of so many cells.
+fn equal_gains(alloc: Global, count: usize, gain: i128) -> Result<Seq<i128>, Memory>
+    ensures { IfOk result (λ gains. gains ≡ replicate count gain) }
+{
+    let gains = vec![in alloc; gain; count]?;
+    Ok(Seq::from_vec(gains))
+}
+
+/// The relation where the search found something.
+fn settled_within(
+    alloc: Global,
+    schema: &Schema,
+    constraints: &[Constraint],
+    cells: &Cells,
+    query: &Query,
+    limit: Limit,
+) -> Result<Total, Memory>
+    requires well_formed { IsWellFormed schema.now }
+    requires constraints { AreConstraints schema.now constraints.now }
+    requires cells { AreCells schema.now constraints.now query.now cells.now }
+    requires lawful { IfSome limit.found (AreLawful (unseen schema.now constraints.now query.now cells.now.tree.nodes)) }
+    ensures total { IfOk result (IsTotalOf (unseen schema.now constraints.now query.now cells.now.tree.nodes) limit) }
+{
+    let Limit {
+        program,
+        most,
+        tree,
+        found,
+    } = limit;
+    match found {
+        Some(counts) => {
+            let settled = possible(alloc, schema, constraints, cells, query, counts)?;
+            Ok(Total::Settled(settled))
+        }
+        None => Ok(Total::Open(Limit {
+            program,
+            most,
+            tree,
+            found: None,
+        })),
+    }
+}
+
+/// A list with these counts.
+fn possible(
+    alloc: Global,
+    schema: &Schema,
+    constraints: &[Constraint],
+    cells: &Cells,
+    query: &Query,
+    counts: Seq<u64>,
+) -> Result<Settled, Memory>
+    requires well_formed { IsWellFormed schema.now }
+    requires cells { AreCells schema.now constraints.now query.now cells.now }
+    requires lawful { AreLawful (unseen schema.now constraints.now query.now cells.now.tree.nodes) counts }
+    ensures settled { IfOk result (λ settled. (budget : ℕ) → IsSettled (unseen schema.now constraints.now query.now cells.now.tree.nodes) budget settled) }
+    ensures decided { IfOk result (λ settled. IsDecided settled.relation) }
 {
     let picks = rows_of_cells(alloc, cells)?;
-    let gains = no_gains(alloc, cells.cells.len())?;
-    let chosen = &query.chosen;
-    match solve_cells(alloc, schema, constraints, chosen, cells, gains)? {
-        Solved::Best { counts, .. } => {
-            let runs = rebuild(alloc, picks.as_slice(), counts.as_slice())?;
-            Ok(Relation::Possible(runs))
-        }
-        Solved::Nothing { mult } => {
-            let why = void(alloc, mult)?;
-            Ok(Relation::Impossible(why))
-        }
+    let found = only(alloc, counts)?;
+    listed(alloc, picks.as_slice(), found)
+}
+
+fn only(alloc: Global, counts: Seq<u64>) -> Result<Seq<Seq<u64>>, Memory>
+    ensures { IfOk result (λ found. found ≡ counts ∷ []) }
+{
+    let mut found = Seq::new(alloc);
+    found.push(counts)?;
+    Ok(found)
+}
+
+/// A list with the first of these counts, by a row of each cell.
+pub(crate) fn listed(alloc: Global, picks: &[Row], found: Seq<Seq<u64>>) -> Result<Settled, Memory>
+    requires some { 0 < length found }
+    requires sized { length picks.now ≡ length (slice_index_or found 0 []) }
+    ensures { IfOk result (λ settled. settled ≡ record { relation = relations.Possible (runs_from picks.now (slice_index_or found 0 [])); lack = lacks.Silent; found = found }) }
+{
+    let runs = rebuild(alloc, picks, found.as_slice()[0].as_slice())?;
+    Ok(Settled {
+        relation: Relation::Possible(runs),
+        lack: Lack::Silent,
+        found,
+    })
+}
+
+fn impossible(alloc: Global, why: Why) -> Settled
+    ensures { result ≡ record { relation = relations.Impossible why; lack = lacks.Silent; found = [] } }
+{
+    Settled {
+        relation: Relation::Impossible(why),
+        lack: Lack::Silent,
+        found: Seq::new(alloc),
     }
+}
+
+/// Where nothing was found: the most rows are fewer than the fewest, or neither is known.
+fn left_open(alloc: Global, most: Limit, fewest: Limit) -> Settled
+    requires small_most { nat_abs most.most ≤ 10 ^ 37 }
+    requires small_fewest { nat_abs fewest.most ≤ 10 ^ 37 }
+    ensures { result ≡ left_open most fewest }
+{
+    if most.most < negated(fewest.most) {
+        return impossible(alloc, Why::Cross(most.tree, fewest.tree));
+    }
+    Settled {
+        relation: Relation::Undecided,
+        lack: Lack::Silent,
+        found: Seq::new(alloc),
+    }
+}
+
+fn negated(number: i128) -> i128
+    requires { nat_abs number ≤ 10 ^ 37 }
+    ensures { result ≡ neg_ℤ number }
+{
+    -number
 }
 
 /// A row of each cell.
@@ -101,12 +243,4 @@ fn rows_of_cells(alloc: Global, cells: &Cells) -> Result<Seq<Row>, Memory>
         picks.push(row)?;
     }
     Ok(picks)
-}
-
-/// A gain of 0 for each cell.
-fn no_gains(alloc: Global, count: usize) -> Result<Seq<i128>, Memory>
-    ensures { IfOk result (λ gains. gains ≡ replicate count (pos 0)) }
-{
-    let gains = vec![in alloc; 0; count]?;
-    Ok(Seq::from_vec(gains))
 }

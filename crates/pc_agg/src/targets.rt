@@ -1,13 +1,12 @@
-ghost use Rattle.std.specs.Prelude.{◌≡◌, ◌<◌, ◌^◌, ℕ, pos, List, nat_abs, length, map, cond, true, None, Some, All, IfOk, IfSome};
+ghost use Rattle.std.specs.Prelude.{◌≡◌, ◌<◌, ◌≤◌, ◌^◌, ℕ, pos, nat_abs, length, map, cond, true, None, Some, All, IfOk, IfSome};
 ghost use Rattle.std.specs.List.{AllZip};
-ghost use Rattle.pc_model.specs.declared.row.Row.{Row};
 ghost use Rattle.pc_model.specs.Accepted.{IsQuery, IsNumeric, IsColumnWhere};
 ghost use Rattle.pc_model.specs.Right.{always_has_value};
 ghost use Rattle.pc_model.specs.WellFormed.{IsWellFormed};
 ghost use Rattle.pc_model.specs.Cells.{IsSettledTree, leaves_in};
 ghost use Rattle.pc_cells.specs.Found.{class_of_cell, cells_of, leaves_at, IsFilled, HoldsNumber, HasNumbers};
 ghost use Rattle.pc_agg.specs.Ends.{gain_towards, signed, IsPick};
-ghost use Rattle.pc_agg.specs.Settings.{setting_of};
+ghost use Rattle.pc_agg.specs.Settings.{unseen};
 ghost use Rattle.pc_agg.specs.Targets.{cell_at, number_in, IsTarget, AreTargets};
 
 use crate::extreme::Extreme;
@@ -41,9 +40,9 @@ pub(crate) fn find_targets(
     requires cells { cells.now.cells ≡ cells_of (leaves_in schema.now cells.now.tree.nodes) }
     requires filled { All IsFilled cells.now.cells }
     requires numbers { (column : ℕ) → IsColumnWhere IsNumeric schema.now column → All (HasNumbers column) cells.now.cells }
-    ensures gains { IfOk result (λ found. (observed : List Row) → found.gains ≡ map (gain_towards (setting_of schema.now observed constraints.now query.now cells.now.tree.nodes) query.now.agg extreme) (map class_of_cell cells.now.cells)) }
-    ensures picks { IfOk result (λ found. (observed : List Row) → AllZip (IsPick (setting_of schema.now observed constraints.now query.now cells.now.tree.nodes) query.now.agg extreme) (map class_of_cell cells.now.cells) found.picks) }
-    ensures small { IfOk result (λ found. All (λ gain. nat_abs gain < 2 ^ 87) found.gains) }
+    ensures gains { IfOk result (λ found. found.gains ≡ map (gain_towards (unseen schema.now constraints.now query.now cells.now.tree.nodes) query.now.agg extreme) (map class_of_cell cells.now.cells)) }
+    ensures picks { IfOk result (λ found. AllZip (IsPick (unseen schema.now constraints.now query.now cells.now.tree.nodes) query.now.agg extreme) (map class_of_cell cells.now.cells) found.picks) }
+    ensures small { IfOk result (λ found. All (λ gain. nat_abs gain ≤ 2 ^ 63) found.gains) }
 {
     targets_of(alloc, cells, query.column, extreme)
 }
@@ -101,7 +100,7 @@ fn target_of(
 
 fn gain_of(chosen: bool, number: i64, extreme: Extreme) -> i128
     ensures gain { result ≡ cond chosen (signed extreme number) (pos 0) }
-    ensures small { nat_abs result < 2 ^ 87 }
+    ensures small { nat_abs result ≤ 2 ^ 63 }
 {
     if !chosen {
         return 0;

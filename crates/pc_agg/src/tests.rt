@@ -1,10 +1,14 @@
-ghost use Rattle.std.specs.Prelude.{◌≡◌, IsTrue};
-ghost use Rattle.pc_model.specs.Accepted.{AreConstraints};
-ghost use Rattle.pc_model.specs.Membership.{AreDisjoint};
+ghost use Rattle.std.specs.Prelude.{◌≡◌};
 ghost use Rattle.pc_model.specs.Right.{always_has_value};
 
+mod overlaps;
+mod ranges;
+mod small;
+mod small_more;
+
 use crate::{Settled, bound_count, bound_sum, settle};
-use pc_cells::{decompose, pairwise_apart};
+use overlaps::{OVERLAPS, TRIANGLES};
+use pc_cells::decompose;
 use pc_lang::{read_constraints, read_query};
 use pc_list::Seq;
 use pc_model::{Agg, Constraint, Folded, Query, Run, Schema};
@@ -13,93 +17,15 @@ use pc_proof::{Answer, End, Lack, Mark, Relation};
 use pc_rows::read_rows;
 use pc_schema::read_schema;
 use pc_witness::{fold_runs, meets, total_times};
+use ranges::{CHEAP, IMPOSSIBLE, LARGE, MOST_LARGE, RANGES, SALES, SHOP};
+use small::SMALL;
+use small_more::SMALL_MORE;
 use std::alloc::Global;
 use std::process::Abort;
 use std::test::Fail;
 
-const SHOP: &str = "branch,cat,Chicago,NewYork,Trenton\nday,int,1,31\nprice,dec,2,0.00,1000.00\n";
-
-const SALES: &str = "branch,day,price\nChicago,3,100.00\nNewYork,5,50.00\n";
-
-const NO_SALES: &str = "branch,day,price\n";
-
-const CHEAP: &str = "c1: branch = Chicago => price in 0.00..149.99, 0..5\n";
-
-const TWO_CHEAP: &str = "c1: branch = Chicago => price in 0.00..149.99, 2..5\n";
-
-const NEVER_KEPT: &str = "c: price >= 500.00 => price in 0.00..100.00, 1..2\n";
-
-const LARGE: &str = "v,int,1000000000000000,1000000000000000\n";
-
-const MOST_LARGE: &str = "c: true => true, 10000000..10000000\n";
-
-const KINDS: &str = "n,int,-9,9\nk,cat,a,b\n";
-
-const BOTH_KINDS: &str = "n,k\n4,a\n-3,b\n";
-
-const APART: &str = "p: k = a => n in -5..2, 1..3\nq: k = b => n in 3..6, 0..2\n";
-
-const APART_BELOW: &str = "p: k = a => n in -5..-2, 1..3\nq: k = b => n in 3..6, 0..2\n";
-
 /// The texts of a schema, observed rows, constraints and a query.
 type Texts<'a> = (&'a str, &'a str, &'a str, &'a str);
-
-// Texts, and the low and the high end, in units of the last place of the column.
-const RANGES: [(Texts<'static>, i128, i128); 14] = [
-    ((SHOP, SALES, CHEAP, "sum(price)"), 15_000, 89_995),
-    ((SHOP, NO_SALES, CHEAP, "sum(price)"), 0, 74_995),
-    (
-        (SHOP, SALES, TWO_CHEAP, "sum(price) where branch = NewYork"),
-        5_000,
-        5_000,
-    ),
-    (
-        (
-            SHOP,
-            SALES,
-            "c: price >= 500.00 => price in 0.00..100.00, 0..2\n",
-            "count",
-        ),
-        2,
-        2,
-    ),
-    (
-        (LARGE, "v\n", MOST_LARGE, "sum(v)"),
-        10_000_000_000_000_000_000_000,
-        10_000_000_000_000_000_000_000,
-    ),
-    ((SHOP, SALES, TWO_CHEAP, "count"), 4, 7),
-    (
-        (SHOP, SALES, TWO_CHEAP, "count where branch = NewYork"),
-        1,
-        1,
-    ),
-    // The lost rows can be of any day.
-    ((SHOP, SALES, TWO_CHEAP, "count where day <= 10"), 2, 7),
-    ((SHOP, SALES, "", "count"), 2, 2),
-    ((KINDS, BOTH_KINDS, APART, "sum(n)"), -14, 19),
-    ((KINDS, BOTH_KINDS, APART, "sum(n) where k = a"), -11, 10),
-    // At least one row of `a` is lost, and each of them is below 0.
-    ((KINDS, BOTH_KINDS, APART_BELOW, "sum(n)"), -14, 11),
-    (
-        (KINDS, BOTH_KINDS, APART_BELOW, "sum(n) where k = a"),
-        -11,
-        2,
-    ),
-    ((KINDS, BOTH_KINDS, APART, "count where n > 0"), 1, 6),
-];
-
-// Texts under which no lost rows meet the constraints.
-const IMPOSSIBLE: [Texts<'static>; 3] = [
-    (SHOP, SALES, NEVER_KEPT, "count"),
-    (SHOP, SALES, NEVER_KEPT, "sum(price)"),
-    (
-        KINDS,
-        "n,k\n",
-        "p: k = a => n in 1..2, 1..1\nq: k = b and n > 5 => n in 0..1, 1..1\n",
-        "count",
-    ),
-];
 
 /// What texts stand for, and the answers.
 #[derive(Drop)]
@@ -112,21 +38,13 @@ struct Outcome {
     answer: Answer,
 }
 
-/// Whether no row of the domain is under two of the constraints.
-fn are_apart(schema: &Schema, constraints: &[Constraint]) -> bool
-    requires { AreConstraints schema.now constraints.now }
-    ensures { IsTrue result → AreDisjoint schema.now constraints.now }
-{
-    pairwise_apart(constraints)
-}
-
 fn always_has_value(agg: Agg) -> bool
     ensures { result ≡ always_has_value agg }
 {
     matches!(agg, Agg::Count | Agg::Sum)
 }
 
-fn answered(rt: &impl Abort, alloc: Global, texts: Texts<'_>) -> Result<Outcome, Fail> {
+fn answered(rt: &impl Abort, alloc: Global, texts: Texts<'_>, nodes: u32) -> Result<Outcome, Fail> {
     let (schema, rows, lines, question) = texts;
     let schema = read_schema(alloc, schema.as_bytes())?;
     let rows = read_rows(alloc, &schema, rows.as_bytes())?;
@@ -134,14 +52,14 @@ fn answered(rt: &impl Abort, alloc: Global, texts: Texts<'_>) -> Result<Outcome,
     let query = read_query(alloc, &schema, question, 1)?;
     let seen = rows.fold(&query);
     let listed = constraints.as_slice();
-    assert!(rt; are_apart(&schema, listed));
+    assert!(rt; 1 <= nodes && nodes <= 100_000);
     assert!(rt; query.group.is_none());
     let cells = decompose(alloc, &schema, listed, &query.chosen)?;
     assert!(rt; always_has_value(query.agg));
-    let settled = settle(alloc, &schema, listed, &cells, &query)?;
+    let settled = settle(alloc, &schema, &seen, listed, &cells, &query, nodes)?;
     let answer = match query.agg {
-        Agg::Sum => bound_sum(alloc, &schema, &seen, listed, &cells, &query)?,
-        _ => bound_count(alloc, &schema, &seen, listed, &cells, &query)?,
+        Agg::Sum => bound_sum(alloc, &schema, &seen, listed, &cells, &query, nodes)?,
+        _ => bound_count(alloc, &schema, &seen, listed, &cells, &query, nodes)?,
     };
     Ok(Outcome {
         schema,
@@ -154,11 +72,16 @@ fn answered(rt: &impl Abort, alloc: Global, texts: Texts<'_>) -> Result<Outcome,
 }
 
 impl Outcome {
-    /// Whether the relation is that of `settle`, which is silent of a lack of values as the answer is.
+    /// Whether `settle` says the same of the relation, or leaves open what the ends found. Both are silent of a lack of values.
     fn is_settled(&self) -> bool {
-        self.answer.relation == self.settled.relation
-            && self.answer.lack == Lack::Silent
-            && self.settled.lack == Lack::Silent
+        if self.answer.lack != Lack::Silent || self.settled.lack != Lack::Silent {
+            return false;
+        }
+        match &self.settled.relation {
+            Relation::Possible(runs) => self.is_possible() && self.meets(runs.as_slice()),
+            Relation::Impossible(_) => self.is_impossible(),
+            Relation::Undecided => !self.is_impossible() || !self.is_possible(),
+        }
     }
 
     /// Whether the runs stand for a possible list of rows.
@@ -214,6 +137,77 @@ impl Outcome {
         }
     }
 
+    /// Whether the end lies beyond the number, or is reached there.
+    fn is_beyond(&self, end: &End, number: i128, is_low: bool) -> bool {
+        match &end.mark {
+            Mark::Exact(_) => self.is_reached(end, number),
+            Mark::Outer if is_low => end.value.num <= number,
+            Mark::Outer => end.value.num >= number,
+        }
+    }
+
+    /// Whether both ends are outer.
+    fn is_open(&self) -> bool {
+        match &self.answer.ends {
+            Some((low, high)) => low.mark == Mark::Outer && high.mark == Mark::Outer,
+            None => false,
+        }
+    }
+
+    fn is_undecided(&self) -> bool {
+        self.answer.relation == Relation::Undecided && self.is_open()
+    }
+
+    fn contains(&self, low: i128, high: i128) -> bool {
+        match &self.answer.ends {
+            Some((first, last)) => {
+                self.is_beyond(first, low, true) && self.is_beyond(last, high, false)
+            }
+            None => false,
+        }
+    }
+
+    /// Whether the answer holds for the true range, which is none where no list is possible.
+    fn holds_for(&self, range: Option<(i128, i128)>) -> bool {
+        match range {
+            Some((low, high)) => {
+                self.contains(low, high) && (self.is_possible() || self.is_undecided())
+            }
+            None => self.is_impossible() || self.is_undecided(),
+        }
+    }
+
+    /// Whether the answer is the true range.
+    fn is_exactly(&self, range: Option<(i128, i128)>) -> bool {
+        match range {
+            Some((low, high)) => self.is_possible() && self.has_ends(low, high),
+            None => self.is_impossible(),
+        }
+    }
+
+    fn has_low(&self, low: i128) -> bool {
+        match &self.answer.ends {
+            Some((first, _)) => self.is_reached(first, low),
+            None => false,
+        }
+    }
+
+    /// Whether the high end is at the number, with either mark.
+    fn has_high(&self, high: i128) -> bool {
+        match &self.answer.ends {
+            Some((_, last)) => last.value.num == high && self.is_beyond(last, high, false),
+            None => false,
+        }
+    }
+
+    /// Whether the high end is outer, at the number.
+    fn is_outer_at(&self, high: i128) -> bool {
+        match &self.answer.ends {
+            Some((_, last)) => last.value.num == high && last.mark == Mark::Outer,
+            None => false,
+        }
+    }
+
     /// The runs that reach the high end.
     fn high_runs(&self) -> Option<&[Run]> {
         match &self.answer.ends {
@@ -221,6 +215,20 @@ impl Outcome {
             None => None,
         }
     }
+}
+
+/// Whether the true range is in the answer at budgets of 1 and 3 nodes, and is the answer at 10,000.
+fn holds_at_budgets(
+    rt: &impl Abort,
+    alloc: Global,
+    texts: Texts<'_>,
+    range: Option<(i128, i128)>,
+) -> Result<bool, Fail> {
+    let one = answered(rt, alloc, texts, 1)?;
+    let three = answered(rt, alloc, texts, 3)?;
+    let many = answered(rt, alloc, texts, 10_000)?;
+    let settled = one.is_settled() && three.is_settled() && many.is_settled();
+    Ok(settled && one.holds_for(range) && three.holds_for(range) && many.is_exactly(range))
 }
 
 fn exact_runs(mark: &Mark) -> Option<&[Run]> {
@@ -237,10 +245,12 @@ fn all_have(runs: &[Run], column: usize, number: i64) -> bool {
 #[test]
 fn ranges_by_hand(rt: HostRuntime) -> Result<(), Fail> {
     for (number, (texts, low, high)) in RANGES.into_iter().enumerate() {
-        let outcome = answered(&rt, rt.alloc(), texts)?;
-        assert!(rt; outcome.is_settled(), "case {number}");
-        assert!(rt; outcome.is_possible(), "case {number}");
-        assert!(rt; outcome.has_ends(low, high), "case {number}");
+        let outcome = answered(&rt, rt.alloc(), texts, 1)?;
+        let range = Some((low, high));
+        assert!(rt;
+            outcome.is_settled() && outcome.is_exactly(range),
+            "case {number}"
+        );
     }
     Ok(())
 }
@@ -248,9 +258,55 @@ fn ranges_by_hand(rt: HostRuntime) -> Result<(), Fail> {
 #[test]
 fn impossible_constraints(rt: HostRuntime) -> Result<(), Fail> {
     for (number, texts) in IMPOSSIBLE.into_iter().enumerate() {
-        let outcome = answered(&rt, rt.alloc(), texts)?;
-        assert!(rt; outcome.is_settled(), "case {number}");
-        assert!(rt; outcome.is_impossible(), "case {number}");
+        let outcome = answered(&rt, rt.alloc(), texts, 1)?;
+        assert!(rt;
+            outcome.is_settled() && outcome.is_exactly(None),
+            "case {number}"
+        );
+    }
+    Ok(())
+}
+
+#[test]
+fn overlaps_by_hand(rt: HostRuntime) -> Result<(), Fail> {
+    for (number, (texts, nodes, range)) in OVERLAPS.into_iter().enumerate() {
+        let outcome = answered(&rt, rt.alloc(), texts, nodes)?;
+        assert!(rt;
+            outcome.is_settled() && outcome.is_exactly(range),
+            "case {number}"
+        );
+    }
+    Ok(())
+}
+
+#[test]
+fn budgets_that_leave_an_end_open(rt: HostRuntime) -> Result<(), Fail> {
+    let alloc = rt.alloc();
+    let one = answered(&rt, alloc, TRIANGLES, 1)?;
+    assert!(rt; one.is_possible() && one.has_low(0) && one.is_outer_at(3));
+    let three = answered(&rt, alloc, TRIANGLES, 3)?;
+    assert!(rt; three.is_possible() && three.has_low(0) && three.has_high(2));
+    Ok(())
+}
+
+#[test]
+fn small_domains(rt: HostRuntime) -> Result<(), Fail> {
+    for (number, (texts, range)) in SMALL.into_iter().enumerate() {
+        assert!(rt;
+            holds_at_budgets(&rt, rt.alloc(), texts, range)?,
+            "case {number}"
+        );
+    }
+    Ok(())
+}
+
+#[test]
+fn further_small_domains(rt: HostRuntime) -> Result<(), Fail> {
+    for (number, (texts, range)) in SMALL_MORE.into_iter().enumerate() {
+        assert!(rt;
+            holds_at_budgets(&rt, rt.alloc(), texts, range)?,
+            "case {number}"
+        );
     }
     Ok(())
 }
@@ -258,12 +314,12 @@ fn impossible_constraints(rt: HostRuntime) -> Result<(), Fail> {
 #[test]
 fn rows_that_reach_a_high_end(rt: HostRuntime) -> Result<(), Fail> {
     let alloc = rt.alloc();
-    let shop = answered(&rt, alloc, (SHOP, SALES, CHEAP, "sum(price)"))?;
+    let shop = answered(&rt, alloc, (SHOP, SALES, CHEAP, "sum(price)"), 1)?;
     let runs = shop.high_runs().expect(&rt, "a high end that is reached");
     assert!(rt; total_times(runs) == Some(5));
     assert!(rt; all_have(runs, 0, 0));
     assert!(rt; all_have(runs, 2, 14_999));
-    let large = answered(&rt, alloc, (LARGE, "v\n", MOST_LARGE, "sum(v)"))?;
+    let large = answered(&rt, alloc, (LARGE, "v\n", MOST_LARGE, "sum(v)"), 1)?;
     let runs = large.high_runs().expect(&rt, "a high end that is reached");
     assert!(rt; runs.len() == 1);
     assert!(rt; total_times(runs) == Some(10_000_000));
@@ -273,7 +329,7 @@ fn rows_that_reach_a_high_end(rt: HostRuntime) -> Result<(), Fail> {
 
 #[test]
 fn nothing_is_lost_without_constraints(rt: HostRuntime) -> Result<(), Fail> {
-    let shop = answered(&rt, rt.alloc(), (SHOP, SALES, "", "count"))?;
+    let shop = answered(&rt, rt.alloc(), (SHOP, SALES, "", "count"), 1)?;
     assert!(rt; shop.settled.relation == Relation::Possible(Seq::new(rt.alloc())));
     Ok(())
 }

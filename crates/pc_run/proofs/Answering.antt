@@ -9,7 +9,7 @@ use Rattle.pc_base.specs.declared.status.Status.TheVariants as ended
 use Rattle.pc_base.specs.Files.{Files, file_of}
 use Rattle.pc_rows.specs.declared.case.Case.{Case}
 use Rattle.pc_run.specs.Words.{BoundNames, ShowNames, Asked, bound, show, name_of, command_of}
-use Rattle.pc_run.specs.Outcome.{Obstacle, absent, and_then, Input, asking, showing, bytes_under, schema_under, rows_under, constraints_under, apart_under, case_under, listing_under, accepted_under}
+use Rattle.pc_run.specs.Outcome.{Obstacle, absent, and_then, Input, asking, showing, bytes_under, schema_under, rows_under, constraints_under, case_under, listing_under, accepted_under}
 use Rattle.pc_run.specs.declared.listing.Listing.{Listing}
 use Rattle.std.proofs.lemmas.Bool.{false≢true}
 use Rattle.pc_run.specs.Replies.{IsReached}
@@ -41,14 +41,10 @@ absent_constraints : (schema : Schema) (name : List ℕ) (files : Files) → fil
 unfolding constraints_under
 absent_constraints schema name files none = rw (absent_bytes kinds.Constraints name files none) refl
 
-absent_apart : (schema : Schema) (name : List ℕ) (files : Files) → file_of files name ≡ None → apart_under schema name files ≡ Err (absent kinds.Constraints)
-unfolding apart_under
-absent_apart schema name files none = rw (absent_bytes kinds.Constraints name files none) refl
-
 -- what comes of a case or a listing
-asked_from : (read : Result Case Obstacle) (input : Input) → asking read ≡ Ok input → IsOk read
-asked_from (Ok case) input is = refl
-asked_from (Err obstacle) input is = let no : ⊥ = cc in absurd no
+asked_from : (nodes : ℕ) (read : Result Case Obstacle) (input : Input) → asking nodes read ≡ Ok input → IsOk read
+asked_from nodes (Ok case) input is = refl
+asked_from nodes (Err obstacle) input is = let no : ⊥ = cc in absurd no
 
 shown_from : (read : Result Listing Obstacle) (input : Input) → showing read ≡ Ok input → IsOk read
 shown_from (Ok listing) input is = refl
@@ -64,14 +60,14 @@ record BoundHeld (names : BoundNames) (files : Files) : Type 0 where
   rows : List Row
   schema_is : schema_under names.schema files ≡ Ok schema
   rows_are : rows_under schema names.rows files ≡ Ok rows
-  constraints_are : IsOk (apart_under schema names.constraints files)
+  constraints_are : IsOk (constraints_under schema names.constraints files)
 
 bound_held : (names : BoundNames) (files : Files) (case : Case) → case_under names files ≡ Ok case → BoundHeld names files
 unfolding case_under
 bound_held names files case is =
     let first = step (schema_under names.schema files) _ case is in
     let second = step (rows_under first.value names.rows files) _ case first.next_is in
-    let third = step (apart_under first.value names.constraints files) _ case second.next_is in
+    let third = step (constraints_under first.value names.constraints files) _ case second.next_is in
     record { schema = first.value; rows = second.value; schema_is = first.first_is; rows_are = second.first_is; constraints_are = rw third.first_is refl }
 
 -- the steps of files that `show` accepts
@@ -91,7 +87,7 @@ show_held names files listing is =
 bound_file : (names : BoundNames) (files : Files) → BoundHeld names files → (told : Option Files) → told ≡ Some files → (file : FileKind) → IsReached told (bound names) file → file_of files (name_of (bound names) file) ≡ None → ⊥
 bound_file names files held told is kinds.Schema reached none = let both = sym held.schema_is ∙ absent_schema names.schema files none in cc
 bound_file names files held told is kinds.Rows reached none = let both = sym held.rows_are ∙ absent_rows held.schema names.rows files none in cc
-bound_file names files held told is kinds.Constraints reached none = let h = rw (absent_apart held.schema names.constraints files none) at held.constraints_are in cc
+bound_file names files held told is kinds.Constraints reached none = let h = rw (absent_constraints held.schema names.constraints files none) at held.constraints_are in cc
 bound_file names files held told is kinds.Query reached none = absurd reached
 bound_file names files held told is kinds.Document reached none = absurd reached
 
@@ -104,7 +100,7 @@ show_file names files held told is kinds.Document reached none = absurd reached
 
 held_file : (asked : Asked) (files : Files) (input : Input) → accepted_under asked files ≡ Ok input → (told : Option Files) → told ≡ Some files → (file : FileKind) → IsReached told asked file → file_of files (name_of asked file) ≡ None → ⊥
 held_file (bound names) files input accepted told is file reached none =
-    let case = is_ok_value (case_under names files) (asked_from (case_under names files) input accepted) in
+    let case = is_ok_value (case_under names files) (asked_from names.nodes (case_under names files) input accepted) in
     bound_file names files (bound_held names files case.0 case.1) told is file reached none
 held_file (show names) files input accepted told is file reached none =
     let listing = is_ok_value (listing_under names files) (shown_from (listing_under names files) input accepted) in

@@ -12,7 +12,7 @@ use Rattle.pc_model.specs.declared.query.Query.{Query}
 use Rattle.pc_run.specs.declared.stop.Stop.{Stop}
 use Rattle.pc_run.specs.declared.stop.Stop.TheVariants as stops
 use Rattle.pc_run.specs.Words.{BoundNames, Asked, bound, name_of}
-use Rattle.pc_run.specs.Outcome.{Obstacle, refused, asks, built_query, schema_under, rows_under, apart_under, case_under, accepted_under}
+use Rattle.pc_run.specs.Outcome.{Obstacle, refused, asks, built_query, schema_under, rows_under, constraints_under, case_under, accepted_under}
 use Rattle.pc_model.specs.declared.fault.Refusal.{Refusal}
 use Rattle.pc_model.specs.declared.fault.Refusal.TheVariants as refusals
 use Rattle.pc_model.specs.Refusals.{RefusesAs}
@@ -74,12 +74,12 @@ reached_constraints : (told : Option Files) (names : BoundNames) (schema : Schem
 reached_constraints None names schema rows read = tt
 reached_constraints (Some files) names schema rows read = rw (read.has_schema, read.has_rows) refl
 
-constraints_refused : (told : Option Files) (names : BoundNames) (schema : Schema) (rows : List Row) (fault : Fault) → HasRows told names schema rows → Agrees {X = List Constraint} kinds.Constraints told (apart_under schema names.constraints) (Err (stops.Refused fault)) → IfSome told (λ files. accepted_under (bound names) files ≡ Err (refused fault))
+constraints_refused : (told : Option Files) (names : BoundNames) (schema : Schema) (rows : List Row) (fault : Fault) → HasRows told names schema rows → Agrees {X = List Constraint} kinds.Constraints told (constraints_under schema names.constraints) (Err (stops.Refused fault)) → IfSome told (λ files. accepted_under (bound names) files ≡ Err (refused fault))
 unfolding case_under
 constraints_refused None names schema rows fault read agrees = tt
 constraints_refused (Some files) names schema rows fault read agrees = rw (read.has_schema, read.has_rows, agrees) refl
 
-pub at_constraints : (told : Option Files) (names : BoundNames) (before middle now : ℕ) (schema : Schema) (rows : List Row) → HasRows told names schema rows → before ≤ middle → (stop : Stop) → Agrees {X = List Constraint} kinds.Constraints told (apart_under schema names.constraints) (Err stop) → HasCause {X = List Constraint} told names.constraints middle now (Err stop) → StopAgrees told (bound names) before now stop
+pub at_constraints : (told : Option Files) (names : BoundNames) (before middle now : ℕ) (schema : Schema) (rows : List Row) → HasRows told names schema rows → before ≤ middle → (stop : Stop) → Agrees {X = List Constraint} kinds.Constraints told (constraints_under schema names.constraints) (Err stop) → HasCause {X = List Constraint} told names.constraints middle now (Err stop) → StopAgrees told (bound names) before now stop
 at_constraints told names before middle now schema rows read earlier stops.Memory agrees cause = tt
 at_constraints told names before middle now schema rows read earlier (stops.Unread kind) agrees cause =
     unread told (bound names) before now kind kinds.Constraints agrees (reached_constraints told names schema rows read) (later_cause told names.constraints before middle now earlier cause)
@@ -88,7 +88,7 @@ at_constraints told names before middle now schema rows read earlier (stops.Refu
 -- all files are read
 pub record HasFiles (told : Option Files) (names : BoundNames) (schema : Schema) (rows : List Row) (constraints : List Constraint) : Type 0 where
   pub rows_read : HasRows told names schema rows
-  pub has_constraints : IfSome told (λ files. apart_under schema names.constraints files ≡ Ok constraints)
+  pub has_constraints : IfSome told (λ files. constraints_under schema names.constraints files ≡ Ok constraints)
 
 query_refused : (told : Option Files) (names : BoundNames) (schema : Schema) (rows : List Row) (constraints : List Constraint) (fault : Fault) → HasFiles told names schema rows constraints → built_query schema names.query ≡ Err fault → IfSome told (λ files. accepted_under (bound names) files ≡ Err (refused fault))
 unfolding case_under
@@ -100,7 +100,7 @@ at_query told names before now schema rows constraints read refusals.Memory refu
 at_query told names before now schema rows constraints read (refusals.Fault fault) refuses = query_refused told names schema rows constraints fault read refuses
 
 -- and the query is accepted
-pub at_end : (told : Option Files) (names : BoundNames) (schema : Schema) (rows : List Row) (constraints : List Constraint) (query : Query) → HasFiles told names schema rows constraints → built_query schema names.query ≡ Ok query → IfSome told (λ files. accepted_under (bound names) files ≡ Ok (asks (record { schema = schema; rows = rows; constraints = constraints; queries = query ∷ [] })))
+pub at_end : (told : Option Files) (names : BoundNames) (schema : Schema) (rows : List Row) (constraints : List Constraint) (query : Query) → HasFiles told names schema rows constraints → built_query schema names.query ≡ Ok query → IfSome told (λ files. accepted_under (bound names) files ≡ Ok (asks names.nodes (record { schema = schema; rows = rows; constraints = constraints; queries = query ∷ [] })))
 unfolding case_under
 at_end None names schema rows constraints query read accepts = tt
 at_end (Some files) names schema rows constraints query read accepts = rw (read.rows_read.has_schema, read.rows_read.has_rows, read.has_constraints, accepts) refl

@@ -2,8 +2,9 @@ pub mod Files
 pub mod Cases
 pub mod Meanings
 pub mod Answering
-pub mod Apart
 pub mod Listings
 pub mod Queries
 pub mod StopReplies
 pub mod Blocks
+pub mod Budgets
+pub mod Owing

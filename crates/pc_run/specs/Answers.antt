@@ -1,31 +1,23 @@
 -- What a block of a document owes to the query that it answers.
-use Rattle.std.specs.Prelude.{◌≡◌, List, None}
+use Rattle.std.specs.Prelude.{◌≡◌, ℕ, List, None}
 use Rattle.pc_model.specs.declared.schema.Schema.{Schema}
 use Rattle.pc_model.specs.declared.row.Row.{Row}
 use Rattle.pc_model.specs.declared.constraint.Constraint.{Constraint}
 use Rattle.pc_model.specs.declared.query.Query.{Query}
-use Rattle.pc_model.specs.declared.query.Folded.{Folded}
-use Rattle.pc_model.specs.declared.tree.CutNode.{CutNode}
 use Rattle.pc_model.specs.declared.tree.CutTree.{CutTree}
-use Rattle.pc_model.specs.Folds.{IsFold}
+use Rattle.pc_model.specs.Membership.{AreDisjoint}
 use Rattle.pc_model.specs.Right.{IsRight}
-use Rattle.pc_proof.specs.declared.answer.Answer.{Answer}
 use Rattle.pc_proof.specs.declared.document.Block.{Block}
 use Rattle.pc_proof.specs.declared.document.BlockTree.TheVariants.{Own}
 use Rattle.pc_proof.specs.Unbroken.{HasForm, IsUnbroken, IsSharp, plain_answer}
+use Rattle.pc_licence.specs.Licensed.{IsLicensed, IsSettledLack}
+use Rattle.pc_licence.specs.Searched.{AreSearched}
 use Rattle.pc_agg.specs.Settings.{question_of, setting_of}
 
--- whichever observed rows come to this fold, the answer over this tree is right, has the form of an answer, breaks no rule, and
--- leaves nothing open: each end is reached
-pub record IsAnswerFor (schema : Schema) (constraints : List Constraint) (query : Query) (nodes : List CutNode) (seen : Folded) (answer : Answer) : Type 0 where
-  pub right : (observed : List Row) → IsFold query observed seen → IsRight (question_of schema observed constraints query) (plain_answer answer)
-  pub form : (observed : List Row) → IsFold query observed seen → HasForm (setting_of schema observed constraints query nodes) answer
-  pub unbroken : (observed : List Row) → IsFold query observed seen → IsUnbroken (setting_of schema observed constraints query nodes) answer
-  pub sharp : IsSharp answer
-
--- the block is of this query and has a tree of its own; its answer is right, has the form of an answer and breaks no rule,
--- and leaves nothing open: each end is reached
-pub record AnswersQuery (schema : Schema) (observed : List Row) (constraints : List Constraint) (query : Query) (block : Block) : Type 0 where
+-- The block is of this query and has a tree of its own. Its answer is right, has the form of an answer and breaks no rule.
+-- What it leaves open is licensed by searches that spent so many nodes each, and the trees of its ends are ones that such a
+-- search could have made. Where no two predicates speak of one row, it leaves nothing open.
+pub record AnswersQuery (nodes : ℕ) (schema : Schema) (observed : List Row) (constraints : List Constraint) (query : Query) (block : Block) : Type 0 where
   pub query_is : block.query ≡ query
   pub ungrouped : block.name ≡ None
   pub tree : CutTree
@@ -33,4 +25,6 @@ pub record AnswersQuery (schema : Schema) (observed : List Row) (constraints : L
   pub right : IsRight (question_of schema observed constraints query) (plain_answer block.answer)
   pub form : HasForm (setting_of schema observed constraints query tree.nodes) block.answer
   pub unbroken : IsUnbroken (setting_of schema observed constraints query tree.nodes) block.answer
-  pub sharp : IsSharp block.answer
+  pub licensed : IsLicensed (setting_of schema observed constraints query tree.nodes) nodes block.answer
+  pub searched : AreSearched (setting_of schema observed constraints query tree.nodes) nodes block.answer
+  pub sharp : AreDisjoint schema constraints → IsSharp block.answer × IsSettledLack block.answer.lack

@@ -14,8 +14,7 @@ use Rattle.pc_model.specs.Texts.{file_limit}
 use Rattle.pc_base.specs.Files.{Files, file_of}
 use Rattle.pc_schema.specs.SchemaFile.{schema_of}
 use Rattle.pc_rows.specs.RowFile.{rows_of}
-use Rattle.pc_lang.specs.Files.{constraints_of, line_number, query_at}
-use Rattle.pc_overlap.specs.Overlap.{first_overlap}
+use Rattle.pc_lang.specs.Files.{constraints_of, query_at}
 use Rattle.pc_run.specs.declared.listing.Listing.{Listing}
 use Rattle.pc_run.specs.Words.{BoundNames, ShowNames, Asked, bound, show}
 use Rattle.pc_run.specs.Queries.{built}
@@ -50,27 +49,16 @@ rows_under schema name files = and_then (bytes_under kinds.Rows name files) (λ 
 unfoldable pub constraints_under : Schema → List ℕ → Files → Result (List Constraint) Obstacle
 constraints_under schema name files = and_then (bytes_under kinds.Constraints name files) (λ bytes. or_refused (constraints_of schema bytes))
 
--- the constraints of these bytes, of which none speaks of a row of which an earlier one speaks
-abbrev pub unless_overlap : List ℕ → List Constraint → Option ℕ → Result (List Constraint) Fault
-unless_overlap bytes constraints None = Ok constraints
-unless_overlap bytes constraints (Some place) = Err (fault_at kinds.Constraints (line_number bytes place) reasons.Overlap)
-
-unfoldable pub apart_of : Schema → List ℕ → Result (List Constraint) Fault
-apart_of schema bytes = constraints_of schema bytes >>= λ constraints. unless_overlap bytes constraints (first_overlap constraints)
-
-unfoldable pub apart_under : Schema → List ℕ → Files → Result (List Constraint) Obstacle
-apart_under schema name files = and_then (bytes_under kinds.Constraints name files) (λ bytes. or_refused (apart_of schema bytes))
-
 -- the query of a text, which is one that is built
 unfoldable pub built_query : Schema → List ℕ → Result Query Fault
 built_query schema text = query_at schema 1 text >>= built
 
--- of `bound`: the files in their order, with the overlap of two predicates after the constraints, then the query
+-- of `bound`: the files in their order, then the query
 unfoldable pub case_under : BoundNames → Files → Result Case Obstacle
 case_under names files =
     and_then (schema_under names.schema files) (λ schema.
     and_then (rows_under schema names.rows files) (λ rows.
-    and_then (apart_under schema names.constraints files) (λ constraints.
+    and_then (constraints_under schema names.constraints files) (λ constraints.
     and_then (or_refused (built_query schema names.query)) (λ query.
     Ok (record { schema = schema; rows = rows; constraints = constraints; queries = query ∷ [] })))))
 
@@ -81,19 +69,20 @@ listing_under names files =
     and_then (constraints_under schema names.constraints files) (λ constraints.
     Ok (record { schema = schema; constraints = constraints })))
 
--- what the files of a command come to: a case that is asked about, or constraints that are shown
+-- what a command comes to with its files: a case that is asked about, by searches of at most so many nodes each, or
+-- constraints that are shown
 pub data Input : Type 0 where
-  asks : Case → Input
+  asks : (nodes : ℕ) → Case → Input
   shows : Listing → Input
 
-abbrev pub asking : Result Case Obstacle → Result Input Obstacle
-asking (Ok case) = Ok (asks case)
-asking (Err obstacle) = Err obstacle
+abbrev pub asking : ℕ → Result Case Obstacle → Result Input Obstacle
+asking nodes (Ok case) = Ok (asks nodes case)
+asking nodes (Err obstacle) = Err obstacle
 
 abbrev pub showing : Result Listing Obstacle → Result Input Obstacle
 showing (Ok listing) = Ok (shows listing)
 showing (Err obstacle) = Err obstacle
 
 abbrev pub accepted_under : Asked → Files → Result Input Obstacle
-accepted_under (bound names) files = asking (case_under names files)
+accepted_under (bound names) files = asking names.nodes (case_under names files)
 accepted_under (show names) files = showing (listing_under names files)

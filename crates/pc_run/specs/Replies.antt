@@ -26,7 +26,6 @@ use Rattle.pc_run.specs.declared.listing.Listing.{Listing}
 pub record IsSound (case : Case) : Type 0 where
   pub well_formed : IsWellFormed case.schema
   pub seen : AllPass (in_domain case.schema) case.rows
-  pub disjoint : AreDisjoint case.schema case.constraints
   pub accepted : AreConstraints case.schema case.constraints
   pub asked : All (IsAsked case.schema) case.queries
 
@@ -65,10 +64,10 @@ abbrev pub InputAgrees : {X : Type 0} → (X → Input) → Option Files → Ask
 InputAgrees input told asked before now (Ok x) = IfSome told (λ files. accepted_under asked files ≡ Ok (input x))
 InputAgrees input told asked before now (Err stop) = StopAgrees told asked before now stop
 
--- the text is the report of a document that answers each query
-pub record SaysReport (case : Case) (text : List ℕ) : Type 0 where
+-- the text is the report of a document that answers each query, by searches of at most so many nodes each
+pub record SaysReport (nodes : ℕ) (case : Case) (text : List ℕ) : Type 0 where
   pub document : Document
-  pub answers : AllZip (AnswersQuery case.schema case.rows case.constraints) case.queries document.blocks
+  pub answers : AllZip (AnswersQuery nodes case.schema case.rows case.constraints) case.queries document.blocks
   pub reported : text ≡ report_text case.schema document
 
 -- the text is that of the constraints, and then it says whether no two of them speak of one row
@@ -78,7 +77,7 @@ pub record SaysListing (listing : Listing) (text : List ℕ) : Type 0 where
   pub listed : text ≡ listing_of listing disjoint
 
 abbrev pub SaysInput : Input → List ℕ → Type 0
-SaysInput (asks case) text = SaysReport case text
+SaysInput (asks nodes case) text = SaysReport nodes case text
 SaysInput (shows listing) text = SaysListing listing text
 
 -- the reply to files that are accepted, or refused

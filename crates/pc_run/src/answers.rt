@@ -1,15 +1,15 @@
-ghost use Rattle.std.specs.Prelude.{◌≡◌, ◌≤◌, ◌^◌, ℕ, nat_abs, All, IfOk};
+ghost use Rattle.std.specs.Prelude.{◌≡◌, true, All, IfOk};
 ghost use Rattle.std.specs.List.{AllZip};
-ghost use Rattle.pc_model.specs.Accepted.{AreConstraints, IsQuery, IsNumeric, IsColumnWhere};
-ghost use Rattle.pc_model.specs.Folds.{IsFold};
-ghost use Rattle.pc_model.specs.Membership.{AreDisjoint};
+ghost use Rattle.pc_model.specs.Accepted.{AreConstraints, IsQuery};
+ghost use Rattle.pc_model.specs.Right.{always_has_value};
 ghost use Rattle.pc_model.specs.WellFormed.{IsWellFormed};
-ghost use Rattle.pc_model.specs.Cells.{IsSettledTree, leaves_in};
-ghost use Rattle.pc_cells.specs.Found.{cells_of, IsFilled, HasNumbers};
 ghost use Rattle.pc_proof.specs.declared.document.Block.{Block};
-ghost use Rattle.pc_run.specs.Answers.{AnswersQuery, IsAnswerFor};
+ghost use Rattle.pc_agg.specs.Asked.{AreAsked, Asking, setting_for};
+ghost use Rattle.pc_agg.specs.Owed.{Owes};
+ghost use Rattle.pc_run.specs.Answers.{AnswersQuery};
 ghost use Rattle.pc_run.specs.Queries.{IsAsked};
 ghost use Rattle.pc_run.specs.Replies.{IsSound};
+ghost use Rattle.pc_run.specs.Words.{IsBudget};
 
 use pc_agg::{bound_count, bound_sum};
 use pc_cells::{Cells, decompose};
@@ -20,11 +20,12 @@ use pc_proof::{Answer, Block, BlockTree, Document};
 use pc_rows::{Case, Rows};
 use std::alloc::Global;
 
-/// A block for each query.
+/// A block for each query, by searches of at most so many nodes each.
 #[tactic(auto, using(crate::proofs::Blocks::steps))]
-pub(crate) fn answer_case(alloc: Global, case: &Case) -> Result<Document, Memory>
-    requires { IsSound case.now }
-    ensures answers { IfOk result (λ document. AllZip (AnswersQuery case.now.schema case.now.rows case.now.constraints) case.now.queries document.blocks) }
+pub(crate) fn answer_case(alloc: Global, case: &Case, nodes: u32) -> Result<Document, Memory>
+    requires sound { IsSound case.now }
+    requires budget { IsBudget nodes }
+    ensures answers { IfOk result (λ document. AllZip (AnswersQuery nodes case.now.schema case.now.rows case.now.constraints) case.now.queries document.blocks) }
     ensures accepted { IfOk result (λ document. All (λ (block : Block). IsQuery case.now.schema block.query) document.blocks) }
 {
     let queries = case.queries.as_slice();
@@ -36,6 +37,7 @@ pub(crate) fn answer_case(alloc: Global, case: &Case) -> Result<Document, Memory
             &case.rows,
             case.constraints.as_slice(),
             query,
+            nodes,
         )?;
         blocks.push(block)?;
     }
@@ -49,17 +51,18 @@ fn answer_query(
     rows: &Rows,
     constraints: &[Constraint],
     query: &Query,
+    nodes: u32,
 ) -> Result<Block, Memory>
     requires well_formed { IsWellFormed schema.now }
     requires constraints { AreConstraints schema.now constraints.now }
-    requires disjoint { AreDisjoint schema.now constraints.now }
     requires asked { IsAsked schema.now query.now }
-    ensures answers { IfOk result (AnswersQuery schema.now rows.now constraints.now query.now) }
+    requires budget { IsBudget nodes }
+    ensures answers { IfOk result (AnswersQuery nodes schema.now rows.now constraints.now query.now) }
     ensures accepted { IfOk result (λ block. IsQuery schema.now block.query) }
 {
     let cells = decompose(alloc, schema, constraints, &query.chosen)?;
     let seen = rows.fold(query);
-    let answer = answer_of(alloc, schema, &seen, constraints, &cells, query)?;
+    let answer = answer_of(alloc, schema, &seen, constraints, &cells, query, nodes)?;
     let query = query.clone()?;
     Ok(Block {
         query,
@@ -77,22 +80,15 @@ fn answer_of(
     constraints: &[Constraint],
     cells: &Cells,
     query: &Query,
+    nodes: u32,
 ) -> Result<Answer, Memory>
-    requires well_formed { IsWellFormed schema.now }
-    requires constraints { AreConstraints schema.now constraints.now }
-    requires disjoint { AreDisjoint schema.now constraints.now }
-    requires asked { IsAsked schema.now query.now }
-    requires settled { IsSettledTree schema.now constraints.now query.now.chosen cells.now.tree.nodes }
-    requires cells { cells.now.cells ≡ cells_of (leaves_in schema.now cells.now.tree.nodes) }
-    requires filled { All IsFilled cells.now.cells }
-    requires numbers { (column : ℕ) → IsColumnWhere IsNumeric schema.now column → All (HasNumbers column) cells.now.cells }
-    requires few_seen { seen.now.count ≤ 1_000_000 }
-    requires small_seen { nat_abs seen.now.sum ≤ 2 ^ 83 }
-    ensures { IfOk result (IsAnswerFor schema.now constraints.now query.now cells.now.tree.nodes seen.now) }
+    requires asked { AreAsked schema.now seen.now constraints.now cells.now query.now nodes }
+    requires built { always_has_value query.now.agg ≡ true }
+    ensures { IfOk result (λ answer. (asking : Asking schema.now constraints.now query.now seen.now) → Owes (setting_for schema.now constraints.now query.now seen.now cells.now.tree.nodes asking) nodes answer) }
 {
     match query.agg {
-        Agg::Count => bound_count(alloc, schema, seen, constraints, cells, query),
-        Agg::Sum => bound_sum(alloc, schema, seen, constraints, cells, query),
+        Agg::Count => bound_count(alloc, schema, seen, constraints, cells, query, nodes),
+        Agg::Sum => bound_sum(alloc, schema, seen, constraints, cells, query, nodes),
         Agg::Min | Agg::Max | Agg::Avg => unreachable!(),
     }
 }

@@ -5,7 +5,7 @@ ghost use Rattle.pc_run.specs.Replies.{InputAgrees, IsSound};
 ghost use Rattle.pc_run.specs.Words.{bound};
 
 use crate::command::Bound;
-use crate::loading::{load_apart, load_rows, load_schema};
+use crate::loading::{load_constraints, load_rows, load_schema};
 use crate::query::read_built;
 use crate::stop::Stop;
 use pc_base::Shelf;
@@ -20,7 +20,7 @@ pub(crate) fn read_case<F: Shelf>(
     files: &mut F,
     command: &Bound,
 ) -> Result<Case, Stop>
-    ensures agrees { InputAgrees asks (F.files files.old) (bound (bound_names command.now)) (F.faults files.old) (F.faults files.new) result }
+    ensures agrees { InputAgrees (asks command.now.nodes) (F.files files.old) (bound (bound_names command.now)) (F.faults files.old) (F.faults files.new) result }
     ensures sound { IfOk result IsSound }
     ensures files_stay { F.files files.new ≡ F.files files.old }
     ensures faults_stay { F.faults files.old ≤ F.faults files.new }
@@ -28,7 +28,7 @@ pub(crate) fn read_case<F: Shelf>(
 {
     let schema = load_schema(alloc, files, command.schema)?;
     let rows = load_rows(alloc, files, command.rows, &schema)?;
-    let constraints = load_apart(alloc, files, command.constraints, &schema)?;
+    let constraints = load_constraints(alloc, files, command.constraints, &schema)?;
     let query = read_built(alloc, &schema, command.query)?;
     let queries = only(alloc, query)?;
     Ok(Case {

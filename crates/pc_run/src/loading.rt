@@ -2,21 +2,19 @@ ghost use Rattle.std.specs.Prelude.{◌≡◌, ◌≤◌, List, IfOk};
 ghost use Rattle.std.specs.List.{AllPass};
 ghost use Rattle.pc_model.specs.declared.fault.FileKind.TheVariants as kinds;
 ghost use Rattle.pc_model.specs.declared.fault.Reason.TheVariants as reasons;
-ghost use Rattle.pc_model.specs.declared.fault.Refusal.TheVariants as refusals;
 ghost use Rattle.pc_model.specs.Accepted.{AreConstraints};
-ghost use Rattle.pc_model.specs.Membership.{in_domain, AreDisjoint};
-ghost use Rattle.pc_model.specs.Refusals.{fault_at, Gives};
+ghost use Rattle.pc_model.specs.Membership.{in_domain};
+ghost use Rattle.pc_model.specs.Refusals.{fault_at};
 ghost use Rattle.pc_model.specs.WellFormed.{IsWellFormed, HaveFewNames};
 ghost use Rattle.pc_base.specs.Counts.{RoseByOne};
-ghost use Rattle.pc_run.specs.Outcome.{bytes_under, schema_under, rows_under, constraints_under, apart_of, apart_under};
+ghost use Rattle.pc_run.specs.Outcome.{bytes_under, schema_under, rows_under, constraints_under};
 ghost use Rattle.pc_run.specs.Loading.{Agrees, HasCause};
 
 use crate::stop::Stop;
 use pc_base::{Loaded, Shelf};
-use pc_lang::{line_number, read_constraints};
+use pc_lang::read_constraints;
 use pc_list::Seq;
-use pc_model::{Constraint, FILE_LIMIT, Fault, FileKind, Reason, Refusal, Schema};
-use pc_overlap::find_overlap;
+use pc_model::{Constraint, FILE_LIMIT, Fault, FileKind, Reason, Schema};
 use pc_rows::{Rows, read_rows};
 use pc_schema::read_schema;
 use std::alloc::Global;
@@ -108,51 +106,4 @@ pub(crate) fn load_constraints<F: Shelf>(
 {
     let bytes = load_bytes(alloc, files, FileKind::Constraints, name)?;
     Ok(read_constraints(alloc, schema, bytes.as_slice())?)
-}
-
-/// The same, where no two constraints may speak of one row.
-pub(crate) fn load_apart<F: Shelf>(
-    alloc: Global,
-    files: &mut F,
-    name: &str,
-    schema: &Schema,
-) -> Result<Seq<Constraint>, Stop>
-    requires well_formed { IsWellFormed schema.now }
-    requires few_names { HaveFewNames schema.now.columns }
-    ensures agrees { Agrees kinds.Constraints (F.files files.old) (apart_under schema.now name.now) result }
-    ensures cause { HasCause (F.files files.old) name.now (F.faults files.old) (F.faults files.new) result }
-    ensures files_stay { F.files files.new ≡ F.files files.old }
-    ensures faults_stay { F.faults files.old ≤ F.faults files.new }
-    ensures one_call { RoseByOne (F.calls files.old) (F.calls files.new) }
-    ensures accepted { IfOk result (AreConstraints schema.now) }
-    ensures apart { IfOk result (AreDisjoint schema.now) }
-{
-    let bytes = load_bytes(alloc, files, FileKind::Constraints, name)?;
-    Ok(read_apart(alloc, schema, bytes.as_slice())?)
-}
-
-/// Reads constraints, which are refused at the first line that speaks of a row of which an earlier one speaks.
-#[tactic(auto, using(crate::proofs::Apart::steps))]
-fn read_apart(alloc: Global, schema: &Schema, bytes: &[u8]) -> Result<Seq<Constraint>, Refusal>
-    requires well_formed { IsWellFormed schema.now }
-    requires few_names { HaveFewNames schema.now.columns }
-    ensures gives { Gives result (apart_of schema.now bytes.now) }
-    ensures accepted { IfOk result (AreConstraints schema.now) }
-    ensures apart { IfOk result (AreDisjoint schema.now) }
-{
-    let constraints = read_constraints(alloc, schema, bytes)?;
-    match find_overlap(schema, constraints.as_slice()) {
-        None => Ok(constraints),
-        Some(place) => Err(overlap_at(line_number(bytes, place as usize))),
-    }
-}
-
-fn overlap_at(line: u64) -> Refusal
-    ensures { result ≡ refusals.Fault (fault_at kinds.Constraints line reasons.Overlap) }
-{
-    Refusal::Fault(Fault {
-        file: FileKind::Constraints,
-        place: line,
-        reason: Reason::Overlap,
-    })
 }

@@ -1,7 +1,7 @@
 ghost use Rattle.std.specs.Prelude.{◌≡◌, ◌≤◌, ◌+◌, map, IfOk, string_bytes};
 ghost use Rattle.pc_run.specs.Commands.{bound_names, show_names};
 ghost use Rattle.pc_run.specs.Replies.{IsSound, RepliesTo, RepliesToStop, Responds, SaysReport};
-ghost use Rattle.pc_run.specs.Words.{bound, show, command_of, file_count};
+ghost use Rattle.pc_run.specs.Words.{bound, show, command_of, file_count, IsBudget};
 
 use crate::answers::answer_case;
 use crate::case::read_case;
@@ -46,6 +46,7 @@ pub(crate) fn respond<F: Shelf>(
 
 /// The reply to `bound`.
 fn reply_to_bound<F: Shelf>(alloc: Global, files: &mut F, command: &Bound) -> Result<Reply, Memory>
+    requires { IsBudget command.now.nodes }
     ensures replies { IfOk result (λ reply. RepliesTo (F.files files.old) (bound (bound_names command.now)) (F.faults files.old) (F.faults files.new) reply.status reply.text.items) }
     ensures files_stay { F.files files.new ≡ F.files files.old }
     ensures faults_stay { F.faults files.old ≤ F.faults files.new }
@@ -54,7 +55,7 @@ fn reply_to_bound<F: Shelf>(alloc: Global, files: &mut F, command: &Bound) -> Re
     match read_case(alloc, files, command) {
         Ok(case) => Ok(Reply {
             status: Status::Done,
-            text: report_case(alloc, &case)?,
+            text: report_case(alloc, &case, command.nodes)?,
         }),
         Err(stop) => reply_to_stop(alloc, stop),
     }
@@ -94,11 +95,12 @@ fn reply_to_stop(alloc: Global, stop: Stop) -> Result<Reply, Memory>
 }
 
 /// The report of the answers to the queries.
-fn report_case(alloc: Global, case: &Case) -> Result<Vec<u8>, Memory>
-    requires { IsSound case.now }
-    ensures { IfOk result (λ text. SaysReport case.now text.items) }
+fn report_case(alloc: Global, case: &Case, nodes: u32) -> Result<Vec<u8>, Memory>
+    requires sound { IsSound case.now }
+    requires budget { IsBudget nodes }
+    ensures { IfOk result (λ text. SaysReport nodes case.now text.items) }
 {
-    let document = answer_case(alloc, case)?;
+    let document = answer_case(alloc, case, nodes)?;
     let mut text = Vec::new(alloc);
     put_report(alloc, &case.schema, &mut text, &document)?;
     Ok(text)

@@ -2,9 +2,11 @@ use super::*;
 use pc_base::{MemShelf, MemSink};
 use std::test::Fail;
 
+mod overlaps;
 mod refused;
 mod shown;
 mod sums;
+mod words;
 
 const SCHEMA: &str = "item,int,1,9\nweek,int,1,4\n";
 
@@ -52,34 +54,25 @@ fn counts(rt: HostRuntime) -> Result<(), Fail> {
         (
             APART,
             "query count\nrelation possible\nrun 1: 1, 1\nlow 3 exact\nrun 1: 1, 1\nhigh 7 exact\nrun 3: 1, 1\nrun 2: 1, 4\n",
-            Status::Done,
         ),
         (
             "c: week = 1 => week = 2, 1..2\n",
             "query count\nrelation impossible\n",
-            Status::Done,
         ),
         (
             "c: week = 1 => week = 2, 0..2\n",
             "query count\nrelation possible\nlow 2 exact\nhigh 2 exact\n",
-            Status::Done,
         ),
         (
             "",
             "query count\nrelation possible\nlow 2 exact\nhigh 2 exact\n",
-            Status::Done,
-        ),
-        (
-            "a: week in 1..2 => true, 1..3\nd: week = 2 => true, 0..1\n",
-            "malformed constraints at 2: reason 22 Overlap\n",
-            Status::Malformed,
         ),
     ];
-    for (constraints, want, status) in table {
+    for (constraints, want) in table {
         let mut shelf = shelf_of(rt.alloc(), SCHEMA, ROWS, constraints)?;
         let mut sink = MemSink::new(rt.alloc(), 0);
         let ended = run_words(rt.alloc(), &WORDS, &mut shelf, &mut sink)?;
-        assert_eq!(rt; ended, status, "at {constraints}");
+        assert_eq!(rt; ended, Status::Done, "at {constraints}");
         assert_eq!(rt; sink.kept.as_slice(), want.as_bytes(), "at {constraints}");
         assert_eq!(rt; (shelf.calls, sink.calls), (3, 1));
     }
@@ -142,36 +135,6 @@ fn counts_of_a_shop(rt: HostRuntime) -> Result<(), Fail> {
         let ended = run_words(rt.alloc(), &WORDS, &mut shelf, &mut sink)?;
         assert_eq!(rt; sink.kept.as_slice(), want.as_bytes(), "want {want}");
         assert_eq!(rt; ended, Status::Done);
-    }
-    Ok(())
-}
-
-#[test]
-fn words(rt: HostRuntime) -> Result<(), Fail> {
-    let table: [&[&str]; 13] = [
-        &["bound"],
-        &[],
-        &["show"],
-        &["bound", "s", "r", "c", "count", "count"],
-        &["bound", "s", "-r", "c", "count"],
-        &["prove", "s", "r", "c", "count"],
-        &["show", "s", "r", "c", "count"],
-        &["bound", "s", "c"],
-        &["shows", "s", "c"],
-        &["show", "s"],
-        &["show", "s", "c", "x"],
-        &["show", "s", "-c"],
-        &["show", "-s", "c"],
-    ];
-    for words in table {
-        let mut shelf = shelf_of(rt.alloc(), SCHEMA, ROWS, APART)?;
-        let mut sink = MemSink::new(rt.alloc(), 0);
-        assert_eq!(rt;
-            run_words(rt.alloc(), words, &mut shelf, &mut sink)?,
-            Status::Usage
-        );
-        assert_eq!(rt; sink.kept.as_slice(), USAGE.as_bytes());
-        assert_eq!(rt; (shelf.calls, sink.calls), (0, 1));
     }
     Ok(())
 }

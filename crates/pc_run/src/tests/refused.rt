@@ -66,32 +66,12 @@ fn files(rt: HostRuntime) -> Result<(), Fail> {
             "",
             "malformed rows at 2: reason 8 BadNumber\n",
         ),
-        // the form of the whole file comes before the overlap of its first two lines
+        // a fault after two lines that overlap
         (
             SCHEMA,
             ROWS,
             "a: week = 1 => true, 0..1\nb: week = 1 => true, 0..1\nc\n",
             "malformed constraints at 3: reason 16 Unexpected\n",
-        ),
-        // lines that are no neighbours overlap
-        (
-            SCHEMA,
-            ROWS,
-            "a: week = 1 => true, 0..1\nb: week = 2 => true, 0..1\nc: week = 1 => true, 0..1\n",
-            "malformed constraints at 3: reason 22 Overlap\n",
-        ),
-        // the place is the line of the file
-        (
-            SHOP,
-            SALES,
-            "# days\n\na: day in 1..10 => true, 0..1\n \t\r\n  # more\nb: day in 10..20 => true, 0..1\n# end\n",
-            "malformed constraints at 6: reason 22 Overlap\n",
-        ),
-        (
-            SHOP,
-            SALES,
-            "a: branch = Chicago => price in 0.00..149.99, 0..5\nb: true => true, 0..1\n",
-            "malformed constraints at 2: reason 22 Overlap\n",
         ),
     ];
     for (schema, rows, constraints, want) in table {

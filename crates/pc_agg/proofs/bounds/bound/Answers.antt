@@ -1,45 +1,104 @@
-use Rattle.pc_agg.proofs.Answering.{sharp_between, unbroken_impossible, unbroken_between, form_between, right_impossible, right_between}
+use Rattle.std.proofs.Common.{All, sym, subst, ◌∙◌}
+use Rattle.std.proofs.lemmas.Result.{IfOk-weaker}
+use Rattle.pc_licence.specs.Pools.{AreLawful}
+use Rattle.pc_agg.specs.declared.extreme.Extreme.TheVariants.{Low, High}
+use Rattle.pc_agg.specs.Settings.{unseen}
+use Rattle.pc_agg.proofs.Aiming.{lawful_both, low_among, high_among, none_among_both, can_end, sized_first, none_of, some_of}
+use Rattle.pc_agg.proofs.Attained.{of_cells}
+use Rattle.pc_agg.proofs.Owing.{owes}
+use Rattle.pc_agg.proofs.Totals.{settled_listed}
 use Rattle.pc_agg.proofs.bounds.bound.Goals as goal
 
-pub returns-in_ok-high-in-Possible-clause-right : goal.returns-in_ok-high-in-Possible-clause-right
-returns-in_ok-high-in-Possible-clause-right c =
+pub listed-requires-clause-sized : goal.listed-requires-clause-sized
+listed-requires-clause-sized c =
+    let asked = c.requires.asked in
     let nodes = c.args.cells.now.tree.nodes in
-    λ observed fold.
-    rw c.answer_between.ensures
-    (right_between c.args.schema.now observed c.args.constraints.now c.args.query.now nodes c.requires.settled c.requires.ungrouped c.requires.has_value c.requires.well_formed c.requires.query
-    c.in-Possible.runs c.in_ok-low-in-Possible.low c.in_ok-high-in-Possible.high
-    ((rw c.in-Possible.is at c.in_ok-relation.ensures.relation) observed) (c.in_ok-low-in-Possible.ensures.reached observed fold) (c.in_ok-high-in-Possible.ensures.reached observed fold))
+    let low = (rw c.in-At.is at c.in_ok-aim.ensures.aimed) in
+    let high = (rw c.in-At-2.is at c.in_ok-aim-2.ensures.aimed) in
+    let lawful = lawful_both c.args.schema.now c.args.constraints.now c.args.query.now nodes asked.limited c.args.query.now.agg c.args.nodes Low High c.in-At.aim c.in-At-2.aim low high in
+    let u = unseen c.args.schema.now c.args.constraints.now c.args.query.now nodes in
+    let some = some_of c.in_ok-found.found (sym c.is_empty.ensures ∙ c.if-not-is_empty.true) in
+    rw c.as_slice.ensures
+    (sized_first c.args.schema.now c.args.constraints.now c.args.query.now nodes asked.limited c.args.query.now.agg c.args.nodes Low c.in-At.aim c.in_ok-found.found low
+    (subst (All (AreLawful u)) (sym c.in_ok-found.ensures) lawful) some)
 
-pub returns-in_ok-high-in-Possible-clause-unbroken : goal.returns-in_ok-high-in-Possible-clause-unbroken
-returns-in_ok-high-in-Possible-clause-unbroken c =
-    λ observed fold.
-    rw c.answer_between.ensures
-    (unbroken_between c.args.schema.now observed c.args.constraints.now c.args.query.now c.args.cells.now.tree.nodes c.requires.settled
-    c.in-Possible.runs c.in_ok-low-in-Possible.low c.in_ok-high-in-Possible.high
-    ((rw c.in-Possible.is at c.in_ok-relation.ensures.relation) observed) (c.in_ok-low-in-Possible.ensures.reached observed fold) (c.in_ok-high-in-Possible.ensures.reached observed fold))
+pub between-requires-clause-low : goal.between-requires-clause-low
+between-requires-clause-low c =
+    let asked = c.requires.asked in
+    let nodes = c.args.cells.now.tree.nodes in
+    let low = (rw c.in-At.is at c.in_ok-aim.ensures.aimed) in
+    let high = (rw c.in-At-2.is at c.in_ok-aim-2.ensures.aimed) in
+    let lawful = lawful_both c.args.schema.now c.args.constraints.now c.args.query.now nodes asked.limited c.args.query.now.agg c.args.nodes Low High c.in-At.aim c.in-At-2.aim low high in
+    rw (c.in_ok-settled.ensures, c.in_ok-found.ensures)
+    (can_end c.args.schema.now c.args.constraints.now c.args.query.now nodes asked.limited c.args.query.now.agg c.args.nodes Low c.in-At.aim _ low lawful)
 
-pub returns-in_ok-high-in-Possible-clause-form : goal.returns-in_ok-high-in-Possible-clause-form
-returns-in_ok-high-in-Possible-clause-form c =
-    λ observed fold.
-    rw c.answer_between.ensures
-    (form_between c.args.schema.now observed c.args.constraints.now c.args.query.now c.args.cells.now.tree.nodes c.requires.settled c.requires.ungrouped c.requires.has_value
-    c.in-Possible.runs c.in_ok-low-in-Possible.low c.in_ok-high-in-Possible.high (c.in_ok-low-in-Possible.ensures.reached observed fold) (c.in_ok-high-in-Possible.ensures.reached observed fold))
+pub between-requires-clause-high : goal.between-requires-clause-high
+between-requires-clause-high c =
+    let asked = c.requires.asked in
+    let nodes = c.args.cells.now.tree.nodes in
+    let low = (rw c.in-At.is at c.in_ok-aim.ensures.aimed) in
+    let high = (rw c.in-At-2.is at c.in_ok-aim-2.ensures.aimed) in
+    let lawful = lawful_both c.args.schema.now c.args.constraints.now c.args.query.now nodes asked.limited c.args.query.now.agg c.args.nodes Low High c.in-At.aim c.in-At-2.aim low high in
+    rw (c.in_ok-settled.ensures, c.in_ok-found.ensures)
+    (can_end c.args.schema.now c.args.constraints.now c.args.query.now nodes asked.limited c.args.query.now.agg c.args.nodes High c.in-At-2.aim _ high lawful)
 
-pub returns-in_ok-high-in-Possible-clause-sharp : goal.returns-in_ok-high-in-Possible-clause-sharp
-returns-in_ok-high-in-Possible-clause-sharp c =
-    rw c.answer_between.ensures
-    (sharp_between c.in-Possible.runs c.in_ok-low-in-Possible.low c.in_ok-high-in-Possible.high c.in_ok-low-in-Possible.ensures.exact c.in_ok-high-in-Possible.ensures.exact)
+pub between-requires-2-clause-low : goal.between-requires-2-clause-low
+between-requires-2-clause-low c =
+    can_end c.args.schema.now c.args.constraints.now c.args.query.now c.args.cells.now.tree.nodes c.requires.asked.limited c.args.query.now.agg c.args.nodes Low c.in-At.aim c.in_ok-settled-2.settled.found
+    (rw c.in-At.is at c.in_ok-aim.ensures.aimed) c.in_ok-settled-2.ensures.settled.lawful
 
-pub returns-in-Impossible-clause-right : goal.returns-in-Impossible-clause-right
-returns-in-Impossible-clause-right c =
-    λ observed fold.
-    rw c.impossible_by.ensures
-    (right_impossible c.args.schema.now observed c.args.constraints.now c.args.query.now c.args.cells.now.tree.nodes c.requires.settled c.requires.ungrouped c.requires.has_value c.requires.well_formed c.requires.query
-    c.in-Impossible.why ((rw c.in-Impossible.is at c.in_ok-relation.ensures.relation) observed))
+pub between-requires-2-clause-high : goal.between-requires-2-clause-high
+between-requires-2-clause-high c =
+    can_end c.args.schema.now c.args.constraints.now c.args.query.now c.args.cells.now.tree.nodes c.requires.asked.limited c.args.query.now.agg c.args.nodes High c.in-At-2.aim c.in_ok-settled-2.settled.found
+    (rw c.in-At-2.is at c.in_ok-aim-2.ensures.aimed) c.in_ok-settled-2.ensures.settled.lawful
 
-pub returns-in-Impossible-clause-unbroken : goal.returns-in-Impossible-clause-unbroken
-returns-in-Impossible-clause-unbroken c =
-    λ observed fold.
-    rw c.impossible_by.ensures
-    (unbroken_impossible c.args.schema.now observed c.args.constraints.now c.args.query.now c.args.cells.now.tree.nodes c.requires.settled
-    c.in-Impossible.why ((rw c.in-Impossible.is at c.in_ok-relation.ensures.relation) observed))
+pub returns-then-not-is_empty : goal.returns-then-not-is_empty
+returns-then-not-is_empty c =
+    let asked = c.requires.asked in
+    let nodes = c.args.cells.now.tree.nodes in
+    let low = (rw c.in-At.is at c.in_ok-aim.ensures.aimed) in
+    let high = (rw c.in-At-2.is at c.in_ok-aim-2.ensures.aimed) in
+    let lawful = lawful_both c.args.schema.now c.args.constraints.now c.args.query.now nodes asked.limited c.args.query.now.agg c.args.nodes Low High c.in-At.aim c.in-At-2.aim low high in
+    let u = unseen c.args.schema.now c.args.constraints.now c.args.query.now nodes in
+    let some = some_of c.in_ok-found.found (sym c.is_empty.ensures ∙ c.if-not-is_empty.true) in
+    let rows = of_cells c.args.schema.now c.args.constraints.now c.args.query.now c.args.seen.now nodes asked.formed c.args.query.now.agg Low c.in-At.aim.picks low.picked in
+    let settled = settled_listed u c.args.nodes c.in-At.aim.picks c.in_ok-found.found c.in_ok-settled.settled rows some (subst (All (AreLawful u)) (sym c.in_ok-found.ensures) lawful) (rw c.as_slice.ensures at c.in_ok-settled.ensures) in
+    record {
+      owes =
+          IfOk-weaker c.between.result _ _
+          (λ answer is asking.
+          owes c.args.schema.now c.args.constraints.now c.args.query.now c.args.seen.now nodes asked.formed asked.limited asked.found.tree c.requires.has_value c.args.nodes asking
+          c.in_ok-settled.settled settled c.in-At.aim c.in-At-2.aim low high
+          (rw (c.in_ok-settled.ensures, c.in_ok-found.ensures) (low_among c.args.schema.now c.args.constraints.now c.args.query.now nodes asked.limited c.args.query.now.agg c.args.nodes Low High c.in-At.aim c.in-At-2.aim low high))
+          (rw (c.in_ok-settled.ensures, c.in_ok-found.ensures) (high_among c.args.schema.now c.args.constraints.now c.args.query.now nodes asked.limited c.args.query.now.agg c.args.nodes Low High c.in-At.aim c.in-At-2.aim low high))
+          (λ disjoint. (
+            rw c.in_ok-settled.ensures tt,
+            (rw c.in-At.is at (c.in_ok-aim.ensures.disjoint disjoint)),
+            (rw c.in-At-2.is at (c.in_ok-aim-2.ensures.disjoint disjoint)),
+          ))
+          answer is)
+          c.between.ensures;
+    }
+
+pub returns : goal.returns
+returns c =
+    let asked = c.requires.asked in
+    let nodes = c.args.cells.now.tree.nodes in
+    let low = (rw c.in-At.is at c.in_ok-aim.ensures.aimed) in
+    let high = (rw c.in-At-2.is at c.in_ok-aim-2.ensures.aimed) in
+    let none = none_of c.in_ok-found.found _ c.in_ok-found.ensures (sym c.is_empty.ensures ∙ c.if-not-is_empty.false) in
+    let among = none_among_both c.args.schema.now c.args.constraints.now c.args.query.now nodes asked.limited c.args.query.now.agg c.args.nodes Low High c.in-At.aim c.in-At-2.aim low high c.in_ok-settled-2.settled.found none in
+    record {
+      owes =
+          IfOk-weaker c.between-2.result _ _
+          (λ answer is asking.
+          owes c.args.schema.now c.args.constraints.now c.args.query.now c.args.seen.now nodes asked.formed asked.limited asked.found.tree c.requires.has_value c.args.nodes asking
+          c.in_ok-settled-2.settled c.in_ok-settled-2.ensures.settled c.in-At.aim c.in-At-2.aim low high among.0 among.1
+          (λ disjoint. (
+            c.in_ok-settled-2.ensures.disjoint disjoint,
+            (rw c.in-At.is at (c.in_ok-aim.ensures.disjoint disjoint)),
+            (rw c.in-At-2.is at (c.in_ok-aim-2.ensures.disjoint disjoint)),
+          ))
+          answer is)
+          c.between-2.ensures;
+    }

@@ -9,6 +9,6 @@ pub loop-query-preserved : goal.loop-query-preserved
 loop-query-preserved c =
     let case = c.args.case.now in
     let answers = rw c.as_slice.ensures at c.in_ok-block.ensures.answers in
-    let each = zip_more (AnswersQuery case.schema case.rows case.constraints) c.as_slice-queries.result.now c.loop-query.blocks c.loop-query.query-index c.query-item.result c.in_ok-block.block c.loop-query-test.true c.query-item.is c.loop-query.invariant.0 answers in
+    let each = zip_more (AnswersQuery c.args.nodes case.schema case.rows case.constraints) c.as_slice-queries.result.now c.loop-query.blocks c.loop-query.query-index c.query-item.result c.in_ok-block.block c.loop-query-test.true c.query-item.is c.loop-query.invariant.0 answers in
     let accepted = All-push (λ (block : Block). IsQuery case.schema block.query) c.loop-query.blocks c.in_ok-block.block c.loop-query.invariant.1 c.in_ok-block.ensures.accepted in
     rw c.in_ok-push.ensures.ok (each, accepted)

@@ -7,4 +7,4 @@ use Rattle.pc_run.proofs.answers.answer_case.Given as goal
 
 abbrev pub invariant-loop-query : goal.invariant-loop-query
 invariant-loop-query l =
-    AllZip (AnswersQuery l.case.schema l.case.rows l.case.constraints) (take l.query-index l.queries) l.blocks × All (λ (block : Block). IsQuery l.case.schema block.query) l.blocks
+    AllZip (AnswersQuery l.nodes l.case.schema l.case.rows l.case.constraints) (take l.query-index l.queries) l.blocks × All (λ (block : Block). IsQuery l.case.schema block.query) l.blocks

@@ -1,0 +1,150 @@
+#!/usr/bin/env bash
+# Measures what `pc bound` spends on a count and on a sum where constraints overlap: over the month of examples/month, over
+# the cases of a folder, each with 500 drawn rows, and over a million rows of 12 columns. Of each it prints
+# - the processor time of the whole call;
+# - the shares of reading, of the cells and of the search. Reading is the same call with no constraints. Cells are the same
+#   call less reading where each constraint allows no row: the domain is divided as before, and each program is over at
+#   once. The search is the rest;
+# - the time of bench/ends.sh, a script that is given the cells and has cbc solve a program for each end, and the ratio of
+#   ours to it, of the whole call and of the call less reading;
+# - whether both say the same ends.
+# Both sides are measured in the same run, each with the start of its processes. A time is the median of the runs, each of
+# several calls where a call is short; what takes a second or more is run once. Run ./build first.
+# Usage: bench/answers.sh [RUNS]
+# CASES names the folder of cases, NAME.schema and NAME.cons with a column `price`; where it is not there, it is left out.
+set -eu
+export LC_ALL=C
+top=$(cd "$(dirname "$0")/.." && pwd)
+runs=${1:-5}
+cases=${CASES:-$top/../shared/bench/cases}
+pc=$top/pc
+[ -x "$pc" ] || { echo "bench/answers.sh: run ./build first" >&2; exit 1; }
+command -v cbc > /dev/null || echo "cbc is missing, so there is no ratio (Debian's coinor-cbc)"
+[ -d "$cases" ] || echo "there is no folder $cases, so its cases are left out"
+work=$(mktemp -d)
+trap 'rm -rf "$work"' EXIT
+cd "$work"
+
+# calls TIMES COMMAND..: the processor microseconds of one call are left in `took`, and what it wrote in `said`
+calls() {
+  local times=$1 call user system
+  shift
+  TIMEFORMAT='%3U %3S'
+  { time for ((call = 0; call < times; call++)); do "$@" < /dev/null > said 2> faults || true; done; } 2> spent
+  read -r user system < spent
+  took=$(((10#${user/./} + 10#${system/./}) * 1000 / times))
+}
+
+# measure COMMAND..: the same, as the median of the runs
+measure() {
+  local times=1 run all=''
+  calls 1 "$@"
+  if [ "$took" -ge 1000000 ]; then return; fi
+  if [ "$took" -lt 100000 ]; then times=5; fi
+  if [ "$took" -lt 20000 ]; then times=20; fi
+  for ((run = 0; run < runs; run++)); do
+    calls "$times" "$@"
+    all="$all$took"$'\n'
+  done
+  took=$(printf %s "$all" | sort -n | sed -n "$(((runs + 1) / 2))p")
+}
+
+# added SEEN REPORT: what the lost rows add to the seen value at each end of a report, in units of the last place
+added() {
+  awk -v seen="$1" '
+    $1 == "relation" && $2 == "impossible" { print "low none"; print "high none" }
+    $1 == "low" || $1 == "high" { sub(/\./, "", $2); printf "%s %.0f %s\n", $1, $2 - seen, $3 }' "$2"
+}
+
+# agree OURS THEIRS: an exact end of ours is theirs, and an outer one holds theirs
+agree() {
+  awk 'NR == FNR { theirs[$1] = $2; next }
+    $3 == "outer" { open = 1; if (theirs[$1] != "none" && ($1 == "low" ? $2 > theirs[$1] : $2 < theirs[$1])) wrong = 1; next }
+    $2 != theirs[$1] { wrong = 1 }
+    END { print wrong ? "DISAGREES" : open ? "agrees, an end is outer" : "agrees" }' "$2" "$1"
+}
+
+# answer NAME SCHEMA ROWS CONSTRAINTS COLUMN
+answer() {
+  local name=$1 schema=$2 rows=$3 constraints=$4 column=$5 query asked reading idle whole theirs seen line
+  "$pc" show "$schema" "$constraints" > shown || { echo "$name: $(cat shown)"; return; }
+  sed '/^disjoint /d; s/, [0-9]*\.\.[0-9]*$/, 0..0/' shown > idle.constraints
+  : > no.constraints
+  for query in count "sum($column)"; do
+    asked=$column
+    if [ "$query" = count ]; then asked=''; fi
+    python3 "$top/bench/divide.py" "$schema" shown $asked > cells
+    if ! "$pc" bound "$schema" "$rows" "$constraints" "$query" > report; then
+      echo "$name, $query: $(head -1 report)"
+      continue
+    fi
+    measure "$pc" bound "$schema" "$rows" no.constraints "$query"
+    reading=$took seen=$(awk '$1 == "low" { sub(/\./, "", $2); print $2 }' said)
+    measure "$pc" bound "$schema" "$rows" idle.constraints "$query"
+    idle=$took
+    measure "$pc" bound "$schema" "$rows" "$constraints" "$query"
+    whole=$took
+    line=$(awk -v name="$name" -v query="$query" -v reading="$reading" -v idle="$idle" -v whole="$whole" '
+      function share(part) { return sprintf("%.2f", part < 0 ? 0 : part / whole) }
+      $1 == "constraints" { constraints = $2 }
+      $1 == "cells" { cells = $2 }
+      END { printf "%s, %s: %d cells, %d constraints; %.4f s; reading %s, cells %s, search %s", name, query, cells, constraints, whole / 1000000, share(reading), share(idle - reading), share(whole - idle) }' cells)
+    if command -v cbc > /dev/null; then
+      measure "$top/bench/ends.sh" cells
+      theirs=$took
+      cp said ends
+      added "$seen" report > ours
+      line="$line; $(awk -v theirs="$theirs" -v whole="$whole" -v reading="$reading" 'BEGIN {
+        printf "cbc %.4f s, ratio %.2f, without reading %.2f", theirs / 1000000, whole / theirs, (whole > reading ? whole - reading : 0) / theirs }'); $(agree ours ends)"
+    fi
+    echo "$line"
+  done
+}
+
+# draw SCHEMA ROWS: so many rows, each number and name of the domain as likely as another
+draw() {
+  awk -F, -v rows="$2" '
+    {
+      name[NR] = $1; kind[NR] = $2
+      if ($2 == "cat") { size[NR] = NF - 2; for (n = 0; n < size[NR]; n++) text[NR, n] = $(n + 3) }
+      else { scale[NR] = $2 == "dec" ? $3 : 0; low[NR] = $(NF - 1); size[NR] = ($NF - $(NF - 1)) * 10 ^ scale[NR] + 1 }
+    }
+    END {
+      for (column = 1; column <= NR; column++) printf "%s%s", name[column], column < NR ? "," : "\n"
+      seed = 1
+      for (row = 0; row < rows; row++) for (column = 1; column <= NR; column++) {
+        seed = seed * 16807 % 2147483647
+        place = seed % int(size[column] + 0.5)
+        if (kind[column] == "cat") printf "%s", text[column, place]
+        else printf "%.*f", scale[column], low[column] + place / 10 ^ scale[column]
+        printf "%s", column < NR ? "," : "\n"
+      }
+    }' "$1"
+}
+
+month=$top/examples/month
+"$month/rows.sh" > month.rows
+answer month "$month/schema.csv" month.rows "$month/constraints.txt" price
+
+for schema in "$cases"/*.schema; do
+  [ -e "$schema" ] || continue
+  draw "$schema" 500 > case.rows
+  answer "$(basename "$schema" .schema)" "$schema" case.rows "${schema%.schema}.cons" price
+done
+
+# margins over three columns, a total, and six constraints across them
+for column in a b c d e f g h i j k l; do echo "$column,int,0,9999"; done > million.schema
+draw million.schema 1000000 > million.rows
+{
+  echo 'all: true => true, 1000..1010'
+  for part in 0 1 2 3 4; do echo "a$part: a in $((part * 2000))..$((part * 2000 + 1999)) => true, 190..210"; done
+  for part in 0 1 2 3; do echo "b$part: b in $((part * 2500))..$((part * 2500 + 2499)) => true, 240..260"; done
+  for part in 0 1 2 3; do echo "c$part: c in $((part * 2500))..$((part * 2500 + 2499)) => d in 0..$((9999 - part * 500)), 240..260"; done
+  echo 'x0: a < 3000 and d >= 5000 => c in 0..7999, 100..400'
+  echo 'x1: b >= 7000 and c < 6000 => true, 50..300'
+  echo 'x2: a >= 5000 and e in 1000..4999 => true, 0..500'
+  echo 'x3: f >= 9000 => c in 100..9899, 0..100'
+  echo 'x4: b < 5000 and g < 100 => true, 0..40'
+  echo 'x5: a in 2500..7499 and c in 2500..7499 => true, 100..400'
+} > million.constraints
+answer "a million rows" million.schema million.rows million.constraints c

@@ -1,0 +1,273 @@
+-- Answers over a settled relation and two ends owe what they must.
+use Rattle.std.proofs.Common.{◌≡◌, ℕ, Bool, true, false, ◌&&◌, cond, inl, List, [], ◌++◌, get_or, All, Contains, Some, refl, sym, ap, subst, ◌∙◌, arith}
+use Rattle.std.specs.Prelude.{◌||◌, int_lt}
+use Rattle.std.proofs.lemmas.Bool.{and_parts}
+use Rattle.std.proofs.lemmas.Int.{ints}
+use Rattle.std.proofs.lemmas.List.Elements.{All-append, All-cons, All-head, All-nil, All-contains}
+use Rattle.pc_model.specs.declared.schema.Schema.{Schema}
+use Rattle.pc_model.specs.declared.row.Run.{Run}
+use Rattle.pc_model.specs.declared.constraint.Constraint.{Constraint}
+use Rattle.pc_model.specs.declared.tree.CutNode.{CutNode}
+use Rattle.pc_model.specs.declared.query.Query.{Query}
+use Rattle.pc_model.specs.declared.query.Folded.{Folded}
+use Rattle.pc_model.specs.Accepted.{AreConstraints}
+use Rattle.pc_model.specs.Aggregate.{IsAtMost}
+use Rattle.pc_model.specs.WellFormed.{IsWellFormed}
+use Rattle.pc_model.specs.Membership.{AreDisjoint}
+use Rattle.pc_model.specs.Cells.{IsSettledTree, AreSettled}
+use Rattle.pc_model.specs.Right.{ArePossible, always_has_value}
+use Rattle.pc_model.specs.Right as plain
+use Rattle.pc_proof.specs.declared.answer.Why.{Why}
+use Rattle.pc_proof.specs.declared.answer.Why.TheVariants as whys
+use Rattle.pc_proof.specs.declared.answer.Relation.{Relation}
+use Rattle.pc_proof.specs.declared.answer.Relation.TheVariants as relations
+use Rattle.pc_proof.specs.declared.answer.Lack.TheVariants as lacks
+use Rattle.pc_proof.specs.declared.answer.Mark.{Mark}
+use Rattle.pc_proof.specs.declared.answer.Mark.TheVariants as marks
+use Rattle.pc_proof.specs.declared.answer.End.{End}
+use Rattle.pc_proof.specs.declared.answer.Answer.{Answer}
+use Rattle.pc_bound.specs.declared.program.Program.{Program}
+use Rattle.pc_bound.specs.Allocation.{IsAllocation}
+use Rattle.pc_proof.specs.Setting.{Setting, region_of, leaves, program_for}
+use Rattle.pc_proof.specs.Table.{ratio_of, one, minus_one, ShowsImpossible}
+use Rattle.pc_proof.specs.Unbroken.{HoldsRelation, IsDecided, IsExact, MayStand, plain_relation}
+use Rattle.pc_licence.specs.Licensed.{LicensedRelation}
+use Rattle.pc_licence.specs.Pools.{AreLawful, ShownFrom}
+use Rattle.pc_licence.specs.Searched.{WhySearched, RelationSearched}
+use Rattle.pc_licence.specs.Wanted.{any, Has}
+use Rattle.pc_licence.specs.Shown.{runs_of_mark, runs_of_relation, shown_runs, counts_of_runs}
+use Rattle.pc_agg.specs.declared.aim.Aim.{Aim}
+use Rattle.pc_agg.specs.declared.settling.Settled.{Settled}
+use Rattle.pc_agg.specs.declared.extreme.Extreme.TheVariants.{Low, High}
+use Rattle.pc_agg.specs.Answered.{impossible_by, answer_between, bounded_by, is_open, IsAnswer, IsBetween}
+use Rattle.pc_agg.specs.Asked.{Asking, setting_for}
+use Rattle.pc_agg.specs.Ends.{program_towards}
+use Rattle.pc_agg.specs.Limits.{IsReached}
+use Rattle.pc_agg.specs.Marks.{IsAim, IsAmong}
+use Rattle.pc_agg.specs.Owed.{Owes, OwesSettled, answer_of}
+use Rattle.pc_agg.specs.Settings.{unseen}
+use Rattle.pc_agg.specs.Settling.{IsListed, IsUnlisted, IsOfCells, IsRelation, IsSettled}
+use Rattle.pc_agg.proofs.Attained.{lawful_runs, counted_runs}
+use Rattle.pc_agg.proofs.Ending.{IsDone, end_done, end_exact}
+use Rattle.pc_agg.proofs.Questions.{tree_for}
+
+-- nothing shown has counts in an empty list
+none_among : (s : Setting) (answer : Answer) (found : List (List ℕ)) → found ≡ [] → ShownFrom s found answer → (P : List Run → Type 0) → All P (shown_runs answer)
+none_among s answer found none from P place d inside =
+    let there = subst (λ l. Contains l (counts_of_runs s (get_or (shown_runs answer) place d))) none (from place d inside) in
+    absurd (omega (arith, there.1))
+
+module _ (schema : Schema) (constraints : List Constraint) (query : Query) (seen : Folded) (nodes : List CutNode) (formed : IsWellFormed schema) (limited : AreConstraints schema constraints)
+    (tree : IsSettledTree schema constraints query.chosen nodes) (always : always_has_value query.agg ≡ true) (budget : ℕ) (asking : Asking schema constraints query seen) where
+  abbrev u : Setting
+  u = unseen schema constraints query nodes
+
+  abbrev s : Setting
+  s = setting_for schema constraints query seen nodes asking
+
+  tree_at : IsSettledTree schema constraints (region_of s.question) nodes
+  tree_at = tree_for schema constraints query seen nodes formed asking tree
+
+  -- ---- what is settled
+
+  -- what shows that nothing is possible does not look at observed rows, but for ends
+  listed_runs : (found : List (List ℕ)) (runs : List Run) → All (AreLawful u) found → IsListed u found runs → ArePossible s.question runs × Contains found (counts_of_runs s runs)
+  listed_runs found runs lawful listed =
+      let own = All-contains (AreLawful u) found listed.counts lawful listed.there in
+      let possible = lawful_runs schema constraints query seen nodes formed asking listed.picks listed.counts listed.rows own in
+      let counted = counted_runs schema constraints query seen nodes formed asking listed.picks listed.counts listed.rows own in
+      (subst (ArePossible s.question) (sym listed.runs_are) possible, subst (Contains found) (sym (ap (counts_of_runs s) listed.runs_are ∙ counted)) listed.there)
+
+  relation_from : (found : List (List ℕ)) (relation : Relation) → All (AreLawful u) found → IsRelation u budget found relation → All (λ runs. Contains found (counts_of_runs s runs)) (runs_of_relation relation)
+  relation_from found (relations.Possible runs) lawful is = All-cons (λ r. Contains found (counts_of_runs s r)) runs [] (listed_runs found runs lawful is).1 (All-nil (λ r. Contains found (counts_of_runs s r)))
+  relation_from found (relations.Impossible why) lawful is = All-nil (λ r. Contains found (counts_of_runs s r))
+  relation_from found relations.Undecided lawful is = All-nil (λ r. Contains found (counts_of_runs s r))
+
+  both_totals : (found : List (List ℕ)) (answer : Answer) → IsUnlisted u budget found → ShownFrom s found answer → LicensedRelation s budget answer relations.Undecided
+  both_totals found answer unlisted from =
+      let nothing_shown = λ (p : Program). none_among s answer found unlisted.none from (λ runs. IsAllocation p p.floor p.cap (counts_of_runs s runs) → Has p any (counts_of_runs s runs) → ⊥) in (
+        record {
+          most = unlisted.most;
+          fewest = unlisted.fewest;
+          by_most = record { left = unlisted.by_most; found = nothing_shown (program_for s one) };
+          by_fewest = record { left = unlisted.by_fewest; found = nothing_shown (program_for s minus_one) };
+        },
+        unlisted.meet,
+      )
+
+  relation_licensed : (found : List (List ℕ)) (relation : Relation) (answer : Answer) → IsRelation u budget found relation → ShownFrom s found answer → LicensedRelation s budget answer relation
+  relation_licensed found (relations.Possible runs) answer is from = tt
+  relation_licensed found (relations.Impossible why) answer is from = tt
+  relation_licensed found relations.Undecided answer is from = both_totals found answer is from
+
+  impossible_here : (why : Why) → ShowsImpossible u why → IsOfCells why → ShowsImpossible s why
+  impossible_here (whys.Void t) shows of = shows
+  impossible_here (whys.Cross t v) shows of = shows
+  impossible_here (whys.Ends low high) shows of = absurd of
+
+  why_searched : (why : Why) → IsOfCells why → WhySearched s budget why
+  why_searched (whys.Void t) of = tt
+  why_searched (whys.Cross t v) of = tt
+  why_searched (whys.Ends low high) of = absurd of
+
+  relation_holds : (found : List (List ℕ)) (relation : Relation) → All (AreLawful u) found → IsRelation u budget found relation → HoldsRelation s relation
+  relation_holds found (relations.Possible runs) lawful is = (listed_runs found runs lawful is).0
+  relation_holds found (relations.Impossible why) lawful is = impossible_here why is.0 is.1
+  relation_holds found relations.Undecided lawful is = tt
+
+  nothing_found : (found : List (List ℕ)) (relation : Relation) → IsRelation u budget found relation → relation ≡ relations.Undecided → found ≡ []
+  nothing_found found relation is undecided = (subst (IsRelation u budget found) undecided is).none
+
+  settled_as : (found : List (List ℕ)) (relation : Relation) → All (AreLawful u) found → IsRelation u budget found relation → (AreDisjoint schema constraints → IsDecided relation) → OwesSettled s budget relation lacks.Silent found
+  settled_as found relation lawful is decided = record {
+    relation_holds = relation_holds found relation lawful is;
+    lack_holds = tt;
+    silent = sym (ap (λ test. test || plain.is_impossible (plain_relation relation)) always);
+    licensed = record { relation = relation_licensed found relation (answer_of relation lacks.Silent) is shown; lack = tt; low = tt; high = tt; low_unshown = tt; high_unshown = tt };
+    lawful = lawful;
+    shown = shown;
+    undecided = nothing_found found relation is;
+    sharp = λ disjoint. (decided disjoint, tt);
+  }
+    where
+      shown : ShownFrom s found (answer_of relation lacks.Silent)
+      shown =
+          All-append (λ runs. Contains found (counts_of_runs s runs)) (runs_of_relation relation ++ []) []
+          (All-append (λ runs. Contains found (counts_of_runs s runs)) (runs_of_relation relation) [] (relation_from found relation lawful is) (All-nil (λ runs. Contains found (counts_of_runs s runs))))
+          (All-nil (λ runs. Contains found (counts_of_runs s runs)))
+
+  pub owes_settled : (settled : Settled) → IsSettled u budget settled → (AreDisjoint schema constraints → IsDecided settled.relation) → OwesSettled s budget settled.relation settled.lack settled.found
+  owes_settled settled is decided =
+      subst (λ lack. OwesSettled s budget settled.relation lack settled.found) (sym is.lack) (settled_as settled.found settled.relation is.lawful is.relation decided)
+
+  relation_searched : (found : List (List ℕ)) (relation : Relation) → IsRelation u budget found relation → RelationSearched s budget relation
+  relation_searched found (relations.Possible runs) is = tt
+  relation_searched found (relations.Impossible why) is = why_searched why is.1
+  relation_searched found relations.Undecided is = tt
+
+  -- ---- no list
+
+  settled_here : AreSettled constraints (region_of s.question) (leaves s)
+  settled_here = tree_at.settled
+
+  pub owes_impossible : (why : Why) → ShowsImpossible s why → WhySearched s budget why → Owes s budget (impossible_by why)
+  owes_impossible why shows searched = record {
+    form = record {
+      named = asking.named;
+      preorder = tree.preorder;
+      silent = sym (ap (λ test. test || true) always);
+      absent = refl;
+      low = tt;
+      high = tt;
+    };
+    unbroken = record { allowed = asking.allowed; proper = tree.proper; settled = settled_here; relation = shows; lack = tt; low = tt; high = tt };
+    licensed = record { relation = tt; lack = tt; low = tt; high = tt; low_unshown = tt; high_unshown = tt };
+    searched = record { relation = searched; lack = tt; low = tt; high = tt };
+    sharp = λ disjoint. (record { decided = tt; ends = tt }, tt);
+  }
+
+  -- ---- both ends
+
+  module _ (found : List (List ℕ)) (lawful : All (AreLawful u) found) (low high : End) (low_done : IsDone Low s budget query.agg found low) (high_done : IsDone High s budget query.agg found high) where
+    abbrev with_ends : Relation → Answer
+    with_ends relation = record { relation = relation; lack = lacks.Silent; ends = Some (low, high) }
+
+    abbrev IsThere : List Run → Type 0
+    IsThere runs = Contains found (counts_of_runs s runs)
+
+    shown_from : (relation : Relation) → IsRelation u budget found relation → ShownFrom s found (with_ends relation)
+    shown_from relation is =
+        All-append IsThere (runs_of_relation relation ++ []) (runs_of_mark low.mark ++ runs_of_mark high.mark)
+        (All-append IsThere (runs_of_relation relation) [] (relation_from found relation lawful is) (All-nil IsThere))
+        (All-append IsThere (runs_of_mark low.mark) (runs_of_mark high.mark) low_done.from high_done.from)
+
+    -- an exact end shows runs, whose counts were found
+    stands : (relation : Relation) (end : End) → IsRelation u budget found relation → All IsThere (runs_of_mark end.mark) → MayStand relation end
+    stands (relations.Possible runs) end is from = tt
+    stands (relations.Impossible why) end is from = tt
+    stands relations.Undecided end is from = by_mark end.mark from
+      where
+        by_mark : (mark : Mark) → All IsThere (runs_of_mark mark) → MayStand relations.Undecided (record { value = end.value; mark = mark; proof = end.proof })
+        by_mark marks.Outer from = refl
+        by_mark (marks.Exact runs) from =
+            let there = subst (λ l. Contains l (counts_of_runs s runs)) is.none (All-head IsThere runs [] from) in
+            absurd (omega (arith, there.1))
+
+    owes_both : (relation : Relation) → plain.is_impossible (plain_relation relation) ≡ false → IsRelation u budget found relation →
+        (AreDisjoint schema constraints → IsDecided relation × IsExact low.mark × IsExact high.mark) → Owes s budget (with_ends relation)
+    owes_both relation may is decided = record {
+      form = record {
+        named = asking.named;
+        preorder = tree.preorder;
+        silent = sym (ap (λ test. test || plain.is_impossible (plain_relation relation)) always);
+        absent = sym (ap (λ test. test || false) may);
+        low = low_done.formed;
+        high = high_done.formed;
+      };
+      unbroken = record {
+        allowed = asking.allowed;
+        proper = tree.proper;
+        settled = settled_here;
+        relation = relation_holds found relation lawful is;
+        lack = tt;
+        low = (low_done.holds, stands relation low is low_done.from);
+        high = (high_done.holds, stands relation high is high_done.from);
+      };
+      licensed = record {
+        relation = relation_licensed found relation (with_ends relation) is (shown_from relation is);
+        lack = tt;
+        low = low_done.licensed (with_ends relation);
+        high = high_done.licensed (with_ends relation);
+        low_unshown = low_done.unshown (with_ends relation) (shown_from relation is);
+        high_unshown = high_done.unshown (with_ends relation) (shown_from relation is);
+      };
+      searched = record { relation = relation_searched found relation is; lack = tt; low = low_done.searched; high = high_done.searched };
+      sharp = λ disjoint. let all = decided disjoint in (record { decided = all.0; ends = (all.1, all.2) }, tt);
+    }
+
+    -- ends that cross leave nothing possible
+    crossing : int_lt high.value.num low.value.num ≡ true → Owes s budget (impossible_by (whys.Ends (bounded_by low) (bounded_by high)))
+    crossing crossed =
+        owes_impossible (whys.Ends (bounded_by low) (bounded_by high))
+        (record { low_holds = low_done.shows; high_holds = high_done.shows; above = not_at_most; formed = (low_done.formed, high_done.formed) }, inl always)
+        (low_done.searched, high_done.searched)
+      where
+        not_at_most : IsAtMost (ratio_of low.value) (ratio_of high.value) → ⊥
+        not_at_most less = omega (arith, ints, (rw (low_done.is_whole, high_done.is_whole) at less), crossed)
+
+    pub owes_between : (relation : Relation) → plain.is_impossible (plain_relation relation) ≡ false → IsRelation u budget found relation →
+        (AreDisjoint schema constraints → IsDecided relation × IsExact low.mark × IsExact high.mark) → Owes s budget (answer_between relation low high)
+    owes_between relation may is decided = by_test (is_open relation && int_lt high.value.num low.value.num) refl
+      where
+        by_test : (test : Bool) → (is_open relation && int_lt high.value.num low.value.num) ≡ test →
+            Owes s budget (cond test (impossible_by (whys.Ends (bounded_by low) (bounded_by high))) (with_ends relation))
+        by_test true e = crossing (and_parts (is_open relation) (int_lt high.value.num low.value.num) e).1
+        by_test false e = owes_both relation may is decided
+
+  -- ---- an answer
+
+  module _ (settled : Settled) (is : IsSettled u budget settled) (low high : Aim) (is_low : IsAim u query.agg budget Low low) (is_high : IsAim u query.agg budget High high)
+      (low_among : IsAmong settled.found low.limit) (high_among : IsAmong settled.found high.limit)
+      (decided : AreDisjoint schema constraints → IsDecided settled.relation × IsReached (program_towards u query.agg Low) low.limit.most low.limit.found × IsReached (program_towards u query.agg High) high.limit.most high.limit.found) where
+    owes_from : (relation : Relation) (answer : Answer) → settled.relation ≡ relation → plain.is_impossible (plain_relation relation) ≡ false → IsBetween seen query.agg relation settled.found low high answer → Owes s budget answer
+    owes_from relation answer same may between =
+        let low_done = end_done schema constraints query seen nodes formed limited tree always budget settled.found is.lawful asking Low low is_low low_among between.low_end between.low_is in
+        let high_done = end_done schema constraints query seen nodes formed limited tree always budget settled.found is.lawful asking High high is_high high_among between.high_end between.high_is in
+        subst (Owes s budget) (sym between.answer_is)
+        (owes_between settled.found is.lawful between.low_end between.high_end low_done high_done relation may (subst (IsRelation u budget settled.found) same is.relation)
+        (λ disjoint.
+        let all = decided disjoint in (
+          subst IsDecided same all.0,
+          end_exact schema constraints query seen nodes formed limited tree always budget settled.found is.lawful asking Low low is_low low_among between.low_end between.low_is all.1,
+          end_exact schema constraints query seen nodes formed limited tree always budget settled.found is.lawful asking High high is_high high_among between.high_end between.high_is all.2,
+        )))
+
+    owes_as : (relation : Relation) (answer : Answer) → settled.relation ≡ relation → IsAnswer seen query.agg relation settled.found low high answer → Owes s budget answer
+    owes_as (relations.Possible runs) answer same answers = owes_from (relations.Possible runs) answer same refl answers
+    owes_as (relations.Impossible why) answer same answers =
+        let shown = subst (IsRelation u budget settled.found) same is.relation in
+        subst (Owes s budget) (sym answers) (owes_impossible why (impossible_here why shown.0 shown.1) (why_searched why shown.1))
+    owes_as relations.Undecided answer same answers = owes_from relations.Undecided answer same refl answers
+
+    pub owes : (answer : Answer) → IsAnswer seen query.agg settled.relation settled.found low high answer → Owes s budget answer
+    owes answer answers = owes_as settled.relation answer refl answers

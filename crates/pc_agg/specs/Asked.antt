@@ -1,0 +1,68 @@
+-- What a call that answers a query is asked.
+use Rattle.std.specs.Prelude.{◌≡◌, ◌≤◌, ◌^◌, ℕ, pos, nat_abs, List, All, Option, None, IfSome, is_none}
+use Rattle.pc_model.specs.declared.schema.Schema.{Schema}
+use Rattle.pc_model.specs.declared.row.Row.{Row}
+use Rattle.pc_model.specs.declared.region.Region.{Region}
+use Rattle.pc_model.specs.declared.constraint.Constraint.{Constraint}
+use Rattle.pc_model.specs.declared.query.Query.{Query}
+use Rattle.pc_model.specs.declared.query.Folded.{Folded}
+use Rattle.pc_model.specs.declared.tree.CutNode.{CutNode}
+use Rattle.pc_model.specs.Accepted.{AreConstraints, IsQuery, IsNumeric, IsColumnWhere}
+use Rattle.pc_model.specs.WellFormed.{IsWellFormed}
+use Rattle.pc_model.specs.Right.{Question}
+use Rattle.pc_model.specs.Cells.{IsSettledTree, leaves_in}
+use Rattle.pc_cells.specs.declared.cells.Cells.{Cells}
+use Rattle.pc_cells.specs.Found.{cells_of, IsFilled, HasNumbers}
+use Rattle.pc_proof.specs.Setting.{Setting, narrowed, seen_count, seen_sum, seen_least, seen_greatest}
+use Rattle.pc_proof.specs.Unbroken.{AllowsName}
+
+-- the question that a query without a group stands for: that query over observed rows, or one name of a grouped query
+-- whose region the name narrows
+abbrev pub asked_as : Query → Region → Option ℕ → Query
+asked_as query wide group = record { agg = query.agg; column = query.column; chosen = wide; group = group }
+
+abbrev pub question_as : Schema → List Constraint → Query → List Row → Region → Option ℕ → Option ℕ → Question
+question_as schema constraints query observed wide group name =
+    record { schema = schema; observed = observed; constraints = constraints; query = asked_as query wide group; name = name }
+
+-- the observed rows come to these numbers; without a column they have none but their count
+pub record ComesTo (q : Question) (seen : Folded) : Type 0 where
+  pub count : seen_count q ≡ pos seen.count
+  pub sum : IfSome q.query.column (λ _. seen_sum q ≡ seen.sum)
+  pub least : IfSome q.query.column (λ _. seen_least q ≡ seen.least)
+  pub greatest : IfSome q.query.column (λ _. seen_greatest q ≡ seen.greatest)
+
+-- a question that the call answers
+pub record Asking (schema : Schema) (constraints : List Constraint) (query : Query) (seen : Folded) : Type 0 where
+  pub observed : List Row
+  pub wide : Region
+  pub group : Option ℕ
+  pub name : Option ℕ
+  pub region : narrowed wide group name ≡ query.chosen
+  pub named : is_none name ≡ is_none group
+  pub allowed : AllowsName wide group name
+  pub well : IsQuery schema (asked_as query wide group)
+  pub comes_to : ComesTo (question_as schema constraints query observed wide group name) seen
+
+abbrev pub setting_for : (schema : Schema) (constraints : List Constraint) (query : Query) (seen : Folded) → List CutNode → Asking schema constraints query seen → Setting
+setting_for schema constraints query seen nodes asking =
+    record { question = question_as schema constraints query asking.observed asking.wide asking.group asking.name; nodes = nodes }
+
+-- the cells' tree and its cells are those of the query's region
+pub record AreCells (schema : Schema) (constraints : List Constraint) (query : Query) (cells : Cells) : Type 0 where
+  pub tree : IsSettledTree schema constraints query.chosen cells.tree.nodes
+  pub listed : cells.cells ≡ cells_of (leaves_in schema cells.tree.nodes)
+  pub filled : All IsFilled cells.cells
+  pub numbers : (column : ℕ) → IsColumnWhere IsNumeric schema column → All (HasNumbers column) cells.cells
+
+-- the conditions of the calls
+pub record AreAsked (schema : Schema) (seen : Folded) (constraints : List Constraint) (cells : Cells) (query : Query) (budget : ℕ) : Type 0 where
+  pub formed : IsWellFormed schema
+  pub limited : AreConstraints schema constraints
+  pub well : IsQuery schema query
+  pub ungrouped : query.group ≡ None
+  pub found : AreCells schema constraints query cells
+  pub few_seen : seen.count ≤ 1_000_000
+  pub small_seen : nat_abs seen.sum ≤ 2 ^ 83
+  pub some_nodes : 1 ≤ budget
+  pub few_nodes : budget ≤ 100_000

@@ -1,0 +1,86 @@
+-- What settles a relation: a list that was found, that there is none, or both totals whose searches were cut short.
+use Rattle.std.specs.Prelude.{◌≡◌, ℕ, ℤ, neg_ℤ, ◌<ℤ◌, int_lt, cond, ⊤, List, [], All, Contains, Some, None}
+use Rattle.std.specs.List.{AllZip}
+use Rattle.pc_model.specs.declared.row.Row.{Row}
+use Rattle.pc_model.specs.declared.row.Run.{Run}
+use Rattle.pc_model.specs.Runs.{runs_from}
+use Rattle.pc_model.specs.Cells.{IsRowOf}
+use Rattle.pc_bound.specs.declared.program.Program.{Program}
+use Rattle.pc_proof.specs.declared.answer.Relation.{Relation}
+use Rattle.pc_proof.specs.declared.answer.Relation.TheVariants as relations
+use Rattle.pc_proof.specs.declared.answer.Lack.TheVariants as lacks
+use Rattle.pc_proof.specs.declared.answer.Why.{Why}
+use Rattle.pc_proof.specs.declared.answer.Why.TheVariants as whys
+use Rattle.pc_proof.specs.Setting.{Setting, cells, program_for}
+use Rattle.pc_proof.specs.Table.{one, minus_one, ShowsImpossible}
+use Rattle.pc_proof.specs.Unbroken.{IsDecided}
+use Rattle.pc_licence.specs.Pools.{AreLawful}
+use Rattle.pc_licence.specs.Wanted.{any, LeavesOpen}
+use Rattle.pc_agg.specs.declared.settling.Settled.{Settled}
+use Rattle.pc_agg.specs.declared.settling.Total.{Total}
+use Rattle.pc_agg.specs.declared.settling.Total.TheVariants as totals
+use Rattle.pc_agg.specs.declared.limit.Limit.{Limit}
+use Rattle.pc_agg.specs.Limits.{IsLimit}
+
+-- a row of each cell
+abbrev pub AreRowsOfCells : Setting → List Row → Type 0
+AreRowsOfCells s picks = AllZip (IsRowOf s.question.schema s.question.constraints s.question.query.chosen) (cells s) picks
+
+-- the runs are of counts that were found
+pub record IsListed (s : Setting) (found : List (List ℕ)) (runs : List Run) : Type 0 where
+  pub picks : List Row
+  pub counts : List ℕ
+  pub rows : AreRowsOfCells s picks
+  pub there : Contains found counts
+  pub runs_are : runs ≡ runs_from picks counts
+
+-- nothing was found, the searches for the most and the fewest rows were cut short, and their bounds do not cross
+pub record IsUnlisted (s : Setting) (budget : ℕ) (found : List (List ℕ)) : Type 0 where
+  pub none : found ≡ []
+  pub most : ℤ
+  pub fewest : ℤ
+  pub by_most : LeavesOpen (program_for s one) budget most any
+  pub by_fewest : LeavesOpen (program_for s minus_one) budget fewest any
+  pub meet : most <ℤ neg_ℤ fewest → ⊥
+
+-- what shows that nothing is possible looks at no observed rows
+abbrev pub IsOfCells : Why → Type 0
+IsOfCells (whys.Void t) = ⊤
+IsOfCells (whys.Cross t u) = ⊤
+IsOfCells (whys.Ends low high) = ⊥
+
+abbrev pub IsRelation : Setting → ℕ → List (List ℕ) → Relation → Type 0
+IsRelation s budget found (relations.Possible runs) = IsListed s found runs
+IsRelation s budget found (relations.Impossible why) = ShowsImpossible s why × IsOfCells why
+IsRelation s budget found relations.Undecided = IsUnlisted s budget found
+
+pub record IsSettled (s : Setting) (budget : ℕ) (settled : Settled) : Type 0 where
+  pub relation : IsRelation s budget settled.found settled.relation
+  pub lack : settled.lack ≡ lacks.Silent
+  pub lawful : All (AreLawful s) settled.found
+
+-- a total settles the relation, or is left with its bound and tree, and nothing was found
+pub record IsLeftOpen (p : Program) (budget : ℕ) (limit : Limit) : Type 0 where
+  pub limit_is : IsLimit p budget limit
+  pub left : LeavesOpen p budget limit.most any
+
+-- what is settled was found by the search of this limit, or the limit is left
+abbrev pub IsTotalOf : Setting → Limit → Total → Type 0
+IsTotalOf s limit (totals.Settled settled) =
+    (counts : List ℕ) × (limit.found ≡ Some counts) × ((budget : ℕ) → IsSettled s budget settled) × IsDecided settled.relation
+IsTotalOf s limit (totals.Open left) = (limit.found ≡ None) × (left ≡ limit)
+
+abbrev pub IsTotal : Setting → ℕ → Program → Total → Type 0
+IsTotal s budget p (totals.Settled settled) = IsSettled s budget settled
+IsTotal s budget p (totals.Open limit) = IsLeftOpen p budget limit
+
+abbrev pub IsTotalDecided : Total → Type 0
+IsTotalDecided (totals.Settled settled) = IsDecided settled.relation
+IsTotalDecided (totals.Open limit) = ⊥
+
+-- of two limits under which nothing was found: the most rows are fewer than the fewest, or neither is known
+abbrev pub left_open : Limit → Limit → Settled
+left_open most fewest =
+    cond (int_lt most.most (neg_ℤ fewest.most))
+    (record { relation = relations.Impossible (whys.Cross most.tree fewest.tree); lack = lacks.Silent; found = [] })
+    (record { relation = relations.Undecided; lack = lacks.Silent; found = [] })

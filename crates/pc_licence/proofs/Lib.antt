@@ -1,0 +1,5 @@
+pub mod Attained
+pub mod Found
+pub mod RunCounts
+pub mod Sharp
+pub mod Trees

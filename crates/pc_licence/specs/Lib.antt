@@ -1,0 +1,6 @@
+pub mod Licensed
+pub mod Pools
+pub mod Searched
+pub mod Shown
+pub mod Totals
+pub mod Wanted

@@ -1,3 +1,0 @@
-pub mod Boxed
-pub mod Overlap
-pub mod Sides

@@ -1,0 +1,94 @@
+use super::*;
+
+const TWO_OVERLAP: &str =
+    "c1: branch = Chicago => price in 0.00..149.99, 0..5\nc2: true => price in 0.00..100.00, 0..3\n";
+
+/// Does the text have this part?
+fn has_part(text: &[u8], part: &[u8]) -> bool {
+    if part.is_empty() {
+        return true;
+    }
+    text.windows(part.len()).any(|other| other == part)
+}
+
+// The schema, the rows, the constraints, the query and the lines of the ends.
+const REPORTS: [(&str, &str, &str, &str, &str, &str); 5] = [
+    (
+        SHOP,
+        SALES,
+        TWO_OVERLAP,
+        "sum(price)",
+        "low 150.00 exact\n",
+        "high 450.00 exact\n",
+    ),
+    // of the same lost rows the constraint on all of them allows three
+    (
+        SHOP,
+        SALES,
+        TWO_OVERLAP,
+        "count where branch = Chicago",
+        "low 1 exact\n",
+        "high 4 exact\n",
+    ),
+    // one predicate lies within the other
+    (
+        SCHEMA,
+        ROWS,
+        "a: week in 1..2 => true, 1..3\nd: week = 2 => true, 0..1\n",
+        "count",
+        "low 3 exact\n",
+        "high 5 exact\n",
+    ),
+    // lines that are no neighbours overlap
+    (
+        SCHEMA,
+        ROWS,
+        "a: week = 1 => true, 0..1\nb: week = 2 => true, 0..1\nc: week = 1 => true, 0..1\n",
+        "count",
+        "low 2 exact\n",
+        "high 4 exact\n",
+    ),
+    // spans that share a day, of which both need a row
+    (
+        SHOP,
+        SALES,
+        "# days\n\na: day in 1..10 => true, 1..1\n \t\r\n  # more\nb: day in 10..20 => true, 1..1\n# end\n",
+        "count",
+        "low 3 exact\n",
+        "high 4 exact\n",
+    ),
+];
+
+#[test]
+fn overlapping_constraints(rt: HostRuntime) -> Result<(), Fail> {
+    for (schema, rows, constraints, query, low, high) in &REPORTS {
+        let mut shelf = shelf_of(rt.alloc(), schema, rows, constraints)?;
+        let mut sink = MemSink::new(rt.alloc(), 0);
+        let words = ["bound", "s", "r", "c", *query];
+        let ended = run_words(rt.alloc(), &words, &mut shelf, &mut sink)?;
+        assert_eq!(rt; ended, Status::Done, "at {constraints}");
+        assert!(rt;
+            has_part(sink.kept.as_slice(), low.as_bytes()),
+            "want {low}"
+        );
+        assert!(rt;
+            has_part(sink.kept.as_slice(), high.as_bytes()),
+            "want {high}"
+        );
+    }
+    Ok(())
+}
+
+#[test]
+fn overlapping_constraints_that_no_list_meets(rt: HostRuntime) -> Result<(), Fail> {
+    let constraints = "a: true => true, 3..5\nb: week in 1..4 => true, 0..2\n";
+    let mut shelf = shelf_of(rt.alloc(), SCHEMA, ROWS, constraints)?;
+    let mut sink = MemSink::new(rt.alloc(), 0);
+    let ended = run_words(rt.alloc(), &WORDS, &mut shelf, &mut sink)?;
+    assert_eq!(rt;
+        sink.kept.as_slice(),
+        b"query count\nrelation impossible\n".as_slice()
+    );
+    assert_eq!(rt; ended, Status::Done);
+    Ok(())
+}

@@ -1,0 +1,128 @@
+use super::*;
+
+const NOTHING_LOST: &str = "query count\nrelation possible\nlow 2 exact\nhigh 2 exact\n";
+
+/// Are the words no command, for which nothing is loaded?
+fn are_no_command(alloc: Global, words: &[&str]) -> Result<bool, Fail> {
+    let mut shelf = shelf_of(alloc, SCHEMA, ROWS, APART)?;
+    let mut sink = MemSink::new(alloc, 0);
+    let ended = run_words(alloc, words, &mut shelf, &mut sink)?;
+    if ended != Status::Usage {
+        return Ok(false);
+    }
+    if shelf.calls != 0 {
+        return Ok(false);
+    }
+    Ok(sink.kept.as_slice() == USAGE.as_bytes())
+}
+
+#[test]
+fn words(rt: HostRuntime) -> Result<(), Fail> {
+    let table: [&[&str]; 13] = [
+        &["bound"],
+        &[],
+        &["show"],
+        &["bound", "s", "r", "c", "count", "count"],
+        &["bound", "s", "-r", "c", "count"],
+        &["prove", "s", "r", "c", "count"],
+        &["show", "s", "r", "c", "count"],
+        &["bound", "s", "c"],
+        &["shows", "s", "c"],
+        &["show", "s"],
+        &["show", "s", "c", "x"],
+        &["show", "s", "-c"],
+        &["show", "-s", "c"],
+    ];
+    for words in table {
+        assert!(rt; are_no_command(rt.alloc(), words)?);
+    }
+    Ok(())
+}
+
+#[test]
+fn words_with_options(rt: HostRuntime) -> Result<(), Fail> {
+    let table: [&[&str]; 20] = [
+        // twice, in another place, and without its value or a word after it
+        &[
+            "bound", "--nodes", "5", "--nodes", "5", "s", "r", "c", "count",
+        ],
+        &["bound", "s", "r", "c", "count", "--nodes", "5"],
+        &["bound", "s", "--nodes", "5", "r", "c", "count"],
+        &["--nodes", "5", "bound", "s", "r", "c", "count"],
+        &["bound", "5", "--nodes", "s", "r", "c", "count"],
+        &["bound", "--nodes", "s", "r", "c", "count"],
+        &["bound", "--nodes", "5", "s", "r", "c"],
+        &["bound", "--nodes", "5", "s", "r", "c", "count", "count"],
+        &["show", "--nodes", "5", "s", "c"],
+        &["prove", "--nodes", "5", "s", "r", "c", "count"],
+        // in other words
+        &["bound", "--nodes=5", "s", "r", "c", "count"],
+        &["bound", "--node", "5", "s", "r", "c", "count"],
+        &["bound", "-nodes", "5", "s", "r", "c", "count"],
+        &["bound", "nodes", "5", "s", "r", "c", "count"],
+        &["bound", "--", "s", "r", "c", "count"],
+        // a word that begins with `-`
+        &["bound", "-", "r", "c", "count"],
+        &["bound", "s", "r", "c", "-count"],
+        &["bound", "--nodes", "5", "s", "r", "-", "count"],
+        &["bound", "--nodes", "5", "-s", "r", "c", "count"],
+        &["bound", "--nodes", "5", "s", "r", "c", "--nodes"],
+    ];
+    for words in table {
+        assert!(rt; are_no_command(rt.alloc(), words)?);
+    }
+    Ok(())
+}
+
+#[test]
+fn values_that_are_no_budget(rt: HostRuntime) -> Result<(), Fail> {
+    // 4294967297 is 1 in 32 bits, and the longer one in 64
+    let table = [
+        "0",
+        "000",
+        "100001",
+        "4294967297",
+        "18446744073709551617",
+        "99999999999999999999999999999999999999999999999999",
+        "",
+        "-",
+        "-5",
+        "+5",
+        "5.0",
+        "5x",
+        "x5",
+        " 5",
+        "5 ",
+        "1_000",
+        "1e3",
+        "٣",
+        "five",
+    ];
+    for value in table {
+        let words = ["bound", "--nodes", value, "s", "r", "c", "count"];
+        assert!(rt; are_no_command(rt.alloc(), &words)?, "at {value}");
+    }
+    Ok(())
+}
+
+#[test]
+fn values_that_are_a_budget(rt: HostRuntime) -> Result<(), Fail> {
+    let table = [
+        "1",
+        "9999",
+        "10000",
+        "100000",
+        "0100000",
+        "00000000000000000000000000000000000000000000000007",
+    ];
+    for value in table {
+        let mut shelf = shelf_of(rt.alloc(), SCHEMA, ROWS, "")?;
+        let mut sink = MemSink::new(rt.alloc(), 0);
+        let words = ["bound", "--nodes", value, "s", "r", "c", "count"];
+        let ended = run_words(rt.alloc(), &words, &mut shelf, &mut sink)?;
+        assert_eq!(rt; sink.kept.as_slice(), NOTHING_LOST.as_bytes(), "at {value}");
+        assert_eq!(rt; ended, Status::Done);
+        assert_eq!(rt; (shelf.calls, sink.calls), (3, 1));
+    }
+    Ok(())
+}
