@@ -323,7 +323,7 @@ def quoted(text):
 
 
 def table(name, first, cases):
-    lines = [f"pub(super) const {name}: [(Texts<'static>, Option<(i128, i128)>); {len(cases)}] = ["]
+    lines = [f"pub(super) static {name}: [(Texts<'static>, Option<(i128, i128)>); {len(cases)}] = ["]
     for case, ends in cases:
         lines += ["    (", "        ("]
         lines += [f"            {quoted(text)}," for text in case.texts()]

@@ -25,7 +25,7 @@ pub(super) const TRIANGLES: Texts<'static> = (
     "count",
 );
 
-pub(super) const OVERLAPS: [(Texts<'static>, u32, Option<(i128, i128)>); 8] = [
+pub(super) static OVERLAPS: [(Texts<'static>, u32, Option<(i128, i128)>); 8] = [
     (
         (SHOP, SALES, BOTH_KEPT, "sum(price)"),
         10_000,

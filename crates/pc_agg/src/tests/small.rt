@@ -4,7 +4,7 @@ use super::Texts;
 
 /// Texts, and the low and the high end, in units of the last place of the column; none where no
 /// relation is possible.
-pub(super) const SMALL: [(Texts<'static>, Option<(i128, i128)>); 30] = [
+pub(super) static SMALL: [(Texts<'static>, Option<(i128, i128)>); 30] = [
     (
         (
             "k,cat,ab,bc,ac\nn,int,-2,-1\n",

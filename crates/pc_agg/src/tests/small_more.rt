@@ -4,7 +4,7 @@ use super::Texts;
 
 /// Texts, and the low and the high end, in units of the last place of the column; none where no
 /// relation is possible.
-pub(super) const SMALL_MORE: [(Texts<'static>, Option<(i128, i128)>); 30] = [
+pub(super) static SMALL_MORE: [(Texts<'static>, Option<(i128, i128)>); 30] = [
     (
         (
             "k,cat,a,b,c\nv,dec,2,-0.02,-0.01\n",
