@@ -20,7 +20,7 @@ use Rattle.pc_tableau.proofs.StartRows.{coefficient-slack, coefficient-value}
 use Rattle.pc_tableau.proofs.StartMeant.{length-ranges, by_short}
 use Rattle.pc_simplex.specs.Floors.{AreFloors, number_at, short_row, does_start_turned}
 use Rattle.pc_simplex.proofs.Floors.{left_fits, left_less_fits}
-use Rattle.pc_simplex.proofs.Tables.{All-table}
+use Rattle.pc_tableau.proofs.Tables.{All-table}
 
 -- ---- the row of a short constraint
 set_both : (row : List ℤ) (value slack u : ℕ) (left : ℤ) → int_at row value ≡ left → int_at row slack ≡ pos 1

@@ -45,7 +45,7 @@ module _ (p : Program) (floors : List ℕ) (j : ℕ) where
   total_below : AreFloors p floors → total p floors j ≤ℤ pos (cells_of p * 1_000_000_000)
   total_below h = sum_small (cells_of p) (count_for p floors j) (λ i lt. one_small (has_bit (nat_at p.masks i) j) (nat_at floors i) (h.small i lt))
 
-  total_positive : pos 0 ≤ℤ total p floors j
+  pub total_positive : pos 0 ≤ℤ total p floors j
   total_positive = sum_positive (cells_of p) (count_for p floors j) (λ i lt. one_positive (has_bit (nat_at p.masks i) j) (nat_at floors i))
 
   pub total_small : (sum : ℕ) → AreFloors p floors → pos sum ≡ total p floors j → sum < 2 ^ 62

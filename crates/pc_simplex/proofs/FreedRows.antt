@@ -8,19 +8,19 @@ use Rattle.pc_tableau.proofs.Pivots.{length-freed_aim}
 use Rattle.pc_simplex.specs.Aims.{IsOver}
 
 -- ---- one row more, or none
-freed_below-zero : (t : Tableau) → freed_below 0 t ≡ t
+pub freed_below-zero : (t : Tableau) → freed_below 0 t ≡ t
 unfolding freed_below
 freed_below-zero t = refl
 
-freed_below-suc : (n : ℕ) (t : Tableau) → freed_below (suc n) t ≡ freed_by n (freed_below n t)
+pub freed_below-suc : (n : ℕ) (t : Tableau) → freed_below (suc n) t ≡ freed_by n (freed_below n t)
 unfolding freed_below
 freed_below-suc n t = refl
 
-fit_below-zero : (t : Tableau) → do_freed_below_fit 0 t ≡ true
+pub fit_below-zero : (t : Tableau) → do_freed_below_fit 0 t ≡ true
 unfolding do_freed_below_fit
 fit_below-zero t = refl
 
-fit_below-suc : (n : ℕ) (t : Tableau) → do_freed_below_fit (suc n) t ≡ (do_freed_below_fit n t && does_freed_by_fit n (freed_below n t))
+pub fit_below-suc : (n : ℕ) (t : Tableau) → do_freed_below_fit (suc n) t ≡ (do_freed_below_fit n t && does_freed_by_fit n (freed_below n t))
 unfolding do_freed_below_fit
 fit_below-suc n t = refl
 

@@ -13,7 +13,7 @@ use Rattle.pc_tableau.specs.Relaxation.{columns_of, with_gains}
 use Rattle.pc_tableau.specs.Conditions.{IsSized, AreFitNumbers}
 use Rattle.pc_tableau.proofs.Listed.{length-table}
 use Rattle.pc_simplex.specs.Aims.{gain_at}
-use Rattle.pc_simplex.proofs.Tables.{All-table}
+use Rattle.pc_tableau.proofs.Tables.{All-table}
 use Rattle.pc_simplex.proofs.FirstRows.{one_fits, none_fits, either_fits}
 
 pub with_gains_is : (p : Program) (t made : Tableau) (turned : List Bool) (aim : List ℤ) → made ≡ t → turned ≡ made.turned → aim ≡ table (columns_of p) (gain_at p turned)

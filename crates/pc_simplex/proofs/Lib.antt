@@ -6,9 +6,13 @@ pub mod Gains
 pub mod Parts
 pub mod PhaseEnds
 pub mod Pointed
+pub mod Settings
+pub mod ShortEnds
+pub mod ShortFreed
+pub mod ShortSecond
+pub mod ShortStart
 pub mod Shown
 pub mod Slacks
 pub mod Standings
-pub mod Tables
 pub mod Vertices
 pub mod Worth

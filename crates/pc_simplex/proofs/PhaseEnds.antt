@@ -11,7 +11,7 @@ use Rattle.pc_tableau.specs.Conditions.{IsSizedRow, IsSized}
 use Rattle.pc_tableau.proofs.Listed.{length-table}
 use Rattle.pc_simplex.specs.Aims.{IsOver}
 use Rattle.pc_simplex.specs.Ended.{IsSoundEnding}
-use Rattle.pc_simplex.proofs.Tables.{All-table}
+use Rattle.pc_tableau.proofs.Tables.{All-table}
 use Rattle.pc_simplex.proofs.FirstRows.{one_fits, none_fits, either_fits}
 
 pub rows_over : (f : Columns) (t : Tableau) → IsSized f t → All (IsOver t.aim) t.rows

@@ -9,7 +9,7 @@ use Rattle.pc_bound.specs.Allocation.{cells_of, constraints_of}
 use Rattle.pc_tableau.specs.Numbers.{table}
 use Rattle.pc_tableau.specs.Tableau.{Tableau, is_turned}
 use Rattle.pc_tableau.specs.Relaxation.{multiplier}
-use Rattle.pc_simplex.proofs.Tables.{table-zero, table_made}
+use Rattle.pc_tableau.proofs.Tables.{table-zero, table_made}
 
 -- the multipliers of the constraints whose slacks stand before a column
 pub record AreMultipliers (p : Program) (t : Tableau) (slack : ℕ) (by : List ℤ) : Type 0 where

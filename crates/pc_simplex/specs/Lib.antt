@@ -4,4 +4,5 @@ pub mod Ended
 pub mod Floors
 pub mod Phases
 pub mod Relaxed
+pub mod Shorts
 pub mod Vertices

@@ -30,7 +30,7 @@ pub(crate) fn with_gains(alloc: Global, p: &Program, tableau: Tableau) -> Result
     Ok(tableau)
 }
 
-#[tactic(auto, using(crate::proofs::Tables::table_steps))]
+#[tactic(auto, using(pc_tableau::proofs::Tables::table_steps))]
 fn gains(alloc: Global, p: &Program, turned: &[bool]) -> Result<Vec<i128>, Memory>
     requires program { IsProgram p.now }
     requires gains { All IsFit p.now.gain }

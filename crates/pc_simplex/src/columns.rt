@@ -52,7 +52,7 @@ pub(crate) fn columns_of(p: &Program) -> usize
     p.masks.len() + 2 * p.least.len()
 }
 
-#[tactic(auto, using(crate::proofs::Tables::table_steps))]
+#[tactic(auto, using(pc_tableau::proofs::Tables::table_steps))]
 fn cell_ranges(alloc: Global, p: &Program, floor: &[u64], cap: &[u64]) -> Result<Seq<u64>, Memory>
     requires inside { IsBox p.now floor.now cap.now }
     ensures { IfOk result (λ ranges. ranges ≡ table (cells_of p.now) (λ i. nat_at cap.now i - nat_at floor.now i)) }
@@ -64,7 +64,7 @@ fn cell_ranges(alloc: Global, p: &Program, floor: &[u64], cap: &[u64]) -> Result
     Ok(ranges)
 }
 
-#[tactic(auto, using(crate::proofs::Tables::table_steps))]
+#[tactic(auto, using(pc_tableau::proofs::Tables::table_steps))]
 fn with_slack_ranges(cells: Seq<u64>, p: &Program) -> Result<Seq<u64>, Memory>
     requires program { IsProgram p.now }
     ensures { IfOk result (λ ranges. ranges ≡ cells ++ table (constraints_of p.now) (slack_range p.now)) }

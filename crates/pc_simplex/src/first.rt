@@ -35,7 +35,7 @@ pub(crate) fn first_tableau(alloc: Global, p: &Program, floor: &[u64]) -> Result
     })
 }
 
-#[tactic(auto, using(crate::proofs::Tables::table_steps))]
+#[tactic(auto, using(pc_tableau::proofs::Tables::table_steps))]
 fn first_rows(alloc: Global, p: &Program, floor: &[u64]) -> Result<Vec<Row>, Memory>
     requires program { IsProgram p.now }
     requires floors { AreFloors p.now floor.now }
@@ -86,7 +86,7 @@ fn short_row(p: &Program, constraint: usize, left: i128, numbers: Vec<i128>) -> 
 }
 
 /// The numbers of a constraint that has so much left.
-#[tactic(auto, using(crate::proofs::Tables::table_steps))]
+#[tactic(auto, using(pc_tableau::proofs::Tables::table_steps))]
 fn first_numbers(
     alloc: Global,
     p: &Program,
@@ -139,7 +139,7 @@ fn bit_at(mask: u32, place: usize) -> i128
 }
 
 /// Whether a constraint that has so much left is short: its slack alone cannot meet it.
-fn is_short_by(p: &Program, constraint: usize, left: i128) -> bool
+pub(crate) fn is_short_by(p: &Program, constraint: usize, left: i128) -> bool
     requires program { IsProgram p.now }
     requires own { constraint < constraints_of p.now }
     requires fits { IsFit left }
@@ -158,8 +158,8 @@ fn is_short(p: &Program, floor: &[u64], constraint: usize) -> bool
 }
 
 /// Which columns start turned: the slacks of short constraints.
-#[tactic(auto, using(crate::proofs::Tables::table_steps))]
-fn first_turned(alloc: Global, p: &Program, floor: &[u64]) -> Result<Vec<bool>, Memory>
+#[tactic(auto, using(pc_tableau::proofs::Tables::table_steps))]
+pub(crate) fn first_turned(alloc: Global, p: &Program, floor: &[u64]) -> Result<Vec<bool>, Memory>
     requires program { IsProgram p.now }
     requires floors { AreFloors p.now floor.now }
     ensures { IfOk result (λ turned. turned.items ≡ table (columns_of p.now) (does_start_turned p.now floor.now)) }
@@ -187,8 +187,8 @@ fn starts_turned(p: &Program, floor: &[u64], column: usize) -> bool
 }
 
 /// The first objective row: the helpers of short constraints lose one.
-#[tactic(auto, using(crate::proofs::Tables::table_steps))]
-fn first_aim(alloc: Global, p: &Program, floor: &[u64]) -> Result<Vec<i128>, Memory>
+#[tactic(auto, using(pc_tableau::proofs::Tables::table_steps))]
+pub(crate) fn first_aim(alloc: Global, p: &Program, floor: &[u64]) -> Result<Vec<i128>, Memory>
     requires program { IsProgram p.now }
     requires floors { AreFloors p.now floor.now }
     ensures { IfOk result (λ aim. aim.items ≡ table (columns_of p.now) (gain_one p.now floor.now)) }

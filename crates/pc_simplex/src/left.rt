@@ -48,7 +48,7 @@ fn is_overfull(p: &Program, floor: &[u64], constraint: usize) -> bool
 }
 
 /// The multipliers that take a constraint once.
-#[tactic(auto, using(crate::proofs::Tables::table_steps))]
+#[tactic(auto, using(pc_tableau::proofs::Tables::table_steps))]
 pub(crate) fn one_at(alloc: Global, p: &Program, constraint: usize) -> Result<Mult, Memory>
     ensures { IfOk result (λ mult. mult ≡ one_at p.now constraint) }
 {
@@ -59,7 +59,7 @@ pub(crate) fn one_at(alloc: Global, p: &Program, constraint: usize) -> Result<Mu
     Ok(Mult { by, den: 1 })
 }
 
-fn one_if(test: bool) -> i128
+pub(crate) fn one_if(test: bool) -> i128
     ensures { result ≡ cond test (pos 1) (pos 0) }
 {
     if test {

@@ -10,6 +10,9 @@ mod multipliers;
 mod phases;
 mod point;
 mod relaxed;
+mod setting;
+mod short_first;
+mod short_phases;
 #[cfg(test)]
 mod tests;
 

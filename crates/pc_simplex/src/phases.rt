@@ -1,9 +1,11 @@
-ghost use Rattle.std.specs.Prelude.{◌≡◌, ◌<◌, ◌^◌, ℕ, List, [], All, IfOk};
-ghost use Rattle.pc_bound.specs.Allocation.{IsProgram, IsBox};
+ghost use Rattle.std.specs.Prelude.{◌≡◌, ◌<◌, ◌^◌, ℕ, List, [], All, None, IfOk};
+ghost use Rattle.pc_bound.specs.Allocation.{IsProgram, IsBox, constraints_of};
 ghost use Rattle.pc_bound.specs.Bound.{IsFit};
-ghost use Rattle.pc_tableau.specs.Relaxation.{columns_of, ending, at_void, one_at, has_helper, phase_one, phase_two, phase_one_from, phase_two_from};
+ghost use Rattle.pc_tableau.specs.Relaxation.{columns_of, ending, at_void, one_at, has_helper, phase_one, phase_two, phase_one_from, phase_two_from, first_tableau};
+ghost use Rattle.pc_tableau.specs.Numbers.{first_below};
 ghost use Rattle.pc_tableau.specs.Conditions.{IsSizedRow, IsSized, AreFitNumbers};
 ghost use Rattle.pc_tableau.specs.Runs.{run_of};
+ghost use Rattle.pc_simplex.specs.Floors.{is_overfull};
 ghost use Rattle.pc_simplex.specs.Ended.{ending_of, IsSoundEnding};
 ghost use Rattle.pc_simplex.specs.Phases.{is_left, ending_by, after_phase_one};
 
@@ -12,6 +14,7 @@ use crate::columns::first_columns;
 use crate::first::first_tableau;
 use crate::left::{first_overfull, one_at};
 use crate::multipliers::multipliers;
+use crate::short_phases::take_short_phases;
 use pc_bound::Program;
 use pc_list::Seq;
 use pc_model::Mult;
@@ -45,11 +48,48 @@ pub(crate) fn take_both_phases(
     let columns = first_columns(alloc, p, floor, cap)?;
     match first_overfull(p, floor) {
         Some(constraint) => void_at(alloc, p, constraint),
-        None => {
-            let tableau = first_tableau(alloc, p, floor)?;
-            phase_one(alloc, p, columns, tableau)
-        }
+        None => phases(alloc, p, floor, cap, columns),
     }
+}
+
+/// Takes the steps of both phases over rows in short form, or over whole rows where their numbers are not small.
+fn phases(
+    alloc: Global,
+    p: &Program,
+    floor: &[u64],
+    cap: &[u64],
+    columns: Columns,
+) -> Result<Ended, Memory>
+    requires program { IsProgram p.now }
+    requires inside { IsBox p.now floor.now cap.now }
+    requires gains { All IsFit p.now.gain }
+    requires few { columns_of p.now < 2 ^ 32 }
+    requires none { first_below (constraints_of p.now) (is_overfull p.now floor.now) ≡ None }
+    requires columns { columns ≡ phase_one p.now floor.now cap.now }
+    ensures value { IfOk result (λ e. ending_of e ≡ phase_one_from p.now floor.now cap.now (first_tableau p.now floor.now cap.now)) }
+    ensures sound { IfOk result (λ e. IsSoundEnding p.now floor.now cap.now (ending_of e)) }
+{
+    match take_short_phases(alloc, p, floor, columns)? {
+        Some(ended) => Ok(ended),
+        None => whole_phases(alloc, p, floor, cap),
+    }
+}
+
+pub(crate) fn whole_phases(
+    alloc: Global,
+    p: &Program,
+    floor: &[u64],
+    cap: &[u64],
+) -> Result<Ended, Memory>
+    requires program { IsProgram p.now }
+    requires inside { IsBox p.now floor.now cap.now }
+    requires gains { All IsFit p.now.gain }
+    ensures value { IfOk result (λ e. ending_of e ≡ phase_one_from p.now floor.now cap.now (first_tableau p.now floor.now cap.now)) }
+    ensures sound { IfOk result (λ e. IsSoundEnding p.now floor.now cap.now (ending_of e)) }
+{
+    let columns = first_columns(alloc, p, floor, cap)?;
+    let tableau = first_tableau(alloc, p, floor)?;
+    phase_one(alloc, p, columns, tableau)
 }
 
 fn void_at(alloc: Global, p: &Program, constraint: usize) -> Result<Ended, Memory>

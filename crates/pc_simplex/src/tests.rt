@@ -1,5 +1,6 @@
 mod plain;
 mod reference;
+mod short;
 
 use crate::phases::{Ended, take_both_phases};
 use crate::{Relaxed, Step, relax};

@@ -88,7 +88,7 @@ module _ (p t : ℤ) (old other : List ℤ) where
   combined_start h = record { decides = refl; made = sym (none_combined p t [] old); fits = h }
 
   module _ (row : List ℤ) (i : ℕ) (x y : ℤ) (within : i < length old) (sized : length old ≡ length other) (h : IsCombinedTo p t old other row i) where
-    read_row : get_or row i x ≡ get_or old i x
+    pub read_row : get_or row i x ≡ get_or old i x
     read_row = ap (λ l. get_or l i x) h.made ∙ read_old p t old other i x within (omega arith)
 
     pub combined_more : (z : ℤ) → AreFitAt (p *ℤ get_or row i x) (t *ℤ get_or other i y) → z ≡ p *ℤ get_or row i x -ℤ t *ℤ get_or other i y →

@@ -37,6 +37,7 @@ pub mod StartSecond
 pub mod StartTables
 pub mod Starting
 pub mod Steps
+pub mod Tables
 pub mod Turned
 pub mod Turning
 pub mod Turns

@@ -63,8 +63,8 @@ fn free_entries(
     }
 }
 
-// Divides the entries by the greatest common divisor that they and the weight have, and gives the weight divided by it.
-fn divide_together(weight: i128, entries: &mut [i128]) -> i128
+/// Divides the entries by the greatest common divisor that they and the weight have, and gives the weight divided by it.
+pub fn divide_together(weight: i128, entries: &mut [i128]) -> i128
     requires weight { IsFit weight }
     requires entries { All IsFit entries.old }
     ensures entries { entries.new ≡ map (divided (common (weight ∷ entries.old))) entries.old }

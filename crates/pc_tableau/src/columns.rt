@@ -23,7 +23,7 @@ impl Model for Columns {
 
 impl Columns {
     /// The range of a column, or none if it has no end.
-    pub(crate) fn range(&self, column: usize) -> Option<u64>
+    pub fn range(&self, column: usize) -> Option<u64>
         ensures { result ≡ range_of self.now column }
     {
         if column >= self.ranges.len() {
@@ -34,7 +34,7 @@ impl Columns {
     }
 
     /// The range of a column that is turned, which has an end.
-    pub(crate) fn end(&self, column: usize) -> u64
+    pub fn end(&self, column: usize) -> u64
         ensures { result ≡ end_of self.now column }
     {
         match self.range(column) {

@@ -19,13 +19,16 @@ mod tableau;
 mod tests;
 mod whole_laws;
 
+pub use aim::divide_together;
 pub use columns::Columns;
 pub use end_laws::{ends_are_relaxed, helpers_left_mean_void, short_constraints_mean_void};
 pub use laws::{
     limits_leave_room, pivots_keep_meaning, pivots_keep_standing, runs_keep_standing,
     steps_keep_standing, turns_keep_meaning, turns_keep_standing,
 };
-pub use row::Row;
+pub use limit::{Limit, Way, lesser, own_limit};
+pub use numbers::make_primitive;
+pub use row::{Row, negate};
 pub use run::{Run, take_steps};
 pub use start_laws::{first_rows_stand, freed_rows_stand, second_phase_stands};
 pub use step::Step;

@@ -1,5 +1,7 @@
 ghost use Rattle.std.specs.Prelude.{◌≡◌, ◌<◌, ◌<ℤ◌, ◌-ℤ◌, ◌*ℤ◌, ◌&&◌, pos, length, All, IsTrue, IfSome, SomeIff, int_lt};
+ghost use Rattle.std.specs.Ordering.{int_cmp};
 ghost use Rattle.pc_bound.specs.Sums.{int_at};
+ghost use Rattle.pc_bound.specs.Bound.{IsFit};
 ghost use Rattle.pc_bound.specs.Bound.{IsFit};
 ghost use Rattle.pc_tableau.specs.Numbers.{does_fit};
 ghost use Rattle.pc_tableau.specs.Tableau.{is_after, lesser, lower_limit, upper_limit, with_row, does_limit_fit};
@@ -14,7 +16,7 @@ use std::marker::Model;
 
 /// What a step does: it turns the entering column, or pivots in a row, or turns the row's basic column and then pivots there.
 #[derive(Clone, Copy, Drop)]
-pub(crate) enum Way {
+pub enum Way {
     Turning,
     Pivoting(usize),
     TurningAndPivoting(usize),
@@ -22,11 +24,11 @@ pub(crate) enum Way {
 
 /// A limit of the entering column: the column that it belongs to, and a fraction.
 #[derive(Drop)]
-pub(crate) struct Limit {
-    pub(crate) column: usize,
-    pub(crate) over: i128,
-    pub(crate) under: i128,
-    pub(crate) way: Way,
+pub struct Limit {
+    pub column: usize,
+    pub over: i128,
+    pub under: i128,
+    pub way: Way,
 }
 
 impl Model for Limit {
@@ -43,14 +45,39 @@ fn is_after(a: &Limit, b: &Limit) -> bool
     requires b { IsSoundFraction b.now }
     ensures { result ≡ is_after a.now b.now }
 {
-    match compare_fractions(a.over, a.under, b.over, b.under) {
+    match compare(a, b) {
         Ordering::Greater => true,
         Ordering::Equal => b.column < a.column,
         Ordering::Less => false,
     }
 }
 
-fn lesser(a: Limit, b: Limit) -> Limit
+/// Compares two limits, by products where these fit.
+fn compare(a: &Limit, b: &Limit) -> Ordering
+    requires a { IsSoundFraction a.now }
+    requires b { IsSoundFraction b.now }
+    ensures { result ≡ int_cmp (a.now.over *ℤ b.now.under) (b.now.over *ℤ a.now.under) }
+{
+    match compare_products(a.over, a.under, b.over, b.under) {
+        Some(order) => order,
+        None => compare_fractions(a.over, a.under, b.over, b.under),
+    }
+}
+
+fn compare_products(a: i128, b: i128, c: i128, d: i128) -> Option<Ordering>
+    requires a_fits { IsFit a }
+    requires b_fits { IsFit b }
+    requires c_fits { IsFit c }
+    requires d_fits { IsFit d }
+    ensures { IfSome result (λ order. order ≡ int_cmp (a *ℤ d) (c *ℤ b)) }
+{
+    let one = fit_mul(a, d)?;
+    let other = fit_mul(c, b)?;
+    Some(one.cmp(&other))
+}
+
+/// The lesser of two limits; of equal ones that of the lesser column.
+pub fn lesser(a: Limit, b: Limit) -> Limit
     requires a { IsSoundFraction a }
     requires b { IsSoundFraction b }
     ensures value { result ≡ lesser a b }
@@ -104,7 +131,7 @@ fn room_above(entry: i128, range: u64, value: i128) -> Option<i128>
 }
 
 /// The limit of the entering column's own range.
-pub(crate) fn own_limit(columns: &Columns, column: usize) -> Limit
+pub fn own_limit(columns: &Columns, column: usize) -> Limit
     requires { column < length columns.now.ranges }
     ensures value { result ≡ own_limit columns.now column }
     ensures sound { IsSoundFraction result }

@@ -35,7 +35,7 @@ pub(crate) fn combine(row: &mut [i128], p: i128, t: i128, other: &[i128]) -> boo
 }
 
 /// Divides a row by the greatest common divisor of its numbers, and leaves a row of zeros as it is.
-pub(crate) fn make_primitive(row: &mut [i128])
+pub fn make_primitive(row: &mut [i128])
     requires { All IsFit row.old }
     ensures primitive { row.new ≡ primitive row.old }
     ensures fits { All IsFit row.new }

@@ -102,7 +102,8 @@ pub(crate) fn negative(number: i128) -> i128
     -number
 }
 
-fn negate(numbers: &mut [i128])
+/// Minus each number.
+pub fn negate(numbers: &mut [i128])
     requires { All IsFit numbers.old }
     ensures negated { numbers.new ≡ map neg_ℤ numbers.old }
     ensures fits { All IsFit numbers.new }

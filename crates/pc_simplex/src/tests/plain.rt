@@ -11,8 +11,8 @@ use std::test::Fail;
 
 /// Numbers of a fixed generator.
 #[derive(Drop)]
-struct Draws {
-    state: u64,
+pub(super) struct Draws {
+    pub(super) state: u64,
 }
 
 impl Draws {
@@ -30,7 +30,7 @@ impl Draws {
 }
 
 /// A program of one to four cells in one to three constraints, in which the cells may share constraints.
-fn program(alloc: Global, draws: &mut Draws) -> Result<Program, Memory> {
+pub(super) fn program(alloc: Global, draws: &mut Draws) -> Result<Program, Memory> {
     let mut p = Program {
         masks: Seq::new(alloc),
         least: Seq::new(alloc),

@@ -1,0 +1,16 @@
+pub mod Changing
+pub mod Choosing
+pub mod Combining
+pub mod Fits
+pub mod Flips
+pub mod FreedAims
+pub mod FreedRows
+pub mod Made
+pub mod Mixing
+pub mod Multiples
+pub mod Replaced
+pub mod Running
+pub mod Samples
+pub mod ShortPivots
+pub mod Sizes
+pub mod Spelled

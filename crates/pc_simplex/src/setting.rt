@@ -1,0 +1,176 @@
+ghost use Rattle.std.specs.Prelude.{◌≡◌, ◌<◌, ◌≤◌, ◌^◌, ◌-◌, nat_abs, cond, nat_lt, [], ◌∷◌, Some, length, All, IfOk};
+ghost use Rattle.pc_model.specs.Places.{has_bit};
+ghost use Rattle.pc_bound.specs.Sums.{nat_at};
+ghost use Rattle.pc_bound.specs.Allocation.{IsProgram, cells_of, constraints_of};
+ghost use Rattle.pc_bound.specs.Bound.{IsFit};
+ghost use Rattle.pc_tableau.specs.Numbers.{table};
+ghost use Rattle.pc_tableau.specs.Relaxation.{columns_of};
+ghost use Rattle.pc_tableau.specs.Standing.{gain_one, gain_two};
+ghost use Rattle.pc_short.specs.Kept.{IsSetting};
+ghost use Rattle.pc_simplex.specs.Floors.{AreFloors};
+ghost use Rattle.pc_simplex.specs.Shorts.{AreColumns, places_below, column_places, setting_of};
+
+use crate::columns::columns_of;
+use crate::first::first_aim;
+use pc_bound::Program;
+use pc_list::Seq;
+use pc_model::has_bit;
+use pc_num::Memory;
+use pc_short::Setting;
+use pc_tableau::Columns;
+use std::alloc::Global;
+
+/// What the first phase leaves as it is.
+pub(crate) fn first_setting(
+    alloc: Global,
+    p: &Program,
+    floor: &[u64],
+    columns: Columns,
+) -> Result<Setting, Memory>
+    requires program { IsProgram p.now }
+    requires floors { AreFloors p.now floor.now }
+    requires columns { AreColumns p.now columns }
+    ensures value { IfOk result (λ f. f ≡ setting_of p.now columns (table (columns_of p.now) (gain_one p.now floor.now)) 1) }
+    ensures setting { IfOk result IsSetting }
+{
+    let places = all_places(alloc, p)?;
+    let gains = Seq::from_vec(first_aim(alloc, p, floor)?);
+    Ok(Setting {
+        columns,
+        places,
+        gains,
+        top: 1,
+        constraints: p.least.len(),
+    })
+}
+
+/// What the second phase leaves as it is: the helpers are at 0, and the cells gain.
+pub(crate) fn second_setting(
+    alloc: Global,
+    p: &Program,
+    setting: Setting,
+) -> Result<Setting, Memory>
+    requires program { IsProgram p.now }
+    requires gains { All IsFit p.now.gain }
+    requires columns { AreColumns p.now setting.columns }
+    requires setting { setting ≡ setting_of p.now setting.columns setting.gains setting.top }
+    ensures value { IfOk result (λ f. f ≡ setting_of p.now (record setting.columns { helper = Some 0 }) (table (columns_of p.now) (gain_two p.now)) f.top) }
+    ensures setting { IfOk result IsSetting }
+{
+    let gains = all_gains(alloc, p)?;
+    let Setting {
+        columns,
+        places,
+        gains: _,
+        top: _,
+        constraints,
+    } = setting;
+    let mut columns = columns;
+    columns.helper = Some(0);
+    Ok(Setting {
+        columns,
+        places,
+        gains,
+        top: greatest_gain(p),
+        constraints,
+    })
+}
+
+/// A number of at least 1 that no gain exceeds in size.
+fn greatest_gain(p: &Program) -> u128
+    ensures some { 1 ≤ result }
+    ensures most { All (λ g. nat_abs g ≤ result) p.now.gain }
+{
+    let mut top = 1;
+    for gain in p.gain.as_slice() {
+        top = greater(top, gain.unsigned_abs());
+    }
+    top
+}
+
+fn greater(a: u128, b: u128) -> u128
+    ensures first { a ≤ result }
+    ensures second { b ≤ result }
+{
+    if a < b { b } else { a }
+}
+
+/// The gains of all columns: those of the cells, and 0.
+#[tactic(auto, using(pc_tableau::proofs::Tables::table_steps))]
+fn all_gains(alloc: Global, p: &Program) -> Result<Seq<i128>, Memory>
+    requires program { IsProgram p.now }
+    requires few { columns_of p.now < 2 ^ 32 }
+    ensures { IfOk result (λ gains. gains ≡ table (columns_of p.now) (gain_two p.now)) }
+{
+    let mut gains = Seq::new(alloc);
+    for column in 0..columns_of(p) {
+        gains.push(gain_of(p, column))?;
+    }
+    Ok(gains)
+}
+
+fn gain_of(p: &Program, column: usize) -> i128
+    requires program { IsProgram p.now }
+    ensures { result ≡ gain_two p.now column }
+{
+    let gains = p.gain.as_slice();
+    if column < gains.len() {
+        return gains[column];
+    }
+    0
+}
+
+/// The constraints of each column by number.
+#[tactic(auto, using(pc_tableau::proofs::Tables::table_steps))]
+fn all_places(alloc: Global, p: &Program) -> Result<Seq<Seq<usize>>, Memory>
+    requires program { IsProgram p.now }
+    requires few { columns_of p.now < 2 ^ 32 }
+    ensures { IfOk result (λ places. places ≡ table (columns_of p.now) (column_places p.now)) }
+{
+    let mut places = Seq::new(alloc);
+    for column in 0..columns_of(p) {
+        places.push(column_places(alloc, p, column)?)?;
+    }
+    Ok(places)
+}
+
+fn column_places(alloc: Global, p: &Program, column: usize) -> Result<Seq<usize>, Memory>
+    requires program { IsProgram p.now }
+    requires few { columns_of p.now < 2 ^ 32 }
+    requires own { column < columns_of p.now }
+    ensures { IfOk result (λ places. places ≡ column_places p.now column) }
+{
+    let masks = p.masks.as_slice();
+    let constraints = p.least.len();
+    if column < masks.len() {
+        return mask_places(alloc, masks[column], constraints);
+    }
+    let slack = column - masks.len();
+    if slack < constraints {
+        return only(alloc, slack);
+    }
+    only(alloc, slack - constraints)
+}
+
+fn only(alloc: Global, place: usize) -> Result<Seq<usize>, Memory>
+    ensures { IfOk result (λ places. places ≡ place ∷ []) }
+{
+    let mut places = Seq::new(alloc);
+    places.push(place)?;
+    Ok(places)
+}
+
+/// The places of the bits of a mask, below that many.
+#[tactic(auto, using(crate::proofs::Settings::place_steps))]
+fn mask_places(alloc: Global, mask: u32, count: usize) -> Result<Seq<usize>, Memory>
+    requires few { count ≤ 20 }
+    ensures { IfOk result (λ places. places ≡ places_below count mask) }
+{
+    let mut places = Seq::new(alloc);
+    for place in 0..count {
+        if has_bit(u128::from(mask), place) {
+            places.push(place)?;
+        }
+    }
+    Ok(places)
+}
