@@ -1,9 +1,9 @@
 -- What searches of totals settle, and the lists that they find.
-use Rattle.std.proofs.Common.{◌≡◌, ℕ, ◌<◌, ◌≤◌, ◌^◌, ℤ, neg_ℤ, nat_abs, ◌≤ℤ◌, ◌<ℤ◌, Bool, true, false, cond, inl, inr, ◌⊎◌, List, [], ◌∷◌, length, map, replicate, All, Option, Some, None, Result, Ok, Err, refl, sym, ap, subst, ◌∙◌, arith}
+use Rattle.std.proofs.Common.{◌≡◌, ℕ, ◌<◌, ◌≤◌, ◌^◌, ℤ, pos, neg_ℤ, nat_abs, ◌≤ℤ◌, ◌<ℤ◌, Bool, true, false, cond, inl, inr, ◌⊎◌, List, [], ◌∷◌, length, map, replicate, All, Option, Some, None, Result, Ok, Err, refl, sym, ap, ap₂, subst, ◌∙◌, arith}
 use Rattle.std.specs.Prelude.{int_lt, slice_index_or, IfSome, IfOk, MatchOption, ⊤}
 use Rattle.std.proofs.lemmas.Int.{ints, clamps}
 use Rattle.std.proofs.lemmas.List.{length-map, get_or_default}
-use Rattle.std.proofs.lemmas.List.Elements.{All-cons, All-nil}
+use Rattle.std.proofs.lemmas.List.Elements.{All-cons, All-nil, All-head, All-tail}
 use Rattle.std.proofs.lemmas.Slice.Zip.{AllZip-long}
 use Rattle.pc_model.specs.declared.row.Row.{Row}
 use Rattle.pc_model.specs.declared.tree.Tree.{Tree}
@@ -25,7 +25,7 @@ use Rattle.pc_agg.specs.declared.settling.Settled.{Settled}
 use Rattle.pc_agg.specs.declared.settling.Total.{Total}
 use Rattle.pc_agg.specs.declared.settling.Total.TheVariants as totals
 use Rattle.pc_agg.specs.Limits.{IsLimit, IsReached, IsCutShort, IsEmpty}
-use Rattle.pc_agg.specs.Settling.{AreRowsOfCells, IsSettled, IsLeftOpen, IsTotal, IsTotalOf, left_open}
+use Rattle.pc_agg.specs.Settling.{AreRowsOfCells, AreOpenTotals, IsLimitOfGain, IsSettled, IsLeftOpen, IsTotal, IsTotalOf, left_open}
 use Rattle.pc_agg.proofs.Empty.{shows_none}
 use Rattle.pc_agg.proofs.Ending.{within_limit}
 
@@ -124,3 +124,34 @@ module _ (u : Setting) where
         lack = refl;
         lawful = All-nil (AreLawful u);
       }
+
+  -- ---- ends that are totals
+
+  all_alike : (xs : List Class) (gain : Class → ℤ) (g : ℤ) → All (λ z. z ≡ g) (map gain xs) → map gain xs ≡ map (λ (x : Class). g) xs
+  all_alike [] gain g alike = refl
+  all_alike (x ∷ xs) gain g alike =
+      ap₂ ◌∷◌ (All-head (λ z. z ≡ g) (gain x) (map gain xs) alike) (all_alike xs gain g (All-tail (λ z. z ≡ g) (gain x) (map gain xs) alike))
+
+  limit_of_total : (budget : ℕ) (g : ℤ) (limit : Limit) → IsLimitOfGain u budget limit → All (λ z. z ≡ g) limit.program.gain → IsLimit (program_for u (λ _. g)) budget limit
+  limit_of_total budget g limit (gain, is) alike =
+      let gains = subst (λ (p : Program). All (λ z. z ≡ g) p.gain) is.program alike in
+      subst (λ l. IsLimit (program_with u.question.constraints (cells u) l) budget limit) (all_alike (cells u) gain g gains) is
+
+  pub open_totals : (budget : ℕ) (low high : Limit) (settled : Settled) → IsProgram (program_for u one) → IsProgram (program_for u minus_one)
+      → IsLimitOfGain u budget low → IsLimitOfGain u budget high → AreOpenTotals low high
+      → settled ≡ record { relation = relations.Undecided; lack = lacks.Silent; found = [] } → IsSettled u budget settled
+  open_totals budget low high settled most_program fewest_program low_is high_is totals is =
+      let most = limit_of_total budget (pos 1) high high_is totals.highs in
+      let fewest = limit_of_total budget (neg_ℤ (pos 1)) low low_is totals.lows in
+      subst (IsSettled u budget) (sym is) (record {
+        relation = record {
+          none = refl;
+          most = high.most;
+          fewest = low.most;
+          by_most = left_of (program_for u one) budget high most_program most totals.none_high;
+          by_fewest = left_of (program_for u minus_one) budget low fewest_program fewest totals.none_low;
+          meet = totals.apart;
+        };
+        lack = refl;
+        lawful = All-nil (AreLawful u);
+      })

@@ -1,10 +1,10 @@
 -- What settles a relation: a list that was found, that there is none, or both totals whose searches were cut short.
-use Rattle.std.specs.Prelude.{◌≡◌, ℕ, ℤ, neg_ℤ, ◌<ℤ◌, int_lt, cond, ⊤, List, [], All, Contains, Some, None}
+use Rattle.std.specs.Prelude.{◌≡◌, ℕ, ℤ, pos, neg_ℤ, ◌<ℤ◌, int_lt, cond, ⊤, List, [], All, Contains, Some, None}
 use Rattle.std.specs.List.{AllZip}
 use Rattle.pc_model.specs.declared.row.Row.{Row}
 use Rattle.pc_model.specs.declared.row.Run.{Run}
 use Rattle.pc_model.specs.Runs.{runs_from}
-use Rattle.pc_model.specs.Cells.{IsRowOf}
+use Rattle.pc_model.specs.Cells.{Class, IsRowOf}
 use Rattle.pc_bound.specs.declared.program.Program.{Program}
 use Rattle.pc_proof.specs.declared.answer.Relation.{Relation}
 use Rattle.pc_proof.specs.declared.answer.Relation.TheVariants as relations
@@ -63,6 +63,18 @@ pub record IsSettled (s : Setting) (budget : ℕ) (settled : Settled) : Type 0 w
 pub record IsLeftOpen (p : Program) (budget : ℕ) (limit : Limit) : Type 0 where
   pub limit_is : IsLimit p budget limit
   pub left : LeavesOpen p budget limit.most any
+
+-- a limit of a program of the cells
+abbrev pub IsLimitOfGain : Setting → ℕ → Limit → Type 0
+IsLimitOfGain s budget limit = (gain : Class → ℤ) × IsLimit (program_for s gain) budget limit
+
+-- nothing was found under limits of programs that count lost rows, and they do not cross
+pub record AreOpenTotals (low high : Limit) : Type 0 where
+  pub none_low : low.found ≡ None
+  pub none_high : high.found ≡ None
+  pub apart : high.most <ℤ neg_ℤ low.most → ⊥
+  pub lows : All (λ g. g ≡ neg_ℤ (pos 1)) low.program.gain
+  pub highs : All (λ g. g ≡ pos 1) high.program.gain
 
 -- what is settled was found by the search of this limit, or the limit is left
 abbrev pub IsTotalOf : Setting → Limit → Total → Type 0

@@ -9,7 +9,7 @@ use crate::aim::{Aim, Aimed, aim_at};
 use crate::ends::end_towards;
 use crate::extreme::Extreme;
 use crate::limit::Limit;
-use crate::settling::{Settled, listed, settle_totals};
+use crate::settling::{Settled, listed, settle_open};
 use pc_cells::Cells;
 use pc_list::Seq;
 use pc_model::{Agg, Constraint, Folded, Query, Schema};
@@ -95,7 +95,16 @@ fn bound(
         let settled = listed(alloc, low.picks.as_slice(), found)?;
         return between(alloc, seen, query.agg, settled, low, high);
     }
-    let settled = settle_totals(alloc, schema, constraints, cells, query, nodes)?;
+    let settled = settle_open(
+        alloc,
+        schema,
+        constraints,
+        cells,
+        query,
+        nodes,
+        &low.limit,
+        &high.limit,
+    )?;
     between(alloc, seen, query.agg, settled, low, high)
 }
 

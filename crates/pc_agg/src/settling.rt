@@ -1,4 +1,4 @@
-ghost use Rattle.std.specs.Prelude.{◌≡◌, ℕ, ◌<◌, ◌≤◌, ◌^◌, ◌⊎◌, pos, neg_ℤ, nat_abs, length, replicate, [], ◌∷◌, slice_index_or, true, All, IfOk, IfSome};
+ghost use Rattle.std.specs.Prelude.{◌≡◌, ℕ, ◌<◌, ◌≤◌, ◌^◌, ◌⊎◌, pos, neg_ℤ, nat_abs, length, replicate, [], ◌∷◌, slice_index_or, true, None, All, IsTrue, IfOk, IfSome};
 ghost use Rattle.std.specs.List.{AllZip};
 ghost use Rattle.pc_cells.specs.declared.cells.Cell.{Cell};
 ghost use Rattle.pc_model.specs.Accepted.{AreConstraints};
@@ -16,7 +16,7 @@ ghost use Rattle.pc_licence.specs.Pools.{AreLawful};
 ghost use Rattle.pc_agg.specs.Asked.{AreCells, AreAsked, Asking, setting_for};
 ghost use Rattle.pc_agg.specs.Owed.{OwesSettled};
 ghost use Rattle.pc_agg.specs.Settings.{unseen};
-ghost use Rattle.pc_agg.specs.Settling.{IsSettled, IsTotal, IsTotalDecided, IsTotalOf, left_open};
+ghost use Rattle.pc_agg.specs.Settling.{AreOpenTotals, IsLimitOfGain, IsSettled, IsTotal, IsTotalDecided, IsTotalOf, left_open};
 
 use crate::limit::{Limit, Sought, seek};
 use pc_cells::Cells;
@@ -61,8 +61,71 @@ pub fn settle(
     settle_totals(alloc, schema, constraints, cells, query, nodes)
 }
 
+/// The relation where the searches of both ends were cut short with nothing found. Where a lost row gains one towards the high
+/// end and loses one towards the low, their programs are those of the totals, which are not searched again.
+pub(crate) fn settle_open(
+    alloc: Global,
+    schema: &Schema,
+    constraints: &[Constraint],
+    cells: &Cells,
+    query: &Query,
+    nodes: u32,
+    low: &Limit,
+    high: &Limit,
+) -> Result<Settled, Memory>
+    requires well_formed { IsWellFormed schema.now }
+    requires constraints { AreConstraints schema.now constraints.now }
+    requires cells { AreCells schema.now constraints.now query.now cells.now }
+    requires nodes { (1 ≤ nodes) × (nodes ≤ 100_000) }
+    requires low { IsLimitOfGain (unseen schema.now constraints.now query.now cells.now.tree.nodes) nodes low.now }
+    requires high { IsLimitOfGain (unseen schema.now constraints.now query.now cells.now.tree.nodes) nodes high.now }
+    requires closed { AreDisjoint schema.now constraints.now → low.now.found ≡ None → ⊥ }
+    ensures settled { IfOk result (IsSettled (unseen schema.now constraints.now query.now cells.now.tree.nodes) nodes) }
+    ensures disjoint { AreDisjoint schema.now constraints.now → IfOk result (λ settled. IsDecided settled.relation) }
+{
+    if are_open_totals(low, high) {
+        return Ok(undecided(alloc));
+    }
+    settle_totals(alloc, schema, constraints, cells, query, nodes)
+}
+
+/// Whether the limits are those of the totals, with nothing found under them, and do not cross.
+fn are_open_totals(low: &Limit, high: &Limit) -> bool
+    requires { nat_abs low.now.most ≤ 10 ^ 37 }
+    ensures { IsTrue result → AreOpenTotals low.now high.now }
+{
+    if low.found.is_some() || high.found.is_some() {
+        return false;
+    }
+    if high.most < negated(low.most) {
+        return false;
+    }
+    are_all(low.program.gain.as_slice(), -1) && are_all(high.program.gain.as_slice(), 1)
+}
+
+fn are_all(gains: &[i128], gain: i128) -> bool
+    ensures { IsTrue result → All (λ g. g ≡ gain) gains.now }
+{
+    for each in gains {
+        if *each != gain {
+            return false;
+        }
+    }
+    true
+}
+
+fn undecided(alloc: Global) -> Settled
+    ensures { result ≡ record { relation = relations.Undecided; lack = lacks.Silent; found = [] } }
+{
+    Settled {
+        relation: Relation::Undecided,
+        lack: Lack::Silent,
+        found: Seq::new(alloc),
+    }
+}
+
 /// The same by what the cells alone say.
-pub(crate) fn settle_totals(
+fn settle_totals(
     alloc: Global,
     schema: &Schema,
     constraints: &[Constraint],
@@ -218,11 +281,7 @@ fn left_open(alloc: Global, most: Limit, fewest: Limit) -> Settled
     if most.most < negated(fewest.most) {
         return impossible(alloc, Why::Cross(most.tree, fewest.tree));
     }
-    Settled {
-        relation: Relation::Undecided,
-        lack: Lack::Silent,
-        found: Seq::new(alloc),
-    }
+    undecided(alloc)
 }
 
 fn negated(number: i128) -> i128

@@ -2,6 +2,7 @@ use Rattle.std.proofs.Common.{All, sym, subst, ◌∙◌}
 use Rattle.std.proofs.lemmas.Result.{IfOk-weaker}
 use Rattle.pc_licence.specs.Pools.{AreLawful}
 use Rattle.pc_agg.specs.declared.extreme.Extreme.TheVariants.{Low, High}
+use Rattle.pc_agg.specs.Ends.{gain_towards}
 use Rattle.pc_agg.specs.Settings.{unseen}
 use Rattle.pc_agg.proofs.Aiming.{lawful_both, low_among, high_among, none_among_both, can_end, sized_first, none_of, some_of}
 use Rattle.pc_agg.proofs.Attained.{of_cells}
@@ -102,3 +103,16 @@ returns c =
           answer is)
           c.between-2.ensures;
     }
+
+pub settle_open-requires-clause-low : goal.settle_open-requires-clause-low
+settle_open-requires-clause-low c =
+    let u = unseen c.args.schema.now c.args.constraints.now c.args.query.now c.args.cells.now.tree.nodes in
+    (gain_towards u c.args.query.now.agg Low, (rw c.in-At.is at c.in_ok-aim.ensures.aimed).limit)
+
+pub settle_open-requires-clause-high : goal.settle_open-requires-clause-high
+settle_open-requires-clause-high c =
+    let u = unseen c.args.schema.now c.args.constraints.now c.args.query.now c.args.cells.now.tree.nodes in
+    (gain_towards u c.args.query.now.agg High, (rw c.in-At-2.is at c.in_ok-aim-2.ensures.aimed).limit)
+
+pub settle_open-requires-clause-closed : goal.settle_open-requires-clause-closed
+settle_open-requires-clause-closed c disjoint none = rw none at (rw c.in-At.is at (c.in_ok-aim.ensures.disjoint disjoint))

@@ -1,0 +1,14 @@
+use Rattle.std.proofs.Common.{pos, neg_ℤ, refl}
+use Rattle.pc_agg.specs.Settings.{unseen}
+use Rattle.pc_agg.proofs.Aiming.{even_program}
+use Rattle.pc_agg.proofs.Totals.{open_totals}
+use Rattle.pc_agg.proofs.settling.settle_open.Goals as goal
+
+pub returns-then-are_open_totals-clause-settled : goal.returns-then-are_open_totals-clause-settled
+returns-then-are_open_totals-clause-settled c =
+    let program = even_program c.args.schema.now c.args.constraints.now c.args.query.now c.args.cells.now.tree.nodes c.requires.constraints in
+    open_totals (unseen c.args.schema.now c.args.constraints.now c.args.query.now c.args.cells.now.tree.nodes) c.args.nodes c.args.low.now c.args.high.now
+    c.undecided.result (program (pos 1)) (program (neg_ℤ (pos 1))) c.requires.low c.requires.high (c.if-are_open_totals.ensures refl) c.undecided.ensures
+
+pub returns-then-are_open_totals-clause-disjoint : goal.returns-then-are_open_totals-clause-disjoint
+returns-then-are_open_totals-clause-disjoint c disjoint = absurd (c.requires.closed disjoint (c.if-are_open_totals.ensures refl).none_low)
