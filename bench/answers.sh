@@ -1,12 +1,13 @@
 #!/usr/bin/env bash
-# Measures what `pc bound` spends on a count and on a sum where constraints overlap: over the month of examples/month, over
+# Measures what `pc bound` spends on a count, a sum, a least and a greatest number where constraints overlap: over the month of examples/month, over
 # the cases of a folder, each with 500 drawn rows, and over a million rows of 12 columns. Of each it prints
 # - the processor time of the whole call;
 # - the shares of reading, of the cells and of the search. Reading is the same call with no constraints. Cells are the same
 #   call less reading where each constraint allows no row: the domain is divided as before, and each program is over at
 #   once. The search is the rest;
-# - the time of bench/ends.sh, a script that is given the cells and has cbc solve a program for each end, and the ratio of
-#   ours to it, of the whole call and of the call less reading;
+# - the time of bench/ends.sh, a script that is given the cells and has cbc solve a program for each end, or of
+#   bench/levels.sh, which has cbc halve the numbers of the cells for the ends of a least or a greatest number; and the ratio
+#   of ours to it, of the whole call and of the call less reading;
 # - whether both say the same ends.
 # Both sides are measured in the same run, each with the start of its processes. A time is the median of the runs, each of
 # several calls where a call is short; what takes a second or more is run once. Run ./build first.
@@ -49,7 +50,8 @@ measure() {
   took=$(printf %s "$all" | sort -n | sed -n "$(((runs + 1) / 2))p")
 }
 
-# added SEEN REPORT: what the lost rows add to the seen value at each end of a report, in units of the last place
+# added SEEN REPORT: what the lost rows add to the seen value at each end of a report, in units of the last place; the ends
+# themselves where that is 0
 added() {
   awk -v seen="$1" '
     $1 == "relation" && $2 == "impossible" { print "low none"; print "high none" }
@@ -66,11 +68,11 @@ agree() {
 
 # answer NAME SCHEMA ROWS CONSTRAINTS COLUMN
 answer() {
-  local name=$1 schema=$2 rows=$3 constraints=$4 column=$5 query asked reading idle whole theirs seen line
+  local name=$1 schema=$2 rows=$3 constraints=$4 column=$5 query asked reading idle whole theirs seen base peer line
   "$pc" show "$schema" "$constraints" > shown || { echo "$name: $(cat shown)"; return; }
   sed '/^disjoint /d; s/, [0-9]*\.\.[0-9]*$/, 0..0/' shown > idle.constraints
   : > no.constraints
-  for query in count "sum($column)"; do
+  for query in count "sum($column)" "min($column)" "max($column)"; do
     asked=$column
     if [ "$query" = count ]; then asked=''; fi
     python3 "$top/bench/divide.py" "$schema" shown $asked > cells
@@ -90,10 +92,14 @@ answer() {
       $1 == "cells" { cells = $2 }
       END { printf "%s, %s: %d cells, %d constraints; %.4f s; reading %s, cells %s, search %s", name, query, cells, constraints, whole / 1000000, share(reading), share(idle - reading), share(whole - idle) }' cells)
     if command -v cbc > /dev/null; then
-      measure "$top/bench/ends.sh" cells
+      base=$seen peer=("$top/bench/ends.sh" cells)
+      case $query in
+        min* | max*) base=0 peer=("$top/bench/levels.sh" cells "${query%%(*}" "$seen") ;;
+      esac
+      measure "${peer[@]}"
       theirs=$took
       cp said ends
-      added "$seen" report > ours
+      added "$base" report > ours
       line="$line; $(awk -v theirs="$theirs" -v whole="$whole" -v reading="$reading" 'BEGIN {
         printf "cbc %.4f s, ratio %.2f, without reading %.2f", theirs / 1000000, whole / theirs, (whole > reading ? whole - reading : 0) / theirs }'); $(agree ours ends)"
     fi

@@ -1,10 +1,12 @@
 #!/usr/bin/env python3
-"""Makes 60 cases over small domains, and finds the range of each by going over every list of lost rows that is possible.
+"""Makes 60 counts and sums over small domains, and 40 least and greatest numbers, and finds what is true of each by going
+over every list of lost rows that is possible.
 
-    tools/small_cases.py table 1          the file small.rt of pc_agg's tests: the first 30 cases
+    tools/small_cases.py table 1          the file small.rt of pc_agg's tests: the first 30 counts and sums
     tools/small_cases.py table 2          its file small_more.rt: the others
-    tools/small_cases.py files FOLDER     each case as files, for a program: NUMBER.schema, .rows, .constraints, .query,
-                                          and .range, which has the two ends or `none`
+    tools/small_cases.py table 3          its file small_extremes.rt: the least and greatest numbers
+    tools/small_cases.py files FOLDER     each count and sum as files, for a program: NUMBER.schema, .rows, .constraints,
+                                          .query, and .range, which has the two ends or `none`
 
 The cases are the same in each run. A list is found once, by adding rows of the domain in their order; nothing but the
 greatest numbers of the constraints ends the walk, so it has nothing in common with cells, bounds and searches.
@@ -14,6 +16,7 @@ import sys
 from pathlib import Path
 
 CASES = 60
+EXTREMES = 40
 # a case with more lists than this is passed over
 MOST_LISTS = 60_000
 
@@ -117,10 +120,10 @@ def drawn_part(draws, columns, count):
 
 
 class Case:
-    def __init__(self, columns, observed, constraints, asked, chosen):
+    def __init__(self, columns, observed, constraints, aggregate, asked, chosen):
         self.columns, self.observed, self.constraints = columns, observed, constraints
-        # the place of the column that is summed, or nothing for a count
-        self.asked, self.chosen = asked, chosen
+        # the aggregate, the place of its column, or nothing for a count, and the part that chooses rows
+        self.aggregate, self.asked, self.chosen = aggregate, asked, chosen
 
     def schema(self):
         return "".join(column.line() + "\n" for column in self.columns)
@@ -137,27 +140,41 @@ class Case:
         )
 
     def query(self):
-        aggregate = "count" if self.asked is None else f"sum({self.columns[self.asked].name})"
-        return aggregate + (f" where {self.chosen.text}" if self.chosen.sides else "")
+        column = "" if self.asked is None else f"({self.columns[self.asked].name})"
+        return self.aggregate + column + (f" where {self.chosen.text}" if self.chosen.sides else "")
 
     def texts(self):
         return self.schema(), self.rows(), self.constraint_lines(), self.query()
 
-    def worth(self, row):
-        """What a row adds to the aggregate."""
+    def with_row(self, value, row):
+        """The aggregate of some rows that come to the value, and of one more."""
         if not self.chosen.holds(row):
-            return 0
-        return 1 if self.asked is None else row[self.asked]
+            return value
+        if self.aggregate == "count":
+            return value + 1
+        number = row[self.asked]
+        if self.aggregate == "sum":
+            return value + number
+        if value is None:
+            return number
+        return min(value, number) if self.aggregate == "min" else max(value, number)
+
+    def seen(self):
+        """The aggregate of the observed rows; a least or a greatest number of no rows is nothing."""
+        value = 0 if self.aggregate in ("count", "sum") else None
+        for row in self.observed:
+            value = self.with_row(value, row)
+        return value
 
     def losable(self):
-        """The rows of the domain that can be lost, each as its constraints and its worth."""
+        """The rows of the domain that can be lost, each with its constraints."""
         for row in itertools.product(*(column.numbers for column in self.columns)):
             under = [j for j, (when, *_) in enumerate(self.constraints) if when.holds(row)]
             if under and all(self.constraints[j][1].holds(row) for j in under):
-                yield under, self.worth(row)
+                yield under, row
 
-    def ends(self):
-        """The least and the greatest aggregate, nothing where no list is possible, and how many lists were gone over."""
+    def values(self):
+        """What the aggregate can be, over every possible list."""
         rows = list(self.losable())
         room = [most for *_, most in self.constraints]
         # how many rows are still to be lost of each constraint
@@ -168,36 +185,50 @@ class Case:
             nonlocal lists
             lists += 1
             if lists > MOST_LISTS:
-                raise TooMany
+                raise Unfit
             if max(short) <= 0:
                 found.add(value)
             for place in range(first, len(rows)):
-                under, worth = rows[place]
+                under, row = rows[place]
                 if all(room[j] for j in under):
                     for j in under:
                         room[j] -= 1
                         short[j] -= 1
-                    walk(place, value + worth)
+                    walk(place, self.with_row(value, row))
                     for j in under:
                         room[j] += 1
                         short[j] += 1
 
-        walk(0, sum(map(self.worth, self.observed)))
-        return (min(found), max(found)) if found else None, lists
+        walk(0, self.seen())
+        return found
 
 
-class TooMany(Exception):
-    pass
+class Unfit(Exception):
+    """A case with too many lists, or without a column for its aggregate."""
 
 
 # ---- kinds of cases
 
 
-def asked_of(draws, columns):
+def number_places(columns):
+    return [place for place, column in enumerate(columns) if isinstance(column, Numbers)]
+
+
+def total_of(draws, columns):
     """A count, or the sum of a column of numbers, of all rows or of some."""
-    numbers = [place for place, column in enumerate(columns) if isinstance(column, Numbers)]
+    numbers = number_places(columns)
     asked = draws.among(numbers) if numbers and draws.below(5) < 3 else None
-    return asked, drawn_part(draws, columns, 0 if draws.below(5) < 3 else 1)
+    aggregate = "count" if asked is None else "sum"
+    return aggregate, asked, drawn_part(draws, columns, 0 if draws.below(5) < 3 else 1)
+
+
+def extreme_of(draws, columns):
+    """The least or the greatest number of a column, of all rows or of some."""
+    numbers = number_places(columns)
+    if not numbers:
+        raise Unfit
+    asked = draws.among(numbers)
+    return draws.among(["min", "max"]), asked, drawn_part(draws, columns, draws.below(2))
 
 
 def observed_of(draws, columns):
@@ -235,7 +266,7 @@ FREQUENCIES = {
 }
 
 
-def figure(draws, name, frequencies, size):
+def figure(draws, asked_of, name, frequencies, size):
     """Constraints over names, with up to `size` rows in the domain; some keep numbers, too. `odd` wants one row of each of
     the first three constraints, and is not certain of the others."""
     names = FIGURES[name]
@@ -265,8 +296,8 @@ SHAPES = {
 }
 
 
-def boxes(draws, size, frequencies):
-    """Constraints of one or two atoms each, drawn without regard to one another."""
+def boxes(draws, asked_of, size, frequencies, most=5):
+    """So many constraints at most, of one or two atoms each, drawn without regard to one another."""
     columns, names = [], iter(draws.among(["npm", "xyz"]))
     for side in draws.among(SHAPES[size]):
         if isinstance(side, tuple):
@@ -275,7 +306,7 @@ def boxes(draws, size, frequencies):
             low = draws.among([0, 1, -1, -side // 2])
             columns.append(Numbers(next(names), low, low + side - 1, draws.among([0, 0, 1, 2])))
     constraints = []
-    for _ in range(draws.between(2, 5)):
+    for _ in range(draws.between(2, most)):
         when = drawn_part(draws, columns, draws.among([0, 1, 1, 1, 2]))
         values = drawn_part(draws, columns, draws.among([0, 0, 1]))
         constraints.append((when, values, *draws.among(FREQUENCIES[frequencies])))
@@ -302,17 +333,65 @@ def kinds():
 
 
 def made_cases():
-    """The cases with their ends. Whatever has too many lists is drawn anew."""
+    """The counts and sums with their ends. Whatever has too many lists is drawn anew."""
     draws = Draws(1)
     for kind, *words in itertools.islice(kinds(), CASES):
         while True:
-            case = kind(draws, *words)
+            case = kind(draws, total_of, *words)
             try:
-                ends, _ = case.ends()
-            except TooMany:
+                found = case.values()
+            except Unfit:
                 continue
-            yield case, ends
+            yield case, (min(found), max(found)) if found else None
             break
+
+
+# how least and greatest numbers are made, and what is wanted of them, each in turn
+EXTREME_KINDS = [
+    (figure, "triangle", "near", 12),
+    (boxes, 18, "near", 3),
+    (figure, "triangle", "ones", 18),
+    (figure, "triangle and all", "near", 12),
+    (boxes, 6, "exact", 3),
+    (figure, "triangle", "exact", 9),
+    (figure, "triangle and all", "at most", 16),
+]
+WANTED = ["kept", "moved", "never", "sometimes", "kept", "moved", "never", "sometimes", "always", "impossible"]
+
+
+def what_is(case, found):
+    """Whether no list is possible, none gives a value, some give one, or all do: then whether the end that the observed rows
+    bound stays at theirs. A single number is nothing of these."""
+    if not found:
+        return "impossible"
+    if found == {None}:
+        return "always"
+    if len(found - {None}) == 1:
+        return "single"
+    if None in found:
+        return "sometimes"
+    if case.seen() is None:
+        return "never"
+    near = max(found) if case.aggregate == "min" else min(found)
+    return "kept" if near == case.seen() else "moved"
+
+
+def made_extremes():
+    """The least and greatest numbers with what they can be. Whatever is not wanted is drawn anew, of the next kind."""
+    draws, kinds_in_turn = Draws(2), itertools.cycle(EXTREME_KINDS)
+    for number in range(EXTREMES):
+        turn, place = divmod(number, len(WANTED))
+        wanted = ("min", "max")[(turn + place) % 2], WANTED[place]
+        while True:
+            kind, *words = next(kinds_in_turn)
+            try:
+                case = kind(draws, extreme_of, *words)
+                found = case.values()
+            except Unfit:
+                continue
+            if (case.aggregate, what_is(case, found)) == wanted:
+                yield case, found
+                break
 
 
 # ---- output
@@ -322,36 +401,68 @@ def quoted(text):
     return '"' + text.replace("\\", "\\\\").replace('"', '\\"').replace("\n", "\\n") + '"'
 
 
-def table(name, first, cases):
-    lines = [f"pub(super) static {name}: [(Texts<'static>, Option<(i128, i128)>); {len(cases)}] = ["]
-    for case, ends in cases:
+def range_text(ends):
+    return f"Some({ends})" if ends else "None"
+
+
+def truth_text(found):
+    """What is true of a least or a greatest number, as a variant of `Truth` in pc_agg's tests."""
+    if not found:
+        return "Truth::Impossible"
+    numbers = found - {None}
+    if not numbers:
+        return "Truth::Always"
+    return f"Truth::{'Sometimes' if None in found else 'Never'}({min(numbers)}, {max(numbers)})"
+
+
+def table(first, name, kind, cases):
+    lines = [f"pub(super) static {name}: [(Texts<'static>, {kind}); {len(cases)}] = ["]
+    for case, text in cases:
         lines += ["    (", "        ("]
         lines += [f"            {quoted(text)}," for text in case.texts()]
-        lines += ["        ),", f"        {f'Some({ends})' if ends else 'None'},", "    ),"]
+        lines += ["        ),", f"        {text},", "    ),"]
     return "\n".join(first + lines + ["];"])
+
+
+FIRST = ["//! Cases over small domains; tools/small_cases.py made them and found their ranges by going over all", "//! relations."]
+RANGES = [
+    "use super::Texts;",
+    "",
+    "/// Texts, and the low and the high end, in units of the last place of the column; none where no",
+    "/// relation is possible.",
+]
+TRUTHS = [
+    "use super::Texts;",
+    "use super::truths::Truth;",
+    "",
+    "/// Texts, and what is true of the least or the greatest number, in units of the last place of the column.",
+]
+
+
+def put_table(number):
+    if number == "3":
+        cases = [(case, truth_text(found)) for case, found in made_extremes()]
+        print(table(FIRST + TRUTHS, "SMALL_EXTREMES", "Truth", cases))
+        return
+    cases = [(case, range_text(ends)) for case, ends in made_cases()]
+    second = number == "2"
+    half = cases[CASES // 2 :] if second else cases[: CASES // 2]
+    print(table(FIRST + RANGES, "SMALL_MORE" if second else "SMALL", "Option<(i128, i128)>", half))
+
+
+def put_files(folder):
+    for number, (case, ends) in enumerate(made_cases()):
+        for name, text in zip(("schema", "rows", "constraints", "query"), case.texts()):
+            (folder / f"{number:02}.{name}").write_text(text)
+        (folder / f"{number:02}.range").write_text(f"{ends[0]} {ends[1]}\n" if ends else "none\n")
 
 
 def main():
     words = sys.argv[1:]
-    cases = list(made_cases())
-    if words[:1] == ["table"] and words[1:] in (["1"], ["2"]):
-        second = words[1] == "2"
-        half = cases[CASES // 2 :] if second else cases[: CASES // 2]
-        first = [
-            "//! Cases over small domains; tools/small_cases.py made them and found their ranges by going over all",
-            "//! relations.",
-            "use super::Texts;",
-            "",
-            "/// Texts, and the low and the high end, in units of the last place of the column; none where no",
-            "/// relation is possible.",
-        ]
-        print(table("SMALL_MORE" if second else "SMALL", first, half))
+    if words[:1] == ["table"] and words[1:] in (["1"], ["2"], ["3"]):
+        put_table(words[1])
     elif words[:1] == ["files"] and len(words) == 2:
-        folder = Path(words[1])
-        for number, (case, ends) in enumerate(cases):
-            for name, text in zip(("schema", "rows", "constraints", "query"), case.texts()):
-                (folder / f"{number:02}.{name}").write_text(text)
-            (folder / f"{number:02}.range").write_text(f"{ends[0]} {ends[1]}\n" if ends else "none\n")
+        put_files(Path(words[1]))
     else:
         sys.exit(__doc__)
 

@@ -28,7 +28,7 @@ signed_cond Low true number = refl
 signed_cond Low false number = refl
 
 -- what a row adds, by the query's column
-asked_is : (query : Query) (column : ℕ) (row : Row) (number : ℤ) → query.column ≡ Some column → slice_get row.cells column ≡ Some number → asked query row ≡ number
+pub asked_is : (query : Query) (column : ℕ) (row : Row) (number : ℤ) → query.column ≡ Some column → slice_get row.cells column ≡ Some number → asked query row ≡ number
 asked_is query column row number is there = rw is (get_or_from_slice_get row.cells column number (pos 0) there)
 
 module _ (s : Setting) (extreme : Extreme) (agg : Agg) (valued : always_has_value agg ≡ true) (measured : Measures s.question.schema agg s.question.query.column) where

@@ -74,7 +74,7 @@ cap_small n class cs small = by_mask class.mask cs small
 
 -- ---- the parts of the program, of cells and of their classes
 
-map_twice : {X Y Z : Type 0} (f : Y → Z) (g : X → Y) (xs : List X) → map (λ x. f (g x)) xs ≡ map f (map g xs)
+pub map_twice : {X Y Z : Type 0} (f : Y → Z) (g : X → Y) (xs : List X) → map (λ x. f (g x)) xs ≡ map f (map g xs)
 map_twice f g [] = refl
 map_twice f g (x ∷ xs) = ap (λ later. f (g x) ∷ later) (map_twice f g xs)
 

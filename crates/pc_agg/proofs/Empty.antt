@@ -33,8 +33,8 @@ module _ (constraints : List Constraint) (classes : List Class) (gains others : 
       let more = other_gains (more_floors floors cell at) caps u proves.4 parts.1 in
       ((proves.0, proves.1, proves.2, less.0, more.0), rw (less.1, more.1) refl)
 
-pub shows_none : (s : Setting) (gains : List ℤ) (tree : Tree) → IsEmpty (program_with s.question.constraints (cells s) gains) tree → ShowsNone (program_for s none) tree
-shows_none s gains tree empty =
+pub shows_none : (s : Setting) (gains : List ℤ) (budget : ℕ) (tree : Tree) → IsEmpty (program_with s.question.constraints (cells s) gains) budget tree → ShowsNone (program_for s none) tree
+shows_none s gains budget tree empty =
     let p = program_with s.question.constraints (cells s) gains in
     let shown = other_gains s.question.constraints (cells s) gains (map none (cells s)) p.floor p.cap (tree_of tree.nodes) empty.proves empty.none in
     record { sound = record { proves = shown.0; small = rw shown.1 tt }; none = rw shown.1 refl }

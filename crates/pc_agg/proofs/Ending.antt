@@ -137,7 +137,7 @@ pub record IsDone (extreme : Extreme) (s : Setting) (budget : ℕ) (agg : Agg) (
   pub is_whole : end.value.den ≡ pos 1
   pub shows : ShowsEnd extreme s agg (ratio_of end.value) end.proof
   pub searched : SearchedEnd extreme s budget agg (ratio_of end.value) end.proof
-  pub licensed : (answer : Answer) → IfOuter end.mark (LicensedEnd extreme s budget answer agg (ratio_of end.value) end.proof)
+  pub licensed : (answer : Answer) → ShownFrom s found answer → IfOuter end.mark (LicensedEnd extreme s budget answer agg (ratio_of end.value) end.proof)
   pub unshown : (answer : Answer) → ShownFrom s found answer → IfOuter end.mark (IsShown s answer (ratio_of end.value) → ⊥)
   pub from : All (λ runs. Contains found (counts_of_runs s runs)) (runs_of_mark end.mark)
 
@@ -280,7 +280,7 @@ module _ (schema : Schema) (constraints : List Constraint) (query : Query) (seen
     is_whole = refl;
     shows = shown_end;
     searched = searched_end;
-    licensed = λ answer. licensed_end answer mark marked;
+    licensed = λ answer from. licensed_end answer mark marked;
     unshown = λ answer. unshown_end answer mark marked;
     from = mark_from mark marked;
   }

@@ -1,5 +1,5 @@
 -- Answers over a settled relation and two ends owe what they must.
-use Rattle.std.proofs.Common.{◌≡◌, ℕ, Bool, true, false, ◌&&◌, cond, inl, List, [], ◌++◌, get_or, All, Contains, Some, refl, sym, ap, subst, ◌∙◌, arith}
+use Rattle.std.proofs.Common.{◌≡◌, ℕ, Bool, true, false, ◌&&◌, cond, inl, List, [], ◌++◌, get_or, All, Contains, Some, None, refl, sym, ap, ap₂, subst, ◌∙◌, arith}
 use Rattle.std.specs.Prelude.{◌||◌, int_lt}
 use Rattle.std.proofs.lemmas.Bool.{and_parts}
 use Rattle.std.proofs.lemmas.Int.{ints}
@@ -21,6 +21,8 @@ use Rattle.pc_proof.specs.declared.answer.Why.{Why}
 use Rattle.pc_proof.specs.declared.answer.Why.TheVariants as whys
 use Rattle.pc_proof.specs.declared.answer.Relation.{Relation}
 use Rattle.pc_proof.specs.declared.answer.Relation.TheVariants as relations
+use Rattle.pc_proof.specs.declared.answer.AlwaysBy.{AlwaysBy}
+use Rattle.pc_proof.specs.declared.answer.Lack.{Lack}
 use Rattle.pc_proof.specs.declared.answer.Lack.TheVariants as lacks
 use Rattle.pc_proof.specs.declared.answer.Mark.{Mark}
 use Rattle.pc_proof.specs.declared.answer.Mark.TheVariants as marks
@@ -29,13 +31,13 @@ use Rattle.pc_proof.specs.declared.answer.Answer.{Answer}
 use Rattle.pc_bound.specs.declared.program.Program.{Program}
 use Rattle.pc_bound.specs.Allocation.{IsAllocation}
 use Rattle.pc_proof.specs.Setting.{Setting, region_of, leaves, program_for}
-use Rattle.pc_proof.specs.Table.{ratio_of, one, minus_one, ShowsImpossible}
-use Rattle.pc_proof.specs.Unbroken.{HoldsRelation, IsDecided, IsExact, MayStand, plain_relation}
-use Rattle.pc_licence.specs.Licensed.{LicensedRelation}
+use Rattle.pc_proof.specs.Table.{ratio_of, one, minus_one, EndsCross, HasValue, ShowsAlways, ShowsImpossible}
+use Rattle.pc_proof.specs.Unbroken.{HoldsRelation, HoldsLack, IsDecided, IsExact, MayStand, plain_relation, plain_lack}
+use Rattle.pc_licence.specs.Licensed.{LicensedRelation, LicensedLack, IsSettledLack}
 use Rattle.pc_licence.specs.Pools.{AreLawful, ShownFrom}
-use Rattle.pc_licence.specs.Searched.{WhySearched, RelationSearched}
+use Rattle.pc_licence.specs.Searched.{WhySearched, AlwaysSearched, RelationSearched, LackSearched}
 use Rattle.pc_licence.specs.Wanted.{any, Has}
-use Rattle.pc_licence.specs.Shown.{runs_of_mark, runs_of_relation, shown_runs, counts_of_runs}
+use Rattle.pc_licence.specs.Shown.{runs_of_mark, runs_of_relation, runs_of_lack, shown_runs, counts_of_runs}
 use Rattle.pc_agg.specs.declared.aim.Aim.{Aim}
 use Rattle.pc_agg.specs.declared.settling.Settled.{Settled}
 use Rattle.pc_agg.specs.declared.extreme.Extreme.TheVariants.{Low, High}
@@ -57,8 +59,25 @@ none_among s answer found none from P place d inside =
     let there = subst (λ l. Contains l (counts_of_runs s (get_or (shown_runs answer) place d))) none (from place d inside) in
     absurd (omega (arith, there.1))
 
+-- a lack that is not that no list gives a value: it breaks no rule, and its lists were found
+pub record IsLackDone (s : Setting) (budget : ℕ) (found : List (List ℕ)) (lack : Lack) : Type 0 where
+  pub holds : HoldsLack s lack
+  pub silent : plain.is_silent (plain_lack lack) ≡ always_has_value s.question.query.agg
+  pub given : plain.is_always (plain_lack lack) ≡ false
+  pub from : All (λ runs. Contains found (counts_of_runs s runs)) (runs_of_lack lack)
+  pub licensed : (answer : Answer) → ShownFrom s found answer → LicensedLack s budget answer lack
+  pub searched : LackSearched s budget lack
+
+or_true : (b : Bool) → (b || true) ≡ true
+or_true true = refl
+or_true false = refl
+
+or_false : (b : Bool) → (b || false) ≡ b
+or_false true = refl
+or_false false = refl
+
 module _ (schema : Schema) (constraints : List Constraint) (query : Query) (seen : Folded) (nodes : List CutNode) (formed : IsWellFormed schema) (limited : AreConstraints schema constraints)
-    (tree : IsSettledTree schema constraints query.chosen nodes) (always : always_has_value query.agg ≡ true) (budget : ℕ) (asking : Asking schema constraints query seen) where
+    (tree : IsSettledTree schema constraints query.chosen nodes) (budget : ℕ) (asking : Asking schema constraints query seen) where
   abbrev u : Setting
   u = unseen schema constraints query nodes
 
@@ -83,7 +102,7 @@ module _ (schema : Schema) (constraints : List Constraint) (query : Query) (seen
   relation_from found (relations.Impossible why) lawful is = All-nil (λ r. Contains found (counts_of_runs s r))
   relation_from found relations.Undecided lawful is = All-nil (λ r. Contains found (counts_of_runs s r))
 
-  both_totals : (found : List (List ℕ)) (answer : Answer) → IsUnlisted u budget found → ShownFrom s found answer → LicensedRelation s budget answer relations.Undecided
+  pub both_totals : (found : List (List ℕ)) (answer : Answer) → IsUnlisted u budget found → ShownFrom s found answer → LicensedRelation s budget answer relations.Undecided
   both_totals found answer unlisted from =
       let nothing_shown = λ (p : Program). none_among s answer found unlisted.none from (λ runs. IsAllocation p p.floor p.cap (counts_of_runs s runs) → Has p any (counts_of_runs s runs) → ⊥) in (
         record {
@@ -100,12 +119,12 @@ module _ (schema : Schema) (constraints : List Constraint) (query : Query) (seen
   relation_licensed found (relations.Impossible why) answer is from = tt
   relation_licensed found relations.Undecided answer is from = both_totals found answer is from
 
-  impossible_here : (why : Why) → ShowsImpossible u why → IsOfCells why → ShowsImpossible s why
+  pub impossible_here : (why : Why) → ShowsImpossible u why → IsOfCells why → ShowsImpossible s why
   impossible_here (whys.Void t) shows of = shows
   impossible_here (whys.Cross t v) shows of = shows
   impossible_here (whys.Ends low high) shows of = absurd of
 
-  why_searched : (why : Why) → IsOfCells why → WhySearched s budget why
+  pub why_searched : (why : Why) → IsOfCells why → WhySearched s budget why
   why_searched (whys.Void t) of = tt
   why_searched (whys.Cross t v) of = tt
   why_searched (whys.Ends low high) of = absurd of
@@ -118,27 +137,53 @@ module _ (schema : Schema) (constraints : List Constraint) (query : Query) (seen
   nothing_found : (found : List (List ℕ)) (relation : Relation) → IsRelation u budget found relation → relation ≡ relations.Undecided → found ≡ []
   nothing_found found relation is undecided = (subst (IsRelation u budget found) undecided is).none
 
-  settled_as : (found : List (List ℕ)) (relation : Relation) → All (AreLawful u) found → IsRelation u budget found relation → (AreDisjoint schema constraints → IsDecided relation) → OwesSettled s budget relation lacks.Silent found
-  settled_as found relation lawful is decided = record {
-    relation_holds = relation_holds found relation lawful is;
-    lack_holds = tt;
-    silent = sym (ap (λ test. test || plain.is_impossible (plain_relation relation)) always);
-    licensed = record { relation = relation_licensed found relation (answer_of relation lacks.Silent) is shown; lack = tt; low = tt; high = tt; low_unshown = tt; high_unshown = tt };
-    lawful = lawful;
-    shown = shown;
-    undecided = nothing_found found relation is;
-    sharp = λ disjoint. (decided disjoint, tt);
-  }
-    where
-      shown : ShownFrom s found (answer_of relation lacks.Silent)
-      shown =
-          All-append (λ runs. Contains found (counts_of_runs s runs)) (runs_of_relation relation ++ []) []
-          (All-append (λ runs. Contains found (counts_of_runs s runs)) (runs_of_relation relation) [] (relation_from found relation lawful is) (All-nil (λ runs. Contains found (counts_of_runs s runs))))
-          (All-nil (λ runs. Contains found (counts_of_runs s runs)))
+  abbrev IsThere : List (List ℕ) → List Run → Type 0
+  IsThere found runs = Contains found (counts_of_runs s runs)
 
-  pub owes_settled : (settled : Settled) → IsSettled u budget settled → (AreDisjoint schema constraints → IsDecided settled.relation) → OwesSettled s budget settled.relation settled.lack settled.found
-  owes_settled settled is decided =
-      subst (λ lack. OwesSettled s budget settled.relation lack settled.found) (sym is.lack) (settled_as settled.found settled.relation is.lawful is.relation decided)
+  shown_settled : (found : List (List ℕ)) (relation : Relation) (lack : Lack) → All (AreLawful u) found → IsRelation u budget found relation → All (IsThere found) (runs_of_lack lack) →
+      ShownFrom s found (answer_of relation lack)
+  shown_settled found relation lack lawful is lack_from =
+      All-append (IsThere found) (runs_of_relation relation ++ runs_of_lack lack) []
+      (All-append (IsThere found) (runs_of_relation relation) (runs_of_lack lack) (relation_from found relation lawful is) lack_from)
+      (All-nil (IsThere found))
+
+  pub settled_with : (found : List (List ℕ)) (relation : Relation) (lack : Lack) → All (AreLawful u) found → IsRelation u budget found relation →
+      plain.is_silent (plain_lack lack) ≡ (always_has_value query.agg || plain.is_impossible (plain_relation relation)) → HoldsLack s lack → All (IsThere found) (runs_of_lack lack) →
+      ((answer : Answer) → ShownFrom s found answer → LicensedLack s budget answer lack) → (AreDisjoint schema constraints → IsDecided relation × IsSettledLack lack) → OwesSettled s budget relation lack found
+  settled_with found relation lack lawful is silent lack_holds lack_from lack_licensed decided =
+      let shown = shown_settled found relation lack lawful is lack_from in
+      record {
+        relation_holds = relation_holds found relation lawful is;
+        lack_holds = lack_holds;
+        silent = silent;
+        licensed = record {
+          relation = relation_licensed found relation (answer_of relation lack) is shown;
+          lack = lack_licensed (answer_of relation lack) shown;
+          low = tt;
+          high = tt;
+          low_unshown = tt;
+          high_unshown = tt;
+        };
+        lawful = lawful;
+        shown = shown;
+        undecided = nothing_found found relation is;
+        sharp = decided;
+      }
+
+  settled_as : (found : List (List ℕ)) (relation : Relation) → always_has_value query.agg ≡ true → All (AreLawful u) found → IsRelation u budget found relation → (AreDisjoint schema constraints → IsDecided relation) →
+      OwesSettled s budget relation lacks.Silent found
+  settled_as found relation always lawful is decided =
+      settled_with found relation lacks.Silent lawful is (sym (ap (λ test. test || plain.is_impossible (plain_relation relation)) always)) tt (All-nil (IsThere found)) (λ answer from. tt)
+      (λ disjoint. (decided disjoint, tt))
+
+  pub owes_settled : (settled : Settled) → always_has_value query.agg ≡ true → IsSettled u budget settled → (AreDisjoint schema constraints → IsDecided settled.relation) → OwesSettled s budget settled.relation settled.lack settled.found
+  owes_settled settled always is decided =
+      subst (λ lack. OwesSettled s budget settled.relation lack settled.found) (sym is.lack) (settled_as settled.found settled.relation always is.lawful is.relation decided)
+
+  -- nothing is possible, whatever the aggregate
+  pub settled_impossible : (why : Why) → ShowsImpossible u why → IsOfCells why → OwesSettled s budget (relations.Impossible why) lacks.Silent []
+  settled_impossible why shows of =
+      settled_with [] (relations.Impossible why) lacks.Silent (All-nil (AreLawful u)) (shows, of) (sym (or_true (always_has_value query.agg))) tt (All-nil (IsThere [])) (λ answer from. tt) (λ disjoint. (tt, tt))
 
   relation_searched : (found : List (List ℕ)) (relation : Relation) → IsRelation u budget found relation → RelationSearched s budget relation
   relation_searched found (relations.Possible runs) is = tt
@@ -155,7 +200,7 @@ module _ (schema : Schema) (constraints : List Constraint) (query : Query) (seen
     form = record {
       named = asking.named;
       preorder = tree.preorder;
-      silent = sym (ap (λ test. test || true) always);
+      silent = sym (or_true (always_has_value query.agg));
       absent = refl;
       low = tt;
       high = tt;
@@ -168,85 +213,121 @@ module _ (schema : Schema) (constraints : List Constraint) (query : Query) (seen
 
   -- ---- both ends
 
+  -- ---- the lack beside a relation that may hold
+
+  pub silent_done : (found : List (List ℕ)) → always_has_value query.agg ≡ true → IsLackDone s budget found lacks.Silent
+  silent_done found always = record { holds = tt; silent = sym always; given = refl; from = All-nil (IsThere found); licensed = λ answer from. tt; searched = tt }
+
+  -- ---- no list gives a value
+
+  abbrev always_as : Relation → AlwaysBy → Answer
+  always_as relation by' = record { relation = relation; lack = lacks.Always by'; ends = None }
+
+  pub owes_always : (found : List (List ℕ)) (relation : Relation) (by' : AlwaysBy) → All (AreLawful u) found → plain.is_impossible (plain_relation relation) ≡ false → IsRelation u budget found relation →
+      always_has_value query.agg ≡ false → ShowsAlways s by' → AlwaysSearched s budget by' → (AreDisjoint schema constraints → IsDecided relation) → Owes s budget (always_as relation by')
+  owes_always found relation by' lawful may is lacks_value shows searched decided = record {
+    form = record {
+      named = asking.named;
+      preorder = tree.preorder;
+      silent = sym (ap₂ ◌||◌ lacks_value may);
+      absent = sym (or_true (plain.is_impossible (plain_relation relation)));
+      low = tt;
+      high = tt;
+    };
+    unbroken = record { allowed = asking.allowed; proper = tree.proper; settled = settled_here; relation = relation_holds found relation lawful is; lack = shows; low = tt; high = tt };
+    licensed = record {
+      relation = relation_licensed found relation (always_as relation by') is (shown_settled found relation (lacks.Always by') lawful is (All-nil (IsThere found)));
+      lack = tt;
+      low = tt;
+      high = tt;
+      low_unshown = tt;
+      high_unshown = tt;
+    };
+    searched = record { relation = relation_searched found relation is; lack = searched; low = tt; high = tt };
+    sharp = λ disjoint. (record { decided = decided disjoint; ends = tt }, tt);
+  }
+
+  -- ---- both ends
+
   module _ (found : List (List ℕ)) (lawful : All (AreLawful u) found) (low high : End) (low_done : IsDone Low s budget query.agg found low) (high_done : IsDone High s budget query.agg found high) where
-    abbrev with_ends : Relation → Answer
-    with_ends relation = record { relation = relation; lack = lacks.Silent; ends = Some (low, high) }
+    abbrev with_ends : Relation → Lack → Answer
+    with_ends relation lack = record { relation = relation; lack = lack; ends = Some (low, high) }
 
-    abbrev IsThere : List Run → Type 0
-    IsThere runs = Contains found (counts_of_runs s runs)
-
-    shown_from : (relation : Relation) → IsRelation u budget found relation → ShownFrom s found (with_ends relation)
-    shown_from relation is =
-        All-append IsThere (runs_of_relation relation ++ []) (runs_of_mark low.mark ++ runs_of_mark high.mark)
-        (All-append IsThere (runs_of_relation relation) [] (relation_from found relation lawful is) (All-nil IsThere))
-        (All-append IsThere (runs_of_mark low.mark) (runs_of_mark high.mark) low_done.from high_done.from)
+    shown_from : (relation : Relation) (lack : Lack) → IsRelation u budget found relation → IsLackDone s budget found lack → ShownFrom s found (with_ends relation lack)
+    shown_from relation lack is done =
+        All-append (IsThere found) (runs_of_relation relation ++ runs_of_lack lack) (runs_of_mark low.mark ++ runs_of_mark high.mark)
+        (All-append (IsThere found) (runs_of_relation relation) (runs_of_lack lack) (relation_from found relation lawful is) done.from)
+        (All-append (IsThere found) (runs_of_mark low.mark) (runs_of_mark high.mark) low_done.from high_done.from)
 
     -- an exact end shows runs, whose counts were found
-    stands : (relation : Relation) (end : End) → IsRelation u budget found relation → All IsThere (runs_of_mark end.mark) → MayStand relation end
+    stands : (relation : Relation) (end : End) → IsRelation u budget found relation → All (IsThere found) (runs_of_mark end.mark) → MayStand relation end
     stands (relations.Possible runs) end is from = tt
     stands (relations.Impossible why) end is from = tt
     stands relations.Undecided end is from = by_mark end.mark from
       where
-        by_mark : (mark : Mark) → All IsThere (runs_of_mark mark) → MayStand relations.Undecided (record { value = end.value; mark = mark; proof = end.proof })
+        by_mark : (mark : Mark) → All (IsThere found) (runs_of_mark mark) → MayStand relations.Undecided (record { value = end.value; mark = mark; proof = end.proof })
         by_mark marks.Outer from = refl
         by_mark (marks.Exact runs) from =
-            let there = subst (λ l. Contains l (counts_of_runs s runs)) is.none (All-head IsThere runs [] from) in
+            let there = subst (λ l. Contains l (counts_of_runs s runs)) is.none (All-head (IsThere found) runs [] from) in
             absurd (omega (arith, there.1))
 
-    owes_both : (relation : Relation) → plain.is_impossible (plain_relation relation) ≡ false → IsRelation u budget found relation →
-        (AreDisjoint schema constraints → IsDecided relation × IsExact low.mark × IsExact high.mark) → Owes s budget (with_ends relation)
-    owes_both relation may is decided = record {
-      form = record {
-        named = asking.named;
-        preorder = tree.preorder;
-        silent = sym (ap (λ test. test || plain.is_impossible (plain_relation relation)) always);
-        absent = sym (ap (λ test. test || false) may);
-        low = low_done.formed;
-        high = high_done.formed;
-      };
-      unbroken = record {
-        allowed = asking.allowed;
-        proper = tree.proper;
-        settled = settled_here;
-        relation = relation_holds found relation lawful is;
-        lack = tt;
-        low = (low_done.holds, stands relation low is low_done.from);
-        high = (high_done.holds, stands relation high is high_done.from);
-      };
-      licensed = record {
-        relation = relation_licensed found relation (with_ends relation) is (shown_from relation is);
-        lack = tt;
-        low = low_done.licensed (with_ends relation);
-        high = high_done.licensed (with_ends relation);
-        low_unshown = low_done.unshown (with_ends relation) (shown_from relation is);
-        high_unshown = high_done.unshown (with_ends relation) (shown_from relation is);
-      };
-      searched = record { relation = relation_searched found relation is; lack = tt; low = low_done.searched; high = high_done.searched };
-      sharp = λ disjoint. let all = decided disjoint in (record { decided = all.0; ends = (all.1, all.2) }, tt);
-    }
+    pub owes_both : (relation : Relation) (lack : Lack) → plain.is_impossible (plain_relation relation) ≡ false → IsRelation u budget found relation → IsLackDone s budget found lack →
+        (AreDisjoint schema constraints → IsDecided relation × IsExact low.mark × IsExact high.mark × IsSettledLack lack) → Owes s budget (with_ends relation lack)
+    owes_both relation lack may is done decided =
+        let shown = shown_from relation lack is done in
+        record {
+          form = record {
+            named = asking.named;
+            preorder = tree.preorder;
+            silent = done.silent ∙ sym (ap (λ test. always_has_value query.agg || test) may ∙ or_false (always_has_value query.agg));
+            absent = sym (ap₂ ◌||◌ may done.given);
+            low = low_done.formed;
+            high = high_done.formed;
+          };
+          unbroken = record {
+            allowed = asking.allowed;
+            proper = tree.proper;
+            settled = settled_here;
+            relation = relation_holds found relation lawful is;
+            lack = done.holds;
+            low = (low_done.holds, stands relation low is low_done.from);
+            high = (high_done.holds, stands relation high is high_done.from);
+          };
+          licensed = record {
+            relation = relation_licensed found relation (with_ends relation lack) is shown;
+            lack = done.licensed (with_ends relation lack) shown;
+            low = low_done.licensed (with_ends relation lack) shown;
+            high = high_done.licensed (with_ends relation lack) shown;
+            low_unshown = low_done.unshown (with_ends relation lack) shown;
+            high_unshown = high_done.unshown (with_ends relation lack) shown;
+          };
+          searched = record { relation = relation_searched found relation is; lack = done.searched; low = low_done.searched; high = high_done.searched };
+          sharp = λ disjoint. let all = decided disjoint in (record { decided = all.0; ends = (all.1, all.2) }, all.3);
+        }
 
-    -- ends that cross leave nothing possible
-    crossing : int_lt high.value.num low.value.num ≡ true → Owes s budget (impossible_by (whys.Ends (bounded_by low) (bounded_by high)))
-    crossing crossed =
-        owes_impossible (whys.Ends (bounded_by low) (bounded_by high))
-        (record { low_holds = low_done.shows; high_holds = high_done.shows; above = not_at_most; formed = (low_done.formed, high_done.formed) }, inl always)
-        (low_done.searched, high_done.searched)
+    -- ends that cross
+    pub do_cross : int_lt high.value.num low.value.num ≡ true → EndsCross s (bounded_by low) (bounded_by high)
+    do_cross crossed = record { low_holds = low_done.shows; high_holds = high_done.shows; above = not_at_most; formed = (low_done.formed, high_done.formed) }
       where
         not_at_most : IsAtMost (ratio_of low.value) (ratio_of high.value) → ⊥
         not_at_most less = omega (arith, ints, (rw (low_done.is_whole, high_done.is_whole) at less), crossed)
 
-    pub owes_between : (relation : Relation) → plain.is_impossible (plain_relation relation) ≡ false → IsRelation u budget found relation →
+    -- leave nothing possible where each list has a value
+    pub crossing : HasValue s.question → int_lt high.value.num low.value.num ≡ true → Owes s budget (impossible_by (whys.Ends (bounded_by low) (bounded_by high)))
+    crossing valued crossed = owes_impossible (whys.Ends (bounded_by low) (bounded_by high)) (do_cross crossed, valued) (low_done.searched, high_done.searched)
+
+    pub owes_between : (relation : Relation) → always_has_value query.agg ≡ true → plain.is_impossible (plain_relation relation) ≡ false → IsRelation u budget found relation →
         (AreDisjoint schema constraints → IsDecided relation × IsExact low.mark × IsExact high.mark) → Owes s budget (answer_between relation low high)
-    owes_between relation may is decided = by_test (is_open relation && int_lt high.value.num low.value.num) refl
+    owes_between relation always may is decided = by_test (is_open relation && int_lt high.value.num low.value.num) refl
       where
         by_test : (test : Bool) → (is_open relation && int_lt high.value.num low.value.num) ≡ test →
-            Owes s budget (cond test (impossible_by (whys.Ends (bounded_by low) (bounded_by high))) (with_ends relation))
-        by_test true e = crossing (and_parts (is_open relation) (int_lt high.value.num low.value.num) e).1
-        by_test false e = owes_both relation may is decided
+            Owes s budget (cond test (impossible_by (whys.Ends (bounded_by low) (bounded_by high))) (with_ends relation lacks.Silent))
+        by_test true e = crossing (inl always) (and_parts (is_open relation) (int_lt high.value.num low.value.num) e).1
+        by_test false e = owes_both relation lacks.Silent may is (silent_done found always) (λ disjoint. let all = decided disjoint in (all.0, all.1, all.2, tt))
 
-  -- ---- an answer
+  -- ---- an answer of a count or a sum
 
-  module _ (settled : Settled) (is : IsSettled u budget settled) (low high : Aim) (is_low : IsAim u query.agg budget Low low) (is_high : IsAim u query.agg budget High high)
+  module _ (always : always_has_value query.agg ≡ true) (settled : Settled) (is : IsSettled u budget settled) (low high : Aim) (is_low : IsAim u query.agg budget Low low) (is_high : IsAim u query.agg budget High high)
       (low_among : IsAmong settled.found low.limit) (high_among : IsAmong settled.found high.limit)
       (decided : AreDisjoint schema constraints → IsDecided settled.relation × IsReached (program_towards u query.agg Low) low.limit.most low.limit.found × IsReached (program_towards u query.agg High) high.limit.most high.limit.found) where
     owes_from : (relation : Relation) (answer : Answer) → settled.relation ≡ relation → plain.is_impossible (plain_relation relation) ≡ false → IsBetween seen query.agg relation settled.found low high answer → Owes s budget answer
@@ -254,7 +335,7 @@ module _ (schema : Schema) (constraints : List Constraint) (query : Query) (seen
         let low_done = end_done schema constraints query seen nodes formed limited tree always budget settled.found is.lawful asking Low low is_low low_among between.low_end between.low_is in
         let high_done = end_done schema constraints query seen nodes formed limited tree always budget settled.found is.lawful asking High high is_high high_among between.high_end between.high_is in
         subst (Owes s budget) (sym between.answer_is)
-        (owes_between settled.found is.lawful between.low_end between.high_end low_done high_done relation may (subst (IsRelation u budget settled.found) same is.relation)
+        (owes_between settled.found is.lawful between.low_end between.high_end low_done high_done relation always may (subst (IsRelation u budget settled.found) same is.relation)
         (λ disjoint.
         let all = decided disjoint in (
           subst IsDecided same all.0,

@@ -49,5 +49,5 @@ module _ (p : Program) (budget : ℕ) (program : IsProgram p) (small : HasSmallG
         why = inr (record { licence = is.1.licence; whole = is.1.whole });
       }
 
-  pub empty_of_nothing : (tree : Tree) → IsOutcome p budget (Nothing tree) → IsEmpty p tree
-  empty_of_nothing tree is = record { preorder = is.0; proves = is.1.shown.proves; none = is.1.none }
+  pub empty_of_nothing : (tree : Tree) → IsOutcome p budget (Nothing tree) → IsEmpty p budget tree
+  empty_of_nothing tree is = record { preorder = is.0; proves = is.1.shown.proves; none = is.1.none; search = is.1.shown.search }

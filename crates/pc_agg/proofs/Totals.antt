@@ -69,10 +69,10 @@ module _ (u : Setting) where
 
   -- ---- nothing
 
-  pub settled_void : (budget : ℕ) (gains : List ℤ) (tree : Tree) (settled : Settled) → IsEmpty (program_with u.question.constraints (cells u) gains) tree →
+  pub settled_void : (budget : ℕ) (gains : List ℤ) (tree : Tree) (settled : Settled) → IsEmpty (program_with u.question.constraints (cells u) gains) budget tree →
       settled ≡ record { relation = relations.Impossible (whys.Void tree); lack = lacks.Silent; found = [] } → IsSettled u budget settled
   settled_void budget gains tree settled empty is =
-      subst (IsSettled u budget) (sym is) (record { relation = (shows_none u gains tree empty, tt); lack = refl; lawful = All-nil (AreLawful u) })
+      subst (IsSettled u budget) (sym is) (record { relation = (shows_none u gains budget tree empty, tt); lack = refl; lawful = All-nil (AreLawful u) })
 
   -- ---- totals
 

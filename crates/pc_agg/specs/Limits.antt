@@ -32,15 +32,16 @@ pub record IsLimit (p : Program) (budget : ℕ) (limit : Limit) : Type 0 where
   pub allowed : IfSome limit.found (IsAllocation p p.floor p.cap)
   pub why : IsReached p limit.most limit.found ⊎ IsCutShort p budget limit.most limit.found limit.tree
 
--- each leaf of the tree is void
-pub record IsEmpty (p : Program) (tree : Tree) : Type 0 where
+-- each leaf of the tree, which is a search tree, is void
+pub record IsEmpty (p : Program) (budget : ℕ) (tree : Tree) : Type 0 where
   pub preorder : IsInPreorder tree.nodes
   pub proves : Proves p p.floor p.cap (tree_of tree.nodes)
   pub none : bound_by p p.floor p.cap (tree_of tree.nodes) ≡ None
+  pub search : IsSearchTree p budget None (splits_of (tree_of tree.nodes))
 
 abbrev pub IsSought : Program → ℕ → Sought → Type 0
 IsSought p budget (Within limit) = IsLimit p budget limit
-IsSought p budget (Nothing tree) = IsEmpty p tree
+IsSought p budget (Nothing tree) = IsEmpty p budget tree
 
 -- nothing is left open
 abbrev pub IsClosed : Program → Sought → Type 0

@@ -177,7 +177,7 @@ fn is_open(relation: &Relation) -> bool
     }
 }
 
-fn bounded_by(end: End) -> Bounded
+pub(crate) fn bounded_by(end: End) -> Bounded
     ensures { result ≡ bounded_by end }
 {
     Bounded {
@@ -186,7 +186,7 @@ fn bounded_by(end: End) -> Bounded
     }
 }
 
-fn impossible_by(why: Why) -> Answer
+pub(crate) fn impossible_by(why: Why) -> Answer
     ensures { result ≡ impossible_by why }
 {
     Answer {

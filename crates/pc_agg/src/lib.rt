@@ -1,20 +1,35 @@
-//! Sure ranges of counts and sums under any constraints, by searches within a budget of nodes, with what shows them and
-//! what licenses that they stay open.
+//! Sure ranges of counts, sums, least and greatest numbers under any constraints, by searches within a budget of nodes, with
+//! what shows them and what licenses that they stay open.
 #![tactic(auto)]
 
 mod aim;
 mod bounds;
+mod climb;
+mod deciding;
 mod ends;
 mod extreme;
+mod extremes;
+mod falling;
+mod gains;
+mod grounds;
+mod judged;
+mod ladder;
 mod laws;
 mod limit;
+mod one_leaf;
+mod probe;
 mod programs;
 mod reached;
+mod rungs;
 mod settling;
+mod stand;
 mod targets;
 #[cfg(test)]
 mod tests;
+mod want;
 
 pub use bounds::{bound_count, bound_sum};
+pub use deciding::settle;
+pub use extremes::{bound_max, bound_min};
 pub use laws::folds_are_asked_of;
-pub use settling::{Settled, settle};
+pub use settling::Settled;

@@ -21,7 +21,7 @@ pub(crate) fn find_worth(p: &Program, found: &[Seq<u64>], wanted: i128) -> Optio
 }
 
 /// What counts are worth.
-fn worth(p: &Program, counts: &[u64]) -> i128
+pub(crate) fn worth(p: &Program, counts: &[u64]) -> i128
     requires program { IsProgram p.now }
     requires small { HasSmallGains p.now }
     requires allowed { IsAllocation p.now p.now.floor p.now.cap counts.now }

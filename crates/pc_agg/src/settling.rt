@@ -1,4 +1,4 @@
-ghost use Rattle.std.specs.Prelude.{◌≡◌, ℕ, ◌<◌, ◌≤◌, ◌^◌, ◌⊎◌, pos, neg_ℤ, nat_abs, length, replicate, [], ◌∷◌, slice_index_or, true, None, All, IsTrue, IfOk, IfSome};
+ghost use Rattle.std.specs.Prelude.{◌≡◌, ℕ, ◌<◌, ◌≤◌, ◌^◌, ◌⊎◌, pos, neg_ℤ, nat_abs, length, [], ◌∷◌, slice_index_or, true, None, All, IsTrue, IfOk, IfSome};
 ghost use Rattle.std.specs.List.{AllZip};
 ghost use Rattle.pc_cells.specs.declared.cells.Cell.{Cell};
 ghost use Rattle.pc_model.specs.Accepted.{AreConstraints};
@@ -18,6 +18,7 @@ ghost use Rattle.pc_agg.specs.Owed.{OwesSettled};
 ghost use Rattle.pc_agg.specs.Settings.{unseen};
 ghost use Rattle.pc_agg.specs.Settling.{AreOpenTotals, IsLimitOfGain, IsSettled, IsTotal, IsTotalDecided, IsTotalOf, left_open};
 
+use crate::gains::equal_gains;
 use crate::limit::{Limit, Sought, seek};
 use pc_cells::Cells;
 use pc_list::Seq;
@@ -41,24 +42,6 @@ pub struct Settled {
 enum Total {
     Settled(Settled),
     Open(Limit),
-}
-
-/// Settles the relation of a count or a sum, which never lacks a value, by the most and the fewest rows that can be
-/// lost.
-pub fn settle(
-    alloc: Global,
-    schema: &Schema,
-    seen: &Folded,
-    constraints: &[Constraint],
-    cells: &Cells,
-    query: &Query,
-    nodes: u32,
-) -> Result<Settled, Memory>
-    requires asked { AreAsked schema.now seen.now constraints.now cells.now query.now nodes }
-    requires has_value { always_has_value query.now.agg ≡ true }
-    ensures owes { IfOk result (λ settled. (asking : Asking schema.now constraints.now query.now seen.now) → OwesSettled (setting_for schema.now constraints.now query.now seen.now cells.now.tree.nodes asking) nodes settled.relation settled.lack settled.found) }
-{
-    settle_totals(alloc, schema, constraints, cells, query, nodes)
 }
 
 /// The relation where the searches of both ends were cut short with nothing found. Where a lost row gains one towards the high
@@ -124,8 +107,8 @@ fn undecided(alloc: Global) -> Settled
     }
 }
 
-/// The same by what the cells alone say.
-fn settle_totals(
+/// Settles the relation by the most and the fewest rows that can be lost.
+pub(crate) fn settle_totals(
     alloc: Global,
     schema: &Schema,
     constraints: &[Constraint],
@@ -175,14 +158,6 @@ fn find_total(
         Sought::Within(limit) => settled_within(alloc, schema, constraints, cells, query, limit),
         Sought::Nothing(tree) => Ok(Total::Settled(impossible(alloc, Why::Void(tree)))),
     }
-}
-
-/// The same gain for each of so many cells.
-fn equal_gains(alloc: Global, count: usize, gain: i128) -> Result<Seq<i128>, Memory>
-    ensures { IfOk result (λ gains. gains ≡ replicate count gain) }
-{
-    let gains = vec![in alloc; gain; count]?;
-    Ok(Seq::from_vec(gains))
 }
 
 /// The relation where the search found something.
@@ -262,7 +237,7 @@ pub(crate) fn listed(alloc: Global, picks: &[Row], found: Seq<Seq<u64>>) -> Resu
     })
 }
 
-fn impossible(alloc: Global, why: Why) -> Settled
+pub(crate) fn impossible(alloc: Global, why: Why) -> Settled
     ensures { result ≡ record { relation = relations.Impossible why; lack = lacks.Silent; found = [] } }
 {
     Settled {
@@ -292,7 +267,7 @@ fn negated(number: i128) -> i128
 }
 
 /// A row of each cell.
-fn rows_of_cells(alloc: Global, cells: &Cells) -> Result<Seq<Row>, Memory>
+pub(crate) fn rows_of_cells(alloc: Global, cells: &Cells) -> Result<Seq<Row>, Memory>
     requires filled { All IsFilled cells.now.cells }
     ensures { IfOk result (λ picks. AllZip (λ (cell : Cell) row. IsInSome cell.leaves row) cells.now.cells picks) }
 {

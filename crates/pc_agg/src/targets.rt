@@ -1,12 +1,16 @@
-ghost use Rattle.std.specs.Prelude.{◌≡◌, ◌<◌, ◌≤◌, ◌^◌, ℕ, pos, nat_abs, length, map, cond, true, None, Some, All, IfOk, IfSome};
+ghost use Rattle.std.specs.Prelude.{◌≡◌, ◌<◌, ◌≤◌, ◌^◌, ℕ, pos, nat_abs, length, map, cond, true, None, Some, All, IfOk, IfSome, IsSomeAnd};
 ghost use Rattle.std.specs.List.{AllZip};
 ghost use Rattle.pc_model.specs.Accepted.{IsQuery, IsNumeric, IsColumnWhere};
 ghost use Rattle.pc_model.specs.Right.{always_has_value};
 ghost use Rattle.pc_model.specs.WellFormed.{IsWellFormed};
-ghost use Rattle.pc_model.specs.Cells.{IsSettledTree, leaves_in};
+ghost use Rattle.pc_model.specs.Cells.{IsSettledTree, leaves_in, classes_of};
 ghost use Rattle.pc_cells.specs.Found.{class_of_cell, cells_of, leaves_at, IsFilled, HoldsNumber, HasNumbers};
 ghost use Rattle.pc_agg.specs.Ends.{gain_towards, signed, IsPick};
+ghost use Rattle.pc_proof.specs.Setting.{on_chosen};
+ghost use Rattle.pc_agg.specs.Asked.{AreCells};
+ghost use Rattle.pc_agg.specs.Rungs.{key_of};
 ghost use Rattle.pc_agg.specs.Settings.{unseen};
+ghost use Rattle.pc_agg.specs.Stands.{IsAtEnd};
 ghost use Rattle.pc_agg.specs.Targets.{cell_at, number_in, IsTarget, AreTargets};
 
 use crate::extreme::Extreme;
@@ -42,6 +46,26 @@ pub(crate) fn find_targets(
     requires numbers { (column : ℕ) → IsColumnWhere IsNumeric schema.now column → All (HasNumbers column) cells.now.cells }
     ensures gains { IfOk result (λ found. found.gains ≡ map (gain_towards (unseen schema.now constraints.now query.now cells.now.tree.nodes) query.now.agg extreme) (map class_of_cell cells.now.cells)) }
     ensures picks { IfOk result (λ found. AllZip (IsPick (unseen schema.now constraints.now query.now cells.now.tree.nodes) query.now.agg extreme) (map class_of_cell cells.now.cells) found.picks) }
+    ensures small { IfOk result (λ found. All (λ gain. nat_abs gain ≤ 2 ^ 63) found.gains) }
+{
+    targets_of(alloc, cells, query.column, extreme)
+}
+
+/// The keys of the cells at an end of the query's column, 0 where they are not chosen, and rows with the cells' numbers
+/// there. A key is the number, turned at a low end.
+pub(crate) fn find_keys(
+    alloc: Global,
+    schema: &Schema,
+    constraints: &[Constraint],
+    cells: &Cells,
+    query: &Query,
+    extreme: Extreme,
+) -> Result<Targets, Memory>
+    requires well_formed { IsWellFormed schema.now }
+    requires numbers { IsSomeAnd query.now.column (IsColumnWhere IsNumeric schema.now) }
+    requires cells { AreCells schema.now constraints.now query.now cells.now }
+    ensures keys { IfOk result (λ found. found.gains ≡ map (on_chosen (key_of (unseen schema.now constraints.now query.now cells.now.tree.nodes) extreme)) (classes_of (leaves_in schema.now cells.now.tree.nodes))) }
+    ensures picks { IfOk result (λ found. AllZip (IsAtEnd (unseen schema.now constraints.now query.now cells.now.tree.nodes) extreme) (classes_of (leaves_in schema.now cells.now.tree.nodes)) found.picks) }
     ensures small { IfOk result (λ found. All (λ gain. nat_abs gain ≤ 2 ^ 63) found.gains) }
 {
     targets_of(alloc, cells, query.column, extreme)

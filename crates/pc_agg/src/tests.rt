@@ -3,7 +3,9 @@ mod judging;
 mod overlaps;
 mod ranges;
 mod small;
+mod small_extremes;
 mod small_more;
+mod truths;
 
 use asking::{answered, discard};
 use judging::{Range, all_have};
@@ -12,10 +14,12 @@ use pc_model::{Refusal, Run};
 use pc_witness::total_times;
 use ranges::{CHEAP, IMPOSSIBLE, LARGE, MOST_LARGE, RANGES, SALES, SHOP};
 use small::SMALL;
+use small_extremes::SMALL_EXTREMES;
 use small_more::SMALL_MORE;
 use std::alloc::Global;
 use std::process::Abort;
 use std::test::Fail;
+use truths::Truth;
 
 /// The texts of a schema, observed rows, constraints and a query. Tables of them are statics: a constant is spelled out in
 /// each function that names it, which takes two seconds a case to check.
@@ -137,6 +141,66 @@ fn small_domains(rt: HostRuntime) -> Result<(), Fail> {
 #[test]
 fn further_small_domains(rt: HostRuntime) -> Result<(), Fail> {
     all_hold(&rt, rt.alloc(), &SMALL_MORE)?;
+    Ok(())
+}
+
+/// Whether the answer within a budget of nodes is the truth.
+fn is_truth(
+    rt: &impl Abort,
+    alloc: Global,
+    texts: Texts<'_>,
+    nodes: u32,
+    truth: Truth,
+) -> Result<bool, Refusal> {
+    let outcome = answered(rt, alloc, texts, nodes)?;
+    let holds = outcome.is_truth(truth);
+    discard(outcome);
+    Ok(holds)
+}
+
+/// Whether the answer within a budget of nodes holds for what is true.
+fn holds_for_truth(
+    rt: &impl Abort,
+    alloc: Global,
+    texts: Texts<'_>,
+    nodes: u32,
+    truth: Truth,
+) -> Result<bool, Refusal> {
+    let outcome = answered(rt, alloc, texts, nodes)?;
+    let holds = outcome.holds_for_truth(truth);
+    discard(outcome);
+    Ok(holds)
+}
+
+/// Whether the answers at budgets of 1 and 3 nodes hold for what is true, and that at 10,000 says it.
+fn is_true_at_budgets(
+    rt: &impl Abort,
+    alloc: Global,
+    texts: Texts<'_>,
+    truth: Truth,
+) -> Result<bool, Refusal> {
+    let one = holds_for_truth(rt, alloc, texts, 1, truth)?;
+    let three = holds_for_truth(rt, alloc, texts, 3, truth)?;
+    let many = is_truth(rt, alloc, texts, 10_000, truth)?;
+    Ok(one && three && many)
+}
+
+/// Asserts that the answers are true at every budget in each case.
+fn all_are_true(
+    rt: &impl Abort,
+    alloc: Global,
+    cases: &[(Texts<'_>, Truth)],
+) -> Result<(), Refusal> {
+    for (number, (texts, truth)) in cases.iter().enumerate() {
+        let holds = is_true_at_budgets(rt, alloc, *texts, *truth)?;
+        assert!(rt; holds, "case {number}");
+    }
+    Ok(())
+}
+
+#[test]
+fn least_and_greatest_numbers_of_small_domains(rt: HostRuntime) -> Result<(), Fail> {
+    all_are_true(&rt, rt.alloc(), &SMALL_EXTREMES)?;
     Ok(())
 }
 

@@ -1,5 +1,9 @@
 pub mod Attained
+pub mod Attaining
+pub mod Exact
 pub mod Found
+pub mod Picks
+pub mod Reached
 pub mod RunCounts
 pub mod Sharp
 pub mod Trees

@@ -1,4 +1,5 @@
 pub mod Licensed
+pub mod Picked
 pub mod Pools
 pub mod Searched
 pub mod Shown

@@ -68,7 +68,7 @@ module _ (s : Setting) (posed : IsWellPosed s.question) (tree : IsSettledFor s) 
       let kept : keeps s.question (get_or lost place d) ≡ true = keeps_region s.question posed (get_or lost place d) ∙ ap (λ (c : Class). c.chosen) is ∙ parts.0 in
       true≢false (sym parts.1 ∙ ap closed (sym is) ∙ open' place d inside kept)))
 
-  open_within : AreOpen → IsAllocation (program_without s closed) (program_without s closed).floor (program_without s closed).cap counts
+  pub open_within : AreOpen → IsAllocation (program_without s closed) (program_without s closed).floor (program_without s closed).cap counts
   open_within open' = record { sized = allocated.sized; within = within_caps; met = allocated.met }
     where
       within_caps : (i : ℕ) → i < cells_of (program_without s closed) → (nat_at (program_without s closed).floor i ≤ nat_at counts i) × (nat_at counts i ≤ nat_at (program_without s closed).cap i)

@@ -26,12 +26,12 @@ neg_of_kept false false same = omega (arith, ints)
 neg_of_kept true false same = absurd (true≢false same)
 neg_of_kept false true same = absurd (true≢false (sym same))
 
-one_is_some : (kept : Bool) → pos 0 ≤ℤ cond kept (pos 1) (pos 0)
+pub one_is_some : (kept : Bool) → pos 0 ≤ℤ cond kept (pos 1) (pos 0)
 one_is_some true = omega (arith, ints)
 one_is_some false = omega (arith, ints)
 
 -- a chosen row that does not count does not pass
-passes_not : (chosen passes : Bool) → cond (chosen && passes) (pos 1) (pos 0) ≤ℤ pos 0 → chosen ≡ true → passes ≡ false
+pub passes_not : (chosen passes : Bool) → cond (chosen && passes) (pos 1) (pos 0) ≤ℤ pos 0 → chosen ≡ true → passes ≡ false
 passes_not true true few is = absurd (omega (arith, ints))
 passes_not true false few is = refl
 passes_not false passes few is = absurd (true≢false (sym is))

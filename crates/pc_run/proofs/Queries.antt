@@ -11,10 +11,9 @@ use Rattle.pc_model.specs.declared.fault.Refusal.{Refusal}
 use Rattle.pc_model.specs.declared.fault.Refusal.TheVariants as refusals
 use Rattle.pc_model.specs.Accepted.{IsQuery}
 use Rattle.pc_model.specs.Refusals.{fault_at, RefusesAs}
-use Rattle.pc_model.specs.Right.{always_has_value}
 use Rattle.pc_lang.specs.Files.{query_at}
 use Rattle.pc_run.specs.Outcome.{built_query}
-use Rattle.pc_run.specs.Queries.{is_built, IsAsked}
+use Rattle.pc_run.specs.Queries.{is_answered, is_built, IsAsked}
 
 pub query_refused : (schema : Schema) (text : List ℕ) (refusal : Refusal) → RefusesAs refusal (query_at schema 1 text) → RefusesAs refusal (built_query schema text)
 unfolding built_query
@@ -37,8 +36,8 @@ none_only (Some place) e = absurd (false≢true e)
 pub asked_from : (schema : Schema) (query : Query) → IsQuery schema query → is_built query ≡ true → IsAsked schema query
 unfolding is_built
 asked_from schema query accepted built =
-    let p = and_parts (always_has_value query.agg) (is_none query.group) built in
-    record { query_of = accepted; has_value = p.0; ungrouped = none_only query.group p.1 }
+    let p = and_parts (is_answered query.agg) (is_none query.group) built in
+    record { query_of = accepted; answered = p.0; ungrouped = none_only query.group p.1 }
 
 -- of one query
 pub one_asked : (schema : Schema) (query : Query) → IsAsked schema query → All (IsAsked schema) (query ∷ [])

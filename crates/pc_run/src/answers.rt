@@ -1,17 +1,16 @@
 ghost use Rattle.std.specs.Prelude.{◌≡◌, true, All, IfOk};
 ghost use Rattle.std.specs.List.{AllZip};
 ghost use Rattle.pc_model.specs.Accepted.{AreConstraints, IsQuery};
-ghost use Rattle.pc_model.specs.Right.{always_has_value};
 ghost use Rattle.pc_model.specs.WellFormed.{IsWellFormed};
 ghost use Rattle.pc_proof.specs.declared.document.Block.{Block};
 ghost use Rattle.pc_agg.specs.Asked.{AreAsked, Asking, setting_for};
 ghost use Rattle.pc_agg.specs.Owed.{Owes};
 ghost use Rattle.pc_run.specs.Answers.{AnswersQuery};
-ghost use Rattle.pc_run.specs.Queries.{IsAsked};
+ghost use Rattle.pc_run.specs.Queries.{is_answered, IsAsked};
 ghost use Rattle.pc_run.specs.Replies.{IsSound};
 ghost use Rattle.pc_run.specs.Words.{IsBudget};
 
-use pc_agg::{bound_count, bound_sum};
+use pc_agg::{bound_count, bound_max, bound_min, bound_sum};
 use pc_cells::{Cells, decompose};
 use pc_list::Seq;
 use pc_model::{Agg, Constraint, Folded, Query, Schema};
@@ -83,12 +82,14 @@ fn answer_of(
     nodes: u32,
 ) -> Result<Answer, Memory>
     requires asked { AreAsked schema.now seen.now constraints.now cells.now query.now nodes }
-    requires built { always_has_value query.now.agg ≡ true }
+    requires built { is_answered query.now.agg ≡ true }
     ensures { IfOk result (λ answer. (asking : Asking schema.now constraints.now query.now seen.now) → Owes (setting_for schema.now constraints.now query.now seen.now cells.now.tree.nodes asking) nodes answer) }
 {
     match query.agg {
         Agg::Count => bound_count(alloc, schema, seen, constraints, cells, query, nodes),
         Agg::Sum => bound_sum(alloc, schema, seen, constraints, cells, query, nodes),
-        Agg::Min | Agg::Max | Agg::Avg => unreachable!(),
+        Agg::Min => bound_min(alloc, schema, seen, constraints, cells, query, nodes),
+        Agg::Max => bound_max(alloc, schema, seen, constraints, cells, query, nodes),
+        Agg::Avg => unreachable!(),
     }
 }

@@ -2,6 +2,7 @@ use super::*;
 use pc_base::{MemShelf, MemSink};
 use std::test::Fail;
 
+mod extremes;
 mod overlaps;
 mod refused;
 mod shown;

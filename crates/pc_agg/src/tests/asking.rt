@@ -1,13 +1,12 @@
 //! Reads a case and asks the calls, each step in a function of its own that sees few facts: one that holds all of a case
 //! took minutes to check.
-ghost use Rattle.std.specs.Prelude.{◌≡◌, ◌≤◌, ◌^◌, nat_abs, true, IfOk};
+ghost use Rattle.std.specs.Prelude.{◌≤◌, ◌^◌, nat_abs, IfOk};
 ghost use Rattle.pc_model.specs.Accepted.{AreConstraints, IsQuery};
-ghost use Rattle.pc_model.specs.Right.{always_has_value};
 ghost use Rattle.pc_model.specs.WellFormed.{IsWellFormed, HaveFewNames};
 ghost use Rattle.pc_agg.specs.Asked.{AreAsked, AreCells};
 
 use super::Texts;
-use crate::{Settled, bound_count, bound_sum, settle};
+use crate::{Settled, bound_count, bound_max, bound_min, bound_sum, settle};
 use pc_cells::{Cells, decompose};
 use pc_lang::{read_constraints, read_query};
 use pc_list::Seq;
@@ -121,7 +120,7 @@ fn ask(rt: &impl Abort, alloc: Global, case: &Case, nodes: u32) -> Result<(Settl
 {
     assert!(rt; 1 <= nodes && nodes <= 100_000);
     assert!(rt; case.query.group.is_none());
-    assert!(rt; always_has_value(case.query.agg));
+    assert!(rt; case.query.agg != Agg::Avg);
     let constraints = case.constraints.as_slice();
     let cells = find_cells(alloc, &case.schema, constraints, &case.query)?;
     ask_over(
@@ -133,12 +132,6 @@ fn ask(rt: &impl Abort, alloc: Global, case: &Case, nodes: u32) -> Result<(Settl
         &case.query,
         nodes,
     )
-}
-
-fn always_has_value(agg: Agg) -> bool
-    ensures { result ≡ always_has_value agg }
-{
-    matches!(agg, Agg::Count | Agg::Sum)
 }
 
 fn find_cells(
@@ -166,7 +159,6 @@ fn ask_over(
     nodes: u32,
 ) -> Result<(Settled, Answer), Memory>
     requires asked { AreAsked schema.now seen.now constraints.now cells.now query.now nodes }
-    requires has_value { always_has_value query.now.agg ≡ true }
 {
     let settled = settle(alloc, schema, seen, constraints, cells, query, nodes)?;
     let answer = bound(alloc, schema, seen, constraints, cells, query, nodes)?;
@@ -183,10 +175,13 @@ fn bound(
     nodes: u32,
 ) -> Result<Answer, Memory>
     requires asked { AreAsked schema.now seen.now constraints.now cells.now query.now nodes }
-    requires has_value { always_has_value query.now.agg ≡ true }
 {
     match query.agg {
+        Agg::Count => bound_count(alloc, schema, seen, constraints, cells, query, nodes),
         Agg::Sum => bound_sum(alloc, schema, seen, constraints, cells, query, nodes),
-        _ => bound_count(alloc, schema, seen, constraints, cells, query, nodes),
+        Agg::Min => bound_min(alloc, schema, seen, constraints, cells, query, nodes),
+        Agg::Max => bound_max(alloc, schema, seen, constraints, cells, query, nodes),
+        // no case asks for one
+        Agg::Avg => Err(Memory),
     }
 }

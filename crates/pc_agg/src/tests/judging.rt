@@ -1,6 +1,6 @@
 //! Compares answers with what was found by hand or by going over all relations.
 use super::asking::{Case, Outcome};
-use pc_model::{Agg, Run};
+use pc_model::{Agg, Run, greatest_of, least_of};
 use pc_num::Frac;
 use pc_proof::{End, Lack, Mark, Relation};
 use pc_witness::{fold_runs, meets, total_times};
@@ -10,18 +10,20 @@ pub(super) type Range = Option<(i128, i128)>;
 
 impl Case {
     /// Whether the runs stand for a possible list of rows.
-    fn meets(&self, runs: &[Run]) -> bool {
+    pub(super) fn meets(&self, runs: &[Run]) -> bool {
         meets(&self.schema, self.constraints.as_slice(), runs)
     }
 
     /// What the observed rows come to with those of the runs.
-    fn value_with(&self, runs: &[Run]) -> Option<i128> {
+    pub(super) fn value_with(&self, runs: &[Run]) -> Option<i128> {
         total_times(runs)?;
         let folded = fold_runs(&self.query, runs);
         match self.query.agg {
             Agg::Count => Some(self.seen.count as i128 + folded.count as i128),
             Agg::Sum => self.seen.sum.checked_add(folded.sum),
-            _ => None,
+            Agg::Min => least_with(self.seen.least, folded.least),
+            Agg::Max => greatest_with(self.seen.greatest, folded.greatest),
+            Agg::Avg => None,
         }
     }
 
@@ -47,6 +49,18 @@ impl Case {
     }
 }
 
+/// The least of the observed numbers and of those of lost rows.
+fn least_with(seen: Option<i64>, lost: Option<i64>) -> Option<i128> {
+    let least = lost.map_or(seen, |number| Some(least_of(seen, number)));
+    least.map(i128::from)
+}
+
+/// The greatest of the observed numbers and of those of lost rows.
+fn greatest_with(seen: Option<i64>, lost: Option<i64>) -> Option<i128> {
+    let greatest = lost.map_or(seen, |number| Some(greatest_of(seen, number)));
+    greatest.map(i128::from)
+}
+
 fn is_at(value: Frac, number: i128) -> bool {
     value.num == number && value.den == 1
 }
@@ -65,7 +79,7 @@ impl Outcome {
         is_silent(&self.answer.lack) && is_silent(&self.settled.lack) && self.is_relation_settled()
     }
 
-    fn is_relation_settled(&self) -> bool {
+    pub(super) fn is_relation_settled(&self) -> bool {
         match &self.settled.relation {
             Relation::Possible(runs) => self.is_possible() && self.case.meets(runs.as_slice()),
             Relation::Impossible(_) => self.is_impossible(),
@@ -88,7 +102,7 @@ impl Outcome {
     }
 
     /// Whether both ends are outer.
-    fn is_open(&self) -> bool {
+    pub(super) fn is_open(&self) -> bool {
         match &self.answer.ends {
             Some((low, high)) => is_outer(&low.mark) && is_outer(&high.mark),
             None => false,
@@ -118,7 +132,8 @@ impl Outcome {
         }
     }
 
-    fn has_ends(&self, low: i128, high: i128) -> bool {
+    /// Whether both ends are reached at the numbers.
+    pub(super) fn has_ends(&self, low: i128, high: i128) -> bool {
         match &self.answer.ends {
             Some((first, last)) => {
                 self.case.is_reached(first, low) && self.case.is_reached(last, high)

@@ -4,7 +4,7 @@ const TWO_OVERLAP: &str =
     "c1: branch = Chicago => price in 0.00..149.99, 0..5\nc2: true => price in 0.00..100.00, 0..3\n";
 
 /// Does the text have this part?
-fn has_part(text: &[u8], part: &[u8]) -> bool {
+pub(super) fn has_part(text: &[u8], part: &[u8]) -> bool {
     if part.is_empty() {
         return true;
     }

@@ -281,14 +281,14 @@ fn queries(rt: HostRuntime) -> Result<(), Fail> {
             "malformed query at 1: reason 4 UnknownColumn\n",
             Status::Malformed,
         ),
-        // what is accepted, and neither a count nor a sum, or grouped
+        // what is accepted, and an average or grouped
         (
             "count group by branch",
             "malformed query at 1: reason 21 NotBuilt\n",
             Status::Malformed,
         ),
         (
-            "min(day) where true",
+            "avg(day) where true",
             "malformed query at 1: reason 21 NotBuilt\n",
             Status::Malformed,
         ),
@@ -298,7 +298,7 @@ fn queries(rt: HostRuntime) -> Result<(), Fail> {
             Status::Malformed,
         ),
         (
-            "max(price)",
+            "max(price) group by branch",
             "malformed query at 1: reason 21 NotBuilt\n",
             Status::Malformed,
         ),

@@ -2,17 +2,17 @@ use super::*;
 
 const CHICAGO: &str = "c1: branch = Chicago => price in 0.00..149.99, 0..5\n";
 
-const TWO_TO_FIVE: &str = "c1: branch = Chicago => price in 0.00..149.99, 2..5\n";
+pub(super) const TWO_TO_FIVE: &str = "c1: branch = Chicago => price in 0.00..149.99, 2..5\n";
 
 const LARGEST: &str = "v,int,1000000000000000,1000000000000000\n";
 
 const TEN_MILLION: &str = "c: true => true, 10000000..10000000\n";
 
-const BELOW_ZERO: &str = "n,int,-9,9\nk,cat,a,b\n";
+pub(super) const BELOW_ZERO: &str = "n,int,-9,9\nk,cat,a,b\n";
 
-const SEEN: &str = "n,k\n4,a\n-3,b\n";
+pub(super) const SEEN: &str = "n,k\n4,a\n-3,b\n";
 
-const SIGNS: &str = "p: k = a => n in -5..2, 1..3\nq: k = b => n in 3..6, 0..2\n";
+pub(super) const SIGNS: &str = "p: k = a => n in -5..2, 1..3\nq: k = b => n in 3..6, 0..2\n";
 
 const LOSSES: &str = "p: k = a => n in -5..-2, 1..3\nq: k = b => n in 3..6, 0..2\n";
 

@@ -31,4 +31,4 @@ returns-in-Within-clause-disjoint c =
 
 pub returns-in-Nothing-clause-aimed : goal.returns-in-Nothing-clause-aimed
 returns-in-Nothing-clause-aimed c =
-    shows_none (unseen c.args.schema.now c.args.constraints.now c.args.query.now c.args.cells.now.tree.nodes) c.in_ok-targets.targets.gains c.in-Nothing.tree (rw c.in-Nothing.is at c.in_ok-limit.ensures.sought)
+    shows_none (unseen c.args.schema.now c.args.constraints.now c.args.query.now c.args.cells.now.tree.nodes) c.in_ok-targets.targets.gains c.args.nodes c.in-Nothing.tree (rw c.in-Nothing.is at c.in_ok-limit.ensures.sought)

@@ -1,0 +1,22 @@
+-- Counts that the constraints allow, of programs that differ in gains and caps alone.
+use Rattle.std.proofs.Common.{◌≡◌, ℕ, ◌<◌, ℤ, List, [], length, All, Any, subst}
+use Rattle.std.specs.Prelude.{slice_index_or}
+use Rattle.std.proofs.lemmas.List.{get_or_default}
+use Rattle.pc_model.specs.declared.row.Row.{Row}
+use Rattle.pc_model.specs.declared.row.Run.{Run}
+use Rattle.pc_model.specs.Runs.{runs_from}
+use Rattle.pc_bound.specs.declared.program.Program.{Program}
+use Rattle.pc_model.specs.Cells.{Class}
+use Rattle.pc_proof.specs.Setting.{Setting, program_for}
+use Rattle.pc_licence.specs.Pools.{AreLawful}
+use Rattle.pc_agg.specs.declared.want.Want.{Want}
+use Rattle.pc_agg.specs.Wants.{IsFound, IsMet}
+
+pub lawful_met : (u : Setting) (gain : Class → ℤ) (found : List (List ℕ)) → All (AreLawful u) found → All (IsMet (program_for u gain)) found
+lawful_met u gain found lawful place d inside = let own = lawful place d inside in record { sized = own.sized; met = own.met }
+
+-- wanted counts at a place, and the runs that were made of them
+pub some_listed : (p q : Program) (want : Want) (picks : List Row) (found : List (List ℕ)) (place : ℕ) (runs : List Run) → p ≡ q → (place < length found) × IsFound p want (slice_index_or found place []) →
+    runs ≡ runs_from picks (slice_index_or found place []) → Any (λ counts. IsFound q want counts × (runs ≡ runs_from picks counts)) found
+some_listed p q want picks found place runs same there is =
+    (place, slice_index_or found place [], there.0, get_or_default found place (slice_index_or found place []) [] there.0, (subst (λ r. IsFound r want (slice_index_or found place [])) same there.1, is))

@@ -1,0 +1,115 @@
+-- What is settled over the grounds of an aggregate that can lack a value owes what it must.
+use Rattle.std.proofs.Common.{◌≡◌, ℕ, ◌<◌, pos, Bool, false, List, length, All, Contains, refl, sym, ap, ap₂, subst, ◌∙◌, nat_lt, ltb-true, ltb-false, arith}
+use Rattle.std.specs.Prelude.{◌||◌}
+use Rattle.std.proofs.lemmas.Int.{ints}
+use Rattle.std.proofs.lemmas.List.Elements.{All-nil}
+use Rattle.pc_model.specs.declared.schema.Schema.{Schema}
+use Rattle.pc_model.specs.declared.row.Row.{Row}
+use Rattle.pc_model.specs.declared.row.Run.{Run}
+use Rattle.pc_model.specs.declared.constraint.Constraint.{Constraint}
+use Rattle.pc_model.specs.declared.query.Query.{Query}
+use Rattle.pc_model.specs.declared.query.Folded.{Folded}
+use Rattle.pc_model.specs.declared.tree.CutNode.{CutNode}
+use Rattle.pc_model.specs.declared.tree.Tree.{Tree}
+use Rattle.pc_model.specs.Accepted.{AreConstraints}
+use Rattle.pc_model.specs.Membership.{AreDisjoint}
+use Rattle.pc_model.specs.WellFormed.{IsWellFormed}
+use Rattle.pc_model.specs.Cells.{IsSettledTree}
+use Rattle.pc_model.specs.Right.{always_has_value}
+use Rattle.pc_model.specs.Right as plain
+use Rattle.pc_proof.specs.declared.answer.AlwaysBy.TheVariants as alwayses
+use Rattle.pc_proof.specs.declared.answer.Answer.{Answer}
+use Rattle.pc_proof.specs.declared.answer.Lack.{Lack}
+use Rattle.pc_proof.specs.declared.answer.Lack.TheVariants as lacks
+use Rattle.pc_proof.specs.declared.answer.Relation.{Relation}
+use Rattle.pc_proof.specs.Setting.{Setting}
+use Rattle.pc_proof.specs.Unbroken.{HoldsLack, plain_lack}
+use Rattle.pc_licence.specs.Licensed.{LicensedLack, IsSettledLack}
+use Rattle.pc_licence.specs.Pools.{AreLawful, ShownFrom}
+use Rattle.pc_licence.specs.Shown.{runs_of_lack, counts_of_runs}
+use Rattle.pc_agg.specs.declared.grounds.Grounds.{Grounds}
+use Rattle.pc_agg.specs.declared.grounds.Grounded.{Grounded}
+use Rattle.pc_agg.specs.declared.grounds.Grounded.TheVariants as grounded
+use Rattle.pc_agg.specs.declared.settling.Settled.{Settled}
+use Rattle.pc_agg.specs.Asked.{Asking, setting_for}
+use Rattle.pc_agg.specs.Extremes.{relation_from, HasLawful, IsLackFrom, IsSettledOver, IsSettledFrom}
+use Rattle.pc_agg.specs.Grounds.{IsGrounded, IsGroundedSurely, IsUnlistedIfNone}
+use Rattle.pc_agg.specs.Owed.{OwesSettled}
+use Rattle.pc_agg.specs.Settings.{unseen}
+use Rattle.pc_agg.specs.Settling.{AreRowsOfCells}
+use Rattle.pc_agg.proofs.Lacking.{relation_is, relation_may, relation_decided, IsObserving, lack_done, lack_settled}
+use Rattle.pc_agg.proofs.Owing.{settled_with, settled_impossible}
+use Rattle.pc_agg.proofs.Totals.{sized_rows}
+
+pub grounded_lawful : (u : Setting) (observed : Bool) (budget : ℕ) (ground : Grounded) → IsGrounded u observed budget ground → HasLawful u ground
+grounded_lawful u observed budget (grounded.Impossible why) is = tt
+grounded_lawful u observed budget (grounded.Always tree found) is = is.lawful
+grounded_lawful u observed budget (grounded.Open grounds) is = is.lawful
+
+pub sized_found : (u : Setting) (picks : List Row) (found : List (List ℕ)) → AreRowsOfCells u picks → All (AreLawful u) found → All (λ counts. length picks ≡ length counts) found
+sized_found u picks found rows lawful place d inside = sized_rows u picks _ rows (lawful place d inside)
+
+-- what is settled, over a row of each cell
+pub settled_always : (u : Setting) (ground : Grounded) (tree : Tree) (picks passed : List Row) (found also : List (List ℕ)) (relation : Relation) → ground ≡ grounded.Always tree found → AreRowsOfCells u picks →
+    passed ≡ picks → also ≡ found → relation ≡ relation_from passed also → IsSettledFrom u ground (record { relation = relation; lack = lacks.Always (alwayses.Tree tree); found = found })
+settled_always u ground tree picks passed found also relation same rows picked listed is =
+    subst (λ g. IsSettledFrom u g (record { relation = relation; lack = lacks.Always (alwayses.Tree tree); found = found })) (sym same)
+    (record { picks = picks; rows = rows; relation_is = is ∙ ap₂ relation_from picked listed; found_is = refl }, refl)
+
+pub settled_open : (u : Setting) (ground : Grounded) (grounds : Grounds) (picks passed : List Row) (also again : List (List ℕ)) (relation : Relation) (lack : Lack) → ground ≡ grounded.Open grounds → AreRowsOfCells u picks →
+    passed ≡ picks → also ≡ grounds.found → again ≡ grounds.found → relation ≡ relation_from passed also → IsLackFrom u passed again grounds.lacking lack →
+    IsSettledFrom u ground (record { relation = relation; lack = lack; found = grounds.found })
+settled_open u ground grounds picks passed also again relation lack same rows picked listed listed_again is from =
+    subst (λ g. IsSettledFrom u g (record { relation = relation; lack = lack; found = grounds.found })) (sym same) (
+      record { picks = picks; rows = rows; relation_is = is ∙ ap₂ relation_from picked listed; found_is = refl },
+      subst (λ p. IsLackFrom u p grounds.found grounds.lacking lack) picked (subst (λ f. IsLackFrom u passed f grounds.lacking lack) listed_again from),
+    )
+
+module _ (schema : Schema) (constraints : List Constraint) (query : Query) (seen : Folded) (nodes : List CutNode) (formed : IsWellFormed schema) (limited : AreConstraints schema constraints)
+    (tree : IsSettledTree schema constraints query.chosen nodes) (budget : ℕ) (asking : Asking schema constraints query seen) (lacks_value : always_has_value query.agg ≡ false) where
+  abbrev u : Setting
+  u = unseen schema constraints query nodes
+
+  abbrev s : Setting
+  s = setting_for schema constraints query seen nodes asking
+
+  abbrev IsThere : List (List ℕ) → List Run → Type 0
+  IsThere found runs = Contains found (counts_of_runs s runs)
+
+  -- a list of the first counts, and a lack that is known
+  settled_over : (found : List (List ℕ)) (settled : Settled) (lack : Lack) → IsSettledOver u found settled → settled.lack ≡ lack → All (AreLawful u) found → IsUnlistedIfNone u budget found →
+      plain.is_silent (plain_lack lack) ≡ false → HoldsLack s lack → All (IsThere found) (runs_of_lack lack) → ((answer : Answer) → ShownFrom s found answer → LicensedLack s budget answer lack) →
+      (AreDisjoint schema constraints → (0 < length found) × IsSettledLack lack) → OwesSettled s budget settled.relation settled.lack settled.found
+  settled_over found settled lack is same lawful totals silent holds from licensed sure =
+      let owed =
+      settled_with schema constraints query seen nodes formed limited tree budget asking found (relation_from is.picks found) lack lawful (relation_is u budget is.picks found is.rows totals)
+      (silent ∙ sym (ap₂ ◌||◌ lacks_value (relation_may is.picks found))) holds from licensed
+      (λ disjoint. let own = sure disjoint in (relation_decided is.picks found own.0, own.1)) in
+      subst (OwesSettled s budget settled.relation settled.lack) (sym is.found_is)
+      (subst (λ relation. OwesSettled s budget relation settled.lack found) (sym is.relation_is)
+      (subst (λ l. OwesSettled s budget (relation_from is.picks found) l found) (sym same) owed))
+
+  pub owes_grounded : (observed : Bool) → IsObserving s observed → (ground : Grounded) (settled : Settled) → IsGrounded u observed budget ground →
+      (AreDisjoint schema constraints → IsGroundedSurely u observed ground) → IsSettledFrom u ground settled → OwesSettled s budget settled.relation settled.lack settled.found
+  owes_grounded observed observing (grounded.Impossible why) settled is sure from =
+      subst (λ (x : Settled). OwesSettled s budget x.relation x.lack x.found) (sym from)
+      (settled_impossible schema constraints query seen nodes formed limited tree budget asking why is.0 is.1)
+  owes_grounded observed observing (grounded.Always by_tree found) settled is sure from =
+      settled_over found settled (lacks.Always (alwayses.Tree by_tree)) from.0 from.1 is.lawful is.totals refl (observing.none is.unseen, is.shows) (All-nil (IsThere found)) (λ answer shown. tt)
+      (λ disjoint. (sure disjoint, tt))
+  owes_grounded observed observing (grounded.Open grounds) settled is sure from =
+      let done =
+      lack_done schema constraints query seen nodes formed tree budget asking lacks_value observed observing from.0.picks from.0.rows grounds.found is.lawful grounds.lacking settled.lack
+      is.lacking_is is.doubt from.1 in
+      settled_over grounds.found settled settled.lack from.0 refl is.lawful is.totals (done.silent ∙ lacks_value) done.holds done.from done.licensed
+      (λ disjoint.
+      let own = sure disjoint in
+      (own.listed, lack_settled u observed budget from.0.picks grounds.found grounds.lacking settled.lack is.lacking_is own.lacking_surely own.found_some from.1))
+
+-- whether rows were observed, by their number
+pub observing_count : (schema : Schema) (constraints : List Constraint) (query : Query) (seen : Folded) (nodes : List CutNode) (asking : Asking schema constraints query seen) →
+    IsObserving (setting_for schema constraints query seen nodes asking) (nat_lt 0 seen.count)
+observing_count schema constraints query seen nodes asking = record {
+  some = λ is. let more = ltb-true 0 seen.count is in omega (arith, ints, more, asking.comes_to.count);
+  none = λ is. let none = ltb-false 0 seen.count is in asking.comes_to.count ∙ ap pos (omega (arith, none));
+}

@@ -1,0 +1,26 @@
+use Rattle.std.proofs.Common.{nat_lt, sym, ◌∙◌}
+use Rattle.std.proofs.lemmas.Result.{IfOk-weaker}
+use Rattle.pc_agg.proofs.Owing.{owes_settled}
+use Rattle.pc_agg.proofs.SettledGrounds.{owes_grounded, observing_count}
+use Rattle.pc_agg.proofs.Totals.{ok_both}
+use Rattle.pc_agg.proofs.deciding.settle.Goals as goal
+
+pub returns-then-always_has_value : goal.returns-then-always_has_value
+returns-then-always_has_value c = record {
+  owes =
+      ok_both c.settle_totals.result _ _ _ c.settle_totals.ensures.settled c.settle_totals.ensures.disjoint
+      (λ settled is decided asking.
+      owes_settled c.args.schema.now c.args.constraints.now c.args.query.now c.args.seen.now c.args.cells.now.tree.nodes c.requires.asked.formed c.requires.asked.limited
+      c.requires.asked.found.tree c.args.nodes asking settled (sym c.always_has_value.ensures ∙ c.if-always_has_value.true) is decided);
+}
+
+pub returns : goal.returns
+returns c = record {
+  owes =
+      IfOk-weaker c.settle_grounded.result _ _
+      (λ settled from asking.
+      owes_grounded c.args.schema.now c.args.constraints.now c.args.query.now c.args.seen.now c.args.cells.now.tree.nodes c.requires.asked.formed c.requires.asked.limited
+      c.requires.asked.found.tree c.args.nodes asking (sym c.always_has_value.ensures ∙ c.if-always_has_value.false) (nat_lt 0 c.args.seen.now.count)
+      (observing_count c.args.schema.now c.args.constraints.now c.args.query.now c.args.seen.now c.args.cells.now.tree.nodes asking) c.in_ok-grounded.grounded settled c.in_ok-grounded.ensures.grounded c.in_ok-grounded.ensures.disjoint from)
+      c.settle_grounded.ensures;
+}

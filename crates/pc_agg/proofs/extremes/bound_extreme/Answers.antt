@@ -1,0 +1,67 @@
+use Rattle.std.proofs.Common.{ap, ◌∙◌}
+use Rattle.std.specs.Prelude.{is_some}
+use Rattle.std.proofs.lemmas.Result.{IfOk-weaker}
+use Rattle.pc_model.specs.Accepted.{IsNumeric, IsColumnWhere}
+use Rattle.pc_model.specs.Right.{always_has_value}
+use Rattle.pc_agg.specs.Extremes.{seen_number}
+use Rattle.pc_agg.specs.Settings.{unseen}
+use Rattle.pc_agg.proofs.Filling.{rows_of_cells}
+use Rattle.pc_agg.proofs.Judging.{lacks_value, numbers_of, cells_counted, owes_none, observing, owes_judged, lawful_both_ends, can_low, can_high, sized_low}
+use Rattle.pc_agg.proofs.extremes.bound_extreme.Goals as goal
+
+pub returns-in-Always : goal.returns-in-Always
+returns-in-Always c =
+    let asked = c.requires.asked in
+    let nodes = c.args.cells.now.tree.nodes in
+    record {
+      owes = IfOk-weaker c.always_by.result _ _
+          (λ answer is asking.
+          owes_none c.args.schema.now c.args.constraints.now c.args.query.now c.args.seen.now nodes asked.formed asked.limited asked.found.tree c.args.nodes asking
+          (is_some (seen_number c.args.seen.now c.args.far)) c.in-Always.tree c.in-Always.found is.0 answer (ap always_has_value c.requires.extreme ∙ lacks_value c.args.far)
+          (observing c.args.schema.now c.args.constraints.now c.args.query.now c.args.seen.now nodes asked.formed asked.limited asked.found.tree c.args.nodes asking (IsColumnWhere IsNumeric c.args.schema.now)
+          (numbers_of c.args.schema.now c.args.query.now c.args.far c.requires.extreme asked.well) c.args.far c.requires.extreme)
+          (rows_of_cells c.args.schema.now c.args.constraints.now c.args.query.now nodes asked.formed asked.found.tree c.args.cells.now.cells is.0 asked.found.listed is.1)
+          (rw (c.is_some-observed.ensures, c.seen_number-number.ensures) at (rw c.in-Always.is at c.in_ok-grounded.ensures.grounded))
+          (λ disjoint. (rw c.in-Always.is at (c.in_ok-grounded.ensures.disjoint disjoint))) (rw c.as_slice.ensures at is.2))
+          c.always_by.ensures;
+    }
+
+pub judge-requires-clause-lawful : goal.judge-requires-clause-lawful
+judge-requires-clause-lawful c =
+    lawful_both_ends (unseen c.args.schema.now c.args.constraints.now c.args.query.now c.args.cells.now.tree.nodes) c.args.nodes c.args.far c.seen_number-number.result c.in-Open.grounds.found c.in-At.low c.in-At.high c.in-At.found
+    (rw c.in-At.is at c.in_ok-pair.ensures.pair) (rw c.in-Open.is at c.in_ok-grounded.ensures.grounded).lawful
+
+pub judge-requires-clause-sized : goal.judge-requires-clause-sized
+judge-requires-clause-sized c =
+    sized_low (unseen c.args.schema.now c.args.constraints.now c.args.query.now c.args.cells.now.tree.nodes) c.args.nodes c.args.far c.seen_number-number.result c.in-Open.grounds.found c.in-At.low c.in-At.high c.in-At.found
+    (rw c.in-At.is at c.in_ok-pair.ensures.pair) (rw c.in-Open.is at c.in_ok-grounded.ensures.grounded).lawful
+    ∙ cells_counted c.args.schema.now c.args.cells.now.tree.nodes c.args.cells.now.cells c.requires.asked.found.listed
+
+pub judge-requires-clause-low : goal.judge-requires-clause-low
+judge-requires-clause-low c =
+    can_low (unseen c.args.schema.now c.args.constraints.now c.args.query.now c.args.cells.now.tree.nodes) c.args.nodes c.args.far c.seen_number-number.result c.in-Open.grounds.found c.in-At.low c.in-At.high c.in-At.found
+    (rw c.in-At.is at c.in_ok-pair.ensures.pair) (rw c.in-Open.is at c.in_ok-grounded.ensures.grounded).lawful
+
+pub judge-requires-clause-high : goal.judge-requires-clause-high
+judge-requires-clause-high c =
+    can_high (unseen c.args.schema.now c.args.constraints.now c.args.query.now c.args.cells.now.tree.nodes) c.args.nodes c.args.far c.seen_number-number.result c.in-Open.grounds.found c.in-At.low c.in-At.high c.in-At.found
+    (rw c.in-At.is at c.in_ok-pair.ensures.pair) (rw c.in-Open.is at c.in_ok-grounded.ensures.grounded).lawful
+
+pub returns-in-At : goal.returns-in-At
+returns-in-At c =
+    let asked = c.requires.asked in
+    let nodes = c.args.cells.now.tree.nodes in
+    record {
+      owes = IfOk-weaker c.judge.result _ _
+          (λ answer is asking.
+          owes_judged c.args.schema.now c.args.constraints.now c.args.query.now c.args.seen.now nodes asked.formed asked.limited asked.found.tree c.args.nodes asking (IsColumnWhere IsNumeric c.args.schema.now)
+          (numbers_of c.args.schema.now c.args.query.now c.args.far c.requires.extreme asked.well) c.args.far c.requires.extreme c.in-Open.grounds
+          (rw (c.is_some-observed.ensures, c.seen_number-number.ensures) at (rw c.in-Open.is at c.in_ok-grounded.ensures.grounded)) c.in-At.low c.in-At.high c.in-At.found
+          (rw c.seen_number-number.ensures at (rw c.in-At.is at c.in_ok-pair.ensures.pair)) answer
+          (rw (c.is_some-observed.ensures, c.seen_number-number.ensures) at is)
+          (λ disjoint.
+          let own = (rw c.in-Open.is at (c.in_ok-grounded.ensures.disjoint disjoint)) in
+          let ends = (rw c.in-At.is at (c.in_ok-pair.ensures.disjoint disjoint own.listed (rw c.is_some-observed.ensures at own.found_some))) in
+          ((rw (c.is_some-observed.ensures, c.seen_number-number.ensures) at own), ends.0, ends.1)))
+          c.judge.ensures;
+    }

@@ -1,0 +1,40 @@
+use Rattle.std.proofs.Common.{Any, sym, ap, subst, ◌∙◌}
+use Rattle.std.specs.Prelude.{is_some}
+use Rattle.pc_agg.specs.declared.extreme.Extreme.TheVariants.{Low, High}
+use Rattle.pc_agg.specs.Grounds.{want_for, most_chosen}
+use Rattle.pc_agg.specs.Settings.{unseen}
+use Rattle.pc_agg.specs.Wants.{IsDoubt, IsFound}
+use Rattle.pc_agg.proofs.Pairs.{lawful_first, some_first, doubt_first, chosen_first, stands_from, low_surely}
+use Rattle.pc_agg.proofs.SeenNumbers.{key_some}
+use Rattle.pc_agg.proofs.extremes.stand_both.Goals as goal
+
+pub search_end-requires-2-clause-lawful : goal.search_end-requires-2-clause-lawful
+search_end-requires-2-clause-lawful c =
+    lawful_first (unseen c.args.schema.now c.args.constraints.now c.args.query.now c.args.cells.now.tree.nodes) c.args.nodes c.args.far c.args.number c.args.found c.in-At.on.stand c.in-At.on.found
+    (rw (c.test_at.ensures, c.key_at.ensures) at (rw c.in-At.is at c.in_ok-stood.ensures.stood)) c.requires.lawful
+
+pub search_end-requires-2-clause-doubt : goal.search_end-requires-2-clause-doubt
+search_end-requires-2-clause-doubt c =
+    let u = unseen c.args.schema.now c.args.constraints.now c.args.query.now c.args.cells.now.tree.nodes in
+    subst (λ o. IsDoubt (most_chosen u) (want_for o) c.args.nodes c.in-At.on.found) (sym (ap is_some c.key_at-2.ensures ∙ key_some High c.args.number))
+    (doubt_first u c.args.nodes c.args.far c.args.number c.args.found c.in-At.on.stand c.in-At.on.found (rw (c.test_at.ensures, c.key_at.ensures) at (rw c.in-At.is at c.in_ok-stood.ensures.stood))
+    (is_some c.args.number) c.requires.doubt)
+
+pub returns-in-At-stood-clause-pair : goal.returns-in-At-stood-clause-pair
+returns-in-At-stood-clause-pair c =
+    stands_from (unseen c.args.schema.now c.args.constraints.now c.args.query.now c.args.cells.now.tree.nodes) c.args.nodes c.args.far c.args.number c.args.found c.in-At.on.stand c.in-At.on.found
+    (rw (c.test_at.ensures, c.key_at.ensures) at (rw c.in-At.is at c.in_ok-stood.ensures.stood)) c.in-At-stood.on.stand c.in-At-stood.on.found
+    (rw (c.test_at-2.ensures, c.key_at-2.ensures) at (rw c.in-At-stood.is at c.in_ok-stood-2.ensures.stood))
+
+pub returns-in-At-stood-clause-disjoint : goal.returns-in-At-stood-clause-disjoint
+returns-in-At-stood-clause-disjoint c disjoint some found =
+    let u = unseen c.args.schema.now c.args.constraints.now c.args.query.now c.args.cells.now.tree.nodes in
+    let low_at = (rw (c.test_at.ensures, c.key_at.ensures) at (rw c.in-At.is at c.in_ok-stood.ensures.stood)) in
+    let high_at = (rw (c.test_at-2.ensures, c.key_at-2.ensures) at (rw c.in-At-stood.is at c.in_ok-stood-2.ensures.stood)) in
+    let low_some = (rw c.in-At.is at (c.in_ok-stood.ensures.disjoint disjoint some
+    (subst (λ o. Any (IsFound (most_chosen u) (want_for o)) c.args.found) (sym (ap is_some c.key_at.ensures ∙ key_some Low c.args.number)) found))) in
+    let high_some = (rw c.in-At-stood.is at (c.in_ok-stood-2.ensures.disjoint disjoint
+    (some_first u c.args.nodes c.args.far c.args.number c.args.found c.in-At.on.stand c.in-At.on.found low_at some)
+    (subst (λ o. Any (IsFound (most_chosen u) (want_for o)) c.in-At.on.found) (sym (ap is_some c.key_at-2.ensures ∙ key_some High c.args.number))
+    (chosen_first u c.args.nodes c.args.far c.args.number c.args.found c.in-At.on.stand c.in-At.on.found low_at (is_some c.args.number) found)))) in
+    (low_surely u c.args.nodes c.args.far c.args.number c.args.found c.in-At.on.stand c.in-At.on.found low_at c.in-At-stood.on.stand c.in-At-stood.on.found high_at low_some, high_some)

@@ -1,0 +1,20 @@
+use Rattle.std.proofs.Common.{sym}
+use Rattle.pc_agg.proofs.Standing.{search_stood, search_surely}
+use Rattle.pc_agg.proofs.stand.search_end.Goals as goal
+
+pub returns-in_ok-on-in-At-clause-stood : goal.returns-in_ok-on-in-At-clause-stood
+returns-in_ok-on-in-At-clause-stood c =
+    search_stood c.args.schema.now c.args.constraints.now c.args.query.now c.args.cells.now.tree.nodes c.requires.well_formed c.requires.constraints c.requires.cells.tree c.args.nodes c.requires.nodes.0 c.args.seen
+    c.in_ok-ladder.ladder c.args.extreme c.args.test c.in_ok-ladder.ensures.extreme c.in_ok-ladder.ensures.test c.in_ok-ladder.ensures.rungs c.args.found c.requires.doubt c.in-At.standing
+    (rw (c.want_at-want.ensures, c.is_some-observed.ensures, sym c.in_ok-ladder.ensures.test) at (rw c.in-At.is at c.in_ok-climbed.ensures.climbed)) c.requires.small_seen c.in_ok-ladder.ensures.keyed
+    c.in_ok-gains.field-0.gains c.in_ok-gains.ensures.keys c.in_ok-gains.ensures.small c.in_ok-gains.field-0.picks c.in_ok-gains.ensures.picks c.in_ok-on-in-At.on.stand c.in_ok-on-in-At.on.found
+    (rw c.is_some-observed.ensures at c.in_ok-on-in-At.ensures.stood)
+
+pub returns-in_ok-on-in-At-clause-disjoint : goal.returns-in_ok-on-in-At-clause-disjoint
+returns-in_ok-on-in-At-clause-disjoint c disjoint some found =
+    search_surely c.args.schema.now c.args.constraints.now c.args.query.now c.args.cells.now.tree.nodes c.requires.well_formed c.requires.constraints c.requires.cells.tree c.args.nodes c.requires.nodes.0 c.args.seen
+    c.in_ok-ladder.ladder c.args.extreme c.args.test c.in_ok-ladder.ensures.extreme c.in_ok-ladder.ensures.test c.in_ok-ladder.ensures.rungs c.args.found c.requires.doubt c.in-At.standing
+    (rw (c.want_at-want.ensures, c.is_some-observed.ensures, sym c.in_ok-ladder.ensures.test) at (rw c.in-At.is at c.in_ok-climbed.ensures.climbed)) c.requires.small_seen c.in_ok-ladder.ensures.keyed
+    c.in_ok-gains.field-0.gains c.in_ok-gains.ensures.keys c.in_ok-gains.ensures.small c.in_ok-gains.field-0.picks c.in_ok-gains.ensures.picks c.in_ok-on-in-At.on.stand c.in_ok-on-in-At.on.found
+    (rw c.is_some-observed.ensures at c.in_ok-on-in-At.ensures.stood) some c.requires.lawful found
+    (rw (c.want_at-want.ensures, c.is_some-observed.ensures, sym c.in_ok-ladder.ensures.test) at (rw c.in-At.is at (c.in_ok-climbed.ensures.disjoint disjoint)))

@@ -1,0 +1,54 @@
+-- The rungs among which an end stands, as halving leaves them.
+use Rattle.std.specs.Prelude.{◌≡◌, ⊤, ℕ, suc, ◌+◌, ◌-◌, ◌<◌, ◌≤◌, List, length, ◌++◌, All, Any, Option, Some}
+use Rattle.pc_model.specs.declared.tree.Tree.{Tree}
+use Rattle.pc_proof.specs.Setting.{Setting, program_for}
+use Rattle.pc_proof.specs.Table.{none, ShowsNone}
+use Rattle.pc_licence.specs.Pools.{AreLawful}
+use Rattle.pc_agg.specs.declared.ladder.Test.{Test}
+use Rattle.pc_agg.specs.declared.ladder.Test.TheVariants.{Reach, Avoid}
+use Rattle.pc_agg.specs.declared.ladder.Ladder.{Ladder}
+use Rattle.pc_agg.specs.declared.climb.Span.{Span}
+use Rattle.pc_agg.specs.declared.climb.Halved.{Halved}
+use Rattle.pc_agg.specs.declared.climb.Halved.TheVariants as halves
+use Rattle.pc_agg.specs.declared.probe.Verdict.{Verdict}
+use Rattle.pc_agg.specs.declared.probe.Verdict.TheVariants as verdicts
+use Rattle.pc_agg.specs.declared.want.Want.{Want}
+use Rattle.pc_agg.specs.Rungs.{program_at, IsStep}
+use Rattle.pc_agg.specs.Wants.{IsDoubt, IsFound}
+
+-- the rungs before the first are shown not to be ends, and the last, unless it is that of the ladder, is in doubt
+pub record IsSpan (s : Setting) (budget : ℕ) (ladder : Ladder) (want : Want) (found : List (List ℕ)) (span : Span) : Type 0 where
+  pub ordered : span.from ≤ span.to
+  pub inside : span.to < length ladder.rungs
+  pub more : List (List ℕ)
+  pub grown : span.found ≡ found ++ more
+  pub lawful : All (AreLawful s) more
+  pub step : IsStep s budget ladder want span.from span.tree
+  pub doubt : suc span.to < length ladder.rungs → IsDoubt (program_at s ladder span.to) want budget span.found
+
+abbrev pub IsSureSpan : Setting → Ladder → Want → Span → Type 0
+IsSureSpan s ladder want span = suc span.to < length ladder.rungs → Any (IsFound (program_at s ladder span.to) want) span.found
+
+-- fewer rungs, or a tree that shows that there is no list
+abbrev pub IsHalved : Setting → ℕ → Ladder → Want → List (List ℕ) → Span → Halved → Type 0
+IsHalved s budget ladder want found old (halves.Within span) = IsSpan s budget ladder want found span × (span.to - span.from < old.to - old.from)
+IsHalved s budget ladder want found old (halves.Empty tree) = ShowsNone (program_for s none) tree
+
+abbrev pub IsSureHalf : Setting → Ladder → Want → Halved → Type 0
+IsSureHalf s ladder want (halves.Within span) = IsSureSpan s ladder want span
+IsSureHalf s ladder want (halves.Empty tree) = ⊤
+
+-- ---- a step
+
+abbrev pub above : ℕ → ℕ → Tree → List (List ℕ) → Span
+above middle to shown found = record { from = middle + 1; to = to; tree = Some shown; found = found }
+
+-- that nothing is allowed shows that there is no list only where no cell is closed
+abbrev pub if_empty : Test → Span → Tree → Halved
+if_empty Reach past shown = halves.Empty shown
+if_empty Avoid past shown = halves.Within past
+
+abbrev pub narrowed : Test → ℕ → ℕ → ℕ → Option Tree → List (List ℕ) → Verdict → Halved
+narrowed test from to middle tree found (verdicts.Empty shown) = if_empty test (above middle to shown found) shown
+narrowed test from to middle tree found (verdicts.Short shown) = halves.Within (above middle to shown found)
+narrowed test from to middle tree found verdicts.Open = halves.Within (record { from = from; to = middle; tree = tree; found = found })

@@ -1,0 +1,192 @@
+ghost use Rattle.std.specs.Prelude.{◌≡◌, ℕ, ◌<◌, ◌≤◌, List, All, IfOk, length};
+ghost use Rattle.pc_model.specs.WellFormed.{IsWellFormed};
+ghost use Rattle.pc_model.specs.Accepted.{AreConstraints};
+ghost use Rattle.pc_model.specs.Membership.{AreDisjoint};
+ghost use Rattle.pc_licence.specs.Pools.{AreLawful};
+ghost use Rattle.pc_agg.specs.Asked.{AreCells};
+ghost use Rattle.pc_agg.specs.Climbing.{above, narrowed, IsSpan, IsHalved, IsSureSpan, IsSureHalf};
+ghost use Rattle.pc_agg.specs.Rungs.{program_at, IsLadder, IsClimbed, IsClimbedSurely};
+ghost use Rattle.pc_agg.specs.Settings.{unseen};
+
+use crate::ladder::{Ladder, Test};
+use crate::probe::{Probed, Verdict, probe};
+use crate::rungs::program_at;
+use crate::want::Want;
+use pc_cells::Cells;
+use pc_list::Seq;
+use pc_model::{Constraint, Query, Schema, Tree};
+use pc_num::Memory;
+use std::alloc::Global;
+
+/// The rung that an end stands on, with a tree that rules out the rung before it, unless it is the first, and all counts
+/// that were found so far.
+#[derive(Debug, Drop)]
+pub(crate) struct Standing {
+    pub place: usize,
+    pub tree: Option<Tree>,
+    pub found: Seq<Seq<u64>>,
+}
+
+/// Where an end stands, or a tree that shows that no lost rows meet the constraints.
+#[derive(Debug, Drop)]
+pub(crate) enum Climbed {
+    At(Standing),
+    Empty(Tree),
+}
+
+/// Halves the rungs until one is left whose program has wanted counts, or may have them, while that of the rung before it
+/// has none. The last rung is not tested.
+pub(crate) fn climb(
+    alloc: Global,
+    schema: &Schema,
+    constraints: &[Constraint],
+    cells: &Cells,
+    query: &Query,
+    ladder: &Ladder,
+    want: Want,
+    found: Seq<Seq<u64>>,
+    nodes: u32,
+) -> Result<Climbed, Memory>
+    requires well_formed { IsWellFormed schema.now }
+    requires constraints { AreConstraints schema.now constraints.now }
+    requires cells { AreCells schema.now constraints.now query.now cells.now }
+    requires keyed { IsLadder (unseen schema.now constraints.now query.now cells.now.tree.nodes) ladder.now }
+    requires some { 0 < length ladder.now.rungs }
+    requires lawful { All (AreLawful (unseen schema.now constraints.now query.now cells.now.tree.nodes)) found }
+    requires nodes { (1 ≤ nodes) × (nodes ≤ 100_000) }
+    ensures climbed { IfOk result (IsClimbed (unseen schema.now constraints.now query.now cells.now.tree.nodes) nodes ladder.now want found) }
+    ensures disjoint { AreDisjoint schema.now constraints.now → IfOk result (IsClimbedSurely (unseen schema.now constraints.now query.now cells.now.tree.nodes) ladder.now want) }
+{
+    let mut span = Span {
+        from: 0,
+        to: ladder.rungs.len() - 1,
+        tree: None,
+        found,
+    };
+    while span.from < span.to {
+        match halve(
+            alloc,
+            schema,
+            constraints,
+            cells,
+            query,
+            ladder,
+            want,
+            span,
+            nodes,
+        )? {
+            Halved::Within(narrower) => span = narrower,
+            Halved::Empty(tree) => return Ok(Climbed::Empty(tree)),
+        }
+    }
+    Ok(Climbed::At(standing_of(span)))
+}
+
+/// The rungs among which an end stands, from the first to the last, with a tree that rules out the rung before them,
+/// unless the first is that of the ladder, and all counts that were found so far.
+#[derive(Debug, Drop)]
+struct Span {
+    from: usize,
+    to: usize,
+    tree: Option<Tree>,
+    found: Seq<Seq<u64>>,
+}
+
+/// Fewer rungs, or a tree that shows that no lost rows meet the constraints.
+#[derive(Debug, Drop)]
+enum Halved {
+    Within(Span),
+    Empty(Tree),
+}
+
+fn standing_of(span: Span) -> Standing
+    ensures { result ≡ record { place = span.from; tree = span.tree; found = span.found } }
+{
+    let Span {
+        from,
+        to: _,
+        tree,
+        found,
+    } = span;
+    Standing {
+        place: from,
+        tree,
+        found,
+    }
+}
+
+/// Tests the rung in the middle.
+fn halve(
+    alloc: Global,
+    schema: &Schema,
+    constraints: &[Constraint],
+    cells: &Cells,
+    query: &Query,
+    ladder: &Ladder,
+    want: Want,
+    span: Span,
+    nodes: u32,
+) -> Result<Halved, Memory>
+    requires well_formed { IsWellFormed schema.now }
+    requires constraints { AreConstraints schema.now constraints.now }
+    requires cells { AreCells schema.now constraints.now query.now cells.now }
+    requires keyed { IsLadder (unseen schema.now constraints.now query.now cells.now.tree.nodes) ladder.now }
+    requires several { span.from < span.to }
+    requires inside { span.to < length ladder.now.rungs }
+    requires lawful { All (AreLawful (unseen schema.now constraints.now query.now cells.now.tree.nodes)) span.found }
+    requires nodes { (1 ≤ nodes) × (nodes ≤ 100_000) }
+    ensures halved { IfOk result (λ halved. (found : List (List ℕ)) → IsSpan (unseen schema.now constraints.now query.now cells.now.tree.nodes) nodes ladder.now want found span → IsHalved (unseen schema.now constraints.now query.now cells.now.tree.nodes) nodes ladder.now want found span halved) }
+    ensures disjoint { AreDisjoint schema.now constraints.now → IfOk result (λ halved. IsSureSpan (unseen schema.now constraints.now query.now cells.now.tree.nodes) ladder.now want span → IsSureHalf (unseen schema.now constraints.now query.now cells.now.tree.nodes) ladder.now want halved) }
+{
+    let Span {
+        from,
+        to,
+        tree,
+        found,
+    } = span;
+    let middle = from + (to - from) / 2;
+    let program = program_at(alloc, schema, constraints, cells, query, ladder, middle)?;
+    let probed = probe(alloc, &program, want, found, nodes)?;
+    Ok(narrowed(ladder.test, from, to, middle, tree, probed))
+}
+
+/// The rungs past the middle one, or up to it.
+fn narrowed(
+    test: Test,
+    from: usize,
+    to: usize,
+    middle: usize,
+    tree: Option<Tree>,
+    probed: Probed,
+) -> Halved
+    requires inside { middle < to }
+    ensures { result ≡ narrowed test from to middle tree probed.found probed.verdict }
+{
+    let Probed { verdict, found } = probed;
+    match verdict {
+        Verdict::Empty(shown) => match test {
+            Test::Reach => Halved::Empty(shown),
+            Test::Avoid => Halved::Within(above(middle, to, shown, found)),
+        },
+        Verdict::Short(shown) => Halved::Within(above(middle, to, shown, found)),
+        Verdict::Open => Halved::Within(Span {
+            from,
+            to: middle,
+            tree,
+            found,
+        }),
+    }
+}
+
+/// The rungs past the middle one, which a tree rules out.
+fn above(middle: usize, to: usize, shown: Tree, found: Seq<Seq<u64>>) -> Span
+    requires inside { middle < to }
+    ensures { result ≡ above middle to shown found }
+{
+    Span {
+        from: middle + 1,
+        to,
+        tree: Some(shown),
+        found,
+    }
+}

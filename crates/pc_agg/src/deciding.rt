@@ -1,0 +1,99 @@
+ghost use Rattle.std.specs.Prelude.{◌≡◌, ◌≤◌, IfOk};
+ghost use Rattle.pc_model.specs.Accepted.{AreConstraints};
+ghost use Rattle.pc_model.specs.Right.{always_has_value};
+ghost use Rattle.pc_model.specs.WellFormed.{IsWellFormed};
+ghost use Rattle.pc_agg.specs.Asked.{AreAsked, AreCells, Asking, setting_for};
+ghost use Rattle.pc_agg.specs.Grounds.{IsGrounded};
+ghost use Rattle.pc_agg.specs.Owed.{OwesSettled};
+ghost use Rattle.pc_agg.specs.Settings.{unseen};
+ghost use Rattle.pc_agg.specs.Extremes.{HasLawful, IsSettledFrom};
+
+use crate::grounds::{Grounded, Grounds, ground};
+use crate::judged::{lack_from, relation_from};
+use crate::settling::{Settled, impossible, rows_of_cells, settle_totals};
+use pc_cells::Cells;
+use pc_model::{Agg, Constraint, Folded, Query, Schema};
+use pc_num::Memory;
+use pc_proof::{AlwaysBy, Lack};
+use std::alloc::Global;
+
+/// Settles whether lost rows can meet the constraints, and whether the aggregate can be without a value: by the most and
+/// the fewest rows that can be lost, and the most and the fewest of those that the query chooses.
+pub fn settle(
+    alloc: Global,
+    schema: &Schema,
+    seen: &Folded,
+    constraints: &[Constraint],
+    cells: &Cells,
+    query: &Query,
+    nodes: u32,
+) -> Result<Settled, Memory>
+    requires asked { AreAsked schema.now seen.now constraints.now cells.now query.now nodes }
+    ensures owes { IfOk result (λ settled. (asking : Asking schema.now constraints.now query.now seen.now) → OwesSettled (setting_for schema.now constraints.now query.now seen.now cells.now.tree.nodes asking) nodes settled.relation settled.lack settled.found) }
+{
+    if always_has_value(query.agg) {
+        return settle_totals(alloc, schema, constraints, cells, query, nodes);
+    }
+    let observed = seen.count > 0;
+    let grounded = ground(alloc, schema, constraints, cells, query, observed, nodes)?;
+    settle_grounded(alloc, schema, constraints, cells, query, grounded)
+}
+
+/// Whether the aggregate has a value over any rows.
+fn always_has_value(agg: Agg) -> bool
+    ensures { result ≡ always_has_value agg }
+{
+    match agg {
+        Agg::Count | Agg::Sum => true,
+        Agg::Min | Agg::Max | Agg::Avg => false,
+    }
+}
+
+/// What is settled, with lists of what was found.
+fn settle_grounded(
+    alloc: Global,
+    schema: &Schema,
+    constraints: &[Constraint],
+    cells: &Cells,
+    query: &Query,
+    grounded: Grounded,
+) -> Result<Settled, Memory>
+    requires well_formed { IsWellFormed schema.now }
+    requires constraints { AreConstraints schema.now constraints.now }
+    requires cells { AreCells schema.now constraints.now query.now cells.now }
+    requires grounded { HasLawful (unseen schema.now constraints.now query.now cells.now.tree.nodes) grounded }
+    ensures { IfOk result (IsSettledFrom (unseen schema.now constraints.now query.now cells.now.tree.nodes) grounded) }
+{
+    let picks = rows_of_cells(alloc, cells)?;
+    let picks = picks.as_slice();
+    match grounded {
+        Grounded::Impossible(why) => Ok(impossible(alloc, why)),
+        Grounded::Always(tree, found) => {
+            let relation = relation_from(alloc, picks, found.as_slice())?;
+            let lack = Lack::Always(AlwaysBy::Tree(tree));
+            Ok(Settled {
+                relation,
+                lack,
+                found,
+            })
+        }
+        Grounded::Open(Grounds { lacking, found }) => {
+            let relation = relation_from(alloc, picks, found.as_slice())?;
+            let lack = lack_from(
+                alloc,
+                schema,
+                constraints,
+                cells,
+                query,
+                lacking,
+                picks,
+                found.as_slice(),
+            )?;
+            Ok(Settled {
+                relation,
+                lack,
+                found,
+            })
+        }
+    }
+}

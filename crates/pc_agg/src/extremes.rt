@@ -1,0 +1,235 @@
+ghost use Rattle.std.specs.Prelude.{◌≡◌, ◌<◌, ◌≤◌, All, Any, IfOk, IsSomeAnd, is_some, length};
+ghost use Rattle.pc_model.specs.Accepted.{AreConstraints, IsNumeric, IsColumnWhere};
+ghost use Rattle.pc_model.specs.Membership.{AreDisjoint};
+ghost use Rattle.pc_model.specs.WellFormed.{IsWellFormed};
+ghost use Rattle.pc_model.specs.declared.query.Agg.TheVariants as aggs;
+ghost use Rattle.pc_licence.specs.Pools.{AreLawful};
+ghost use Rattle.pc_agg.specs.Asked.{AreAsked, AreCells, Asking, setting_for};
+ghost use Rattle.pc_agg.specs.Extremes.{agg_of, key_at, seen_number, test_at, IsPair, IsPairSurely};
+ghost use Rattle.pc_agg.specs.Grounds.{most_chosen, want_for, HasValues};
+ghost use Rattle.pc_agg.specs.Owed.{Owes};
+ghost use Rattle.pc_agg.specs.Settings.{unseen};
+ghost use Rattle.pc_agg.specs.Wants.{IsDoubt, IsFound};
+
+use crate::bounds::impossible_by;
+use crate::extreme::Extreme;
+use crate::grounds::{Grounded, Grounds, ground};
+use crate::judged::{always_by, judge};
+use crate::ladder::Test;
+use crate::stand::{On, Stand, Stood, search_end};
+use pc_cells::Cells;
+use pc_list::Seq;
+use pc_model::{Constraint, Folded, Query, Schema, Tree};
+use pc_num::Memory;
+use pc_proof::{AlwaysBy, Answer, Why};
+use std::alloc::Global;
+
+/// The range of the least number that a column has among the rows that the query chooses, where those observed come to
+/// `seen`, and whether there is such a row, by searches of at most so many nodes each.
+pub fn bound_min(
+    alloc: Global,
+    schema: &Schema,
+    seen: &Folded,
+    constraints: &[Constraint],
+    cells: &Cells,
+    query: &Query,
+    nodes: u32,
+) -> Result<Answer, Memory>
+    requires asked { AreAsked schema.now seen.now constraints.now cells.now query.now nodes }
+    requires least { query.now.agg ≡ aggs.Min }
+    ensures owes { IfOk result (λ answer. (asking : Asking schema.now constraints.now query.now seen.now) → Owes (setting_for schema.now constraints.now query.now seen.now cells.now.tree.nodes asking) nodes answer) }
+{
+    bound_extreme(
+        alloc,
+        schema,
+        seen,
+        constraints,
+        cells,
+        query,
+        Extreme::Low,
+        nodes,
+    )
+}
+
+/// The range of the greatest number that a column has among the rows that the query chooses, where those observed come to
+/// `seen`, and whether there is such a row, by searches of at most so many nodes each.
+pub fn bound_max(
+    alloc: Global,
+    schema: &Schema,
+    seen: &Folded,
+    constraints: &[Constraint],
+    cells: &Cells,
+    query: &Query,
+    nodes: u32,
+) -> Result<Answer, Memory>
+    requires asked { AreAsked schema.now seen.now constraints.now cells.now query.now nodes }
+    requires greatest { query.now.agg ≡ aggs.Max }
+    ensures owes { IfOk result (λ answer. (asking : Asking schema.now constraints.now query.now seen.now) → Owes (setting_for schema.now constraints.now query.now seen.now cells.now.tree.nodes asking) nodes answer) }
+{
+    bound_extreme(
+        alloc,
+        schema,
+        seen,
+        constraints,
+        cells,
+        query,
+        Extreme::High,
+        nodes,
+    )
+}
+
+/// The far end is the low one of a least number, and the high one of a greatest.
+fn bound_extreme(
+    alloc: Global,
+    schema: &Schema,
+    seen: &Folded,
+    constraints: &[Constraint],
+    cells: &Cells,
+    query: &Query,
+    far: Extreme,
+    nodes: u32,
+) -> Result<Answer, Memory>
+    requires asked { AreAsked schema.now seen.now constraints.now cells.now query.now nodes }
+    requires extreme { query.now.agg ≡ agg_of far }
+    ensures owes { IfOk result (λ answer. (asking : Asking schema.now constraints.now query.now seen.now) → Owes (setting_for schema.now constraints.now query.now seen.now cells.now.tree.nodes asking) nodes answer) }
+{
+    let number = seen_number(seen, far);
+    let observed = number.is_some();
+    let grounded = ground(alloc, schema, constraints, cells, query, observed, nodes)?;
+    let Grounds { lacking, found } = match grounded {
+        Grounded::Impossible(why) => return Ok(impossible_by(why)),
+        Grounded::Always(tree, found) => {
+            return always_by(alloc, cells, found.as_slice(), AlwaysBy::Tree(tree));
+        }
+        Grounded::Open(grounds) => grounds,
+    };
+    let pair = stand_both(
+        alloc,
+        schema,
+        constraints,
+        cells,
+        query,
+        far,
+        number,
+        found,
+        nodes,
+    )?;
+    match pair {
+        Pair::Empty(tree) => Ok(impossible_by(Why::Void(tree))),
+        Pair::At { low, high, found } => judge(
+            alloc,
+            schema,
+            constraints,
+            cells,
+            query,
+            observed,
+            lacking,
+            low,
+            high,
+            found,
+        ),
+    }
+}
+
+/// The least or the greatest number of the observed rows.
+fn seen_number(seen: &Folded, far: Extreme) -> Option<i64>
+    ensures { result ≡ seen_number seen.now far }
+{
+    match far {
+        Extreme::Low => seen.least,
+        Extreme::High => seen.greatest,
+    }
+}
+
+/// Both ends, with all counts that were found, or a tree that shows that there is no list.
+#[derive(Debug, Drop)]
+enum Pair {
+    At {
+        low: Stand,
+        high: Stand,
+        found: Seq<Seq<u64>>,
+    },
+    Empty(Tree),
+}
+
+fn stand_both(
+    alloc: Global,
+    schema: &Schema,
+    constraints: &[Constraint],
+    cells: &Cells,
+    query: &Query,
+    far: Extreme,
+    number: Option<i64>,
+    found: Seq<Seq<u64>>,
+    nodes: u32,
+) -> Result<Pair, Memory>
+    requires well_formed { IsWellFormed schema.now }
+    requires constraints { AreConstraints schema.now constraints.now }
+    requires numbers { IsSomeAnd query.now.column (IsColumnWhere IsNumeric schema.now) }
+    requires cells { AreCells schema.now constraints.now query.now cells.now }
+    requires some { HasValues (unseen schema.now constraints.now query.now cells.now.tree.nodes) (is_some number) }
+    requires lawful { All (AreLawful (unseen schema.now constraints.now query.now cells.now.tree.nodes)) found }
+    requires doubt { IsDoubt (most_chosen (unseen schema.now constraints.now query.now cells.now.tree.nodes)) (want_for (is_some number)) nodes found }
+    requires nodes { (1 ≤ nodes) × (nodes ≤ 100_000) }
+    ensures pair { IfOk result (IsPair (unseen schema.now constraints.now query.now cells.now.tree.nodes) nodes far number found) }
+    ensures disjoint { AreDisjoint schema.now constraints.now → 0 < length found → Any (IsFound (most_chosen (unseen schema.now constraints.now query.now cells.now.tree.nodes)) (want_for (is_some number))) found → IfOk result IsPairSurely }
+{
+    let stood = search_end(
+        alloc,
+        schema,
+        constraints,
+        cells,
+        query,
+        Extreme::Low,
+        test_at(far, Extreme::Low),
+        key_at(Extreme::Low, number),
+        found,
+        nodes,
+    )?;
+    let On { stand: low, found } = match stood {
+        Stood::At(on) => on,
+        Stood::Empty(tree) => return Ok(Pair::Empty(tree)),
+    };
+    let stood = search_end(
+        alloc,
+        schema,
+        constraints,
+        cells,
+        query,
+        Extreme::High,
+        test_at(far, Extreme::High),
+        key_at(Extreme::High, number),
+        found,
+        nodes,
+    )?;
+    match stood {
+        Stood::At(on) => Ok(Pair::At {
+            low,
+            high: on.stand,
+            found: on.found,
+        }),
+        Stood::Empty(tree) => Ok(Pair::Empty(tree)),
+    }
+}
+
+/// The far end is reached, and the near one avoided.
+fn test_at(far: Extreme, extreme: Extreme) -> Test
+    ensures { result ≡ test_at far extreme }
+{
+    if far == extreme {
+        Test::Reach
+    } else {
+        Test::Avoid
+    }
+}
+
+/// The key of the observed rows at an end.
+fn key_at(extreme: Extreme, number: Option<i64>) -> Option<i128>
+    ensures { result ≡ key_at extreme number }
+{
+    let number = i128::from(number?);
+    match extreme {
+        Extreme::Low => Some(-number),
+        Extreme::High => Some(number),
+    }
+}

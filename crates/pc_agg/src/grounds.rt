@@ -1,0 +1,183 @@
+ghost use Rattle.std.specs.Prelude.{◌≡◌, ◌<◌, ◌≤◌, true, false, All, Any, IfOk, IsTrue, length};
+ghost use Rattle.pc_model.specs.Accepted.{AreConstraints};
+ghost use Rattle.pc_model.specs.Membership.{AreDisjoint};
+ghost use Rattle.pc_model.specs.WellFormed.{IsWellFormed};
+ghost use Rattle.pc_cells.specs.declared.cells.Cell.{Cell};
+ghost use Rattle.pc_licence.specs.Pools.{AreLawful};
+ghost use Rattle.pc_agg.specs.Asked.{AreCells};
+ghost use Rattle.pc_agg.specs.Grounds.{want_for, HasValues, IsGrounded, IsGroundedSurely, IsLacking, IsLackingSurely, IsUnlistedIfNone};
+ghost use Rattle.pc_agg.specs.Settings.{unseen};
+
+use crate::gains::chosen_program;
+use crate::one_leaf::flat_tree;
+use crate::probe::{Probed, Verdict, probe};
+use crate::settling::{Settled, settle_totals};
+use crate::want::Want;
+use pc_cells::Cells;
+use pc_list::Seq;
+use pc_model::{Constraint, Query, Schema, Tree};
+use pc_num::Memory;
+use pc_proof::{NeverBy, Relation, Why};
+use std::alloc::Global;
+
+/// Whether the aggregate can lack a value: never, or it may, unless the budget was spent.
+#[derive(Debug, Drop)]
+pub(crate) enum Lacking {
+    Never(NeverBy),
+    Open,
+}
+
+/// What is known of the lack, and the counts that were found.
+#[derive(Debug, Drop)]
+pub(crate) struct Grounds {
+    pub lacking: Lacking,
+    pub found: Seq<Seq<u64>>,
+}
+
+/// What the programs of all rows and of the chosen ones come to: that there is no list, that none gives a value, or neither.
+/// Then a list with a value was found, or may be there.
+#[derive(Debug, Drop)]
+pub(crate) enum Grounded {
+    Impossible(Why),
+    Always(Tree, Seq<Seq<u64>>),
+    Open(Grounds),
+}
+
+/// Searches for lists, for those without a chosen row, and for those with one, where rows were observed or not.
+pub(crate) fn ground(
+    alloc: Global,
+    schema: &Schema,
+    constraints: &[Constraint],
+    cells: &Cells,
+    query: &Query,
+    observed: bool,
+    nodes: u32,
+) -> Result<Grounded, Memory>
+    requires well_formed { IsWellFormed schema.now }
+    requires constraints { AreConstraints schema.now constraints.now }
+    requires cells { AreCells schema.now constraints.now query.now cells.now }
+    requires nodes { (1 ≤ nodes) × (nodes ≤ 100_000) }
+    ensures grounded { IfOk result (IsGrounded (unseen schema.now constraints.now query.now cells.now.tree.nodes) observed nodes) }
+    ensures disjoint { AreDisjoint schema.now constraints.now → IfOk result (IsGroundedSurely (unseen schema.now constraints.now query.now cells.now.tree.nodes) observed) }
+{
+    let Settled {
+        relation,
+        lack: _,
+        found,
+    } = settle_totals(alloc, schema, constraints, cells, query, nodes)?;
+    if let Relation::Impossible(why) = relation {
+        return Ok(Grounded::Impossible(why));
+    }
+    if observed {
+        let lacking = Lacking::Never(NeverBy::Rows);
+        return ground_most(
+            alloc,
+            schema,
+            constraints,
+            cells,
+            query,
+            true,
+            lacking,
+            found,
+            nodes,
+        );
+    }
+    ground_unseen(alloc, schema, constraints, cells, query, found, nodes)
+}
+
+/// The same where no row was observed, so that a list without chosen rows gives no value.
+fn ground_unseen(
+    alloc: Global,
+    schema: &Schema,
+    constraints: &[Constraint],
+    cells: &Cells,
+    query: &Query,
+    found: Seq<Seq<u64>>,
+    nodes: u32,
+) -> Result<Grounded, Memory>
+    requires well_formed { IsWellFormed schema.now }
+    requires constraints { AreConstraints schema.now constraints.now }
+    requires cells { AreCells schema.now constraints.now query.now cells.now }
+    requires lawful { All (AreLawful (unseen schema.now constraints.now query.now cells.now.tree.nodes)) found }
+    requires totals { IsUnlistedIfNone (unseen schema.now constraints.now query.now cells.now.tree.nodes) nodes found }
+    requires nodes { (1 ≤ nodes) × (nodes ≤ 100_000) }
+    ensures grounded { IfOk result (IsGrounded (unseen schema.now constraints.now query.now cells.now.tree.nodes) false nodes) }
+    ensures disjoint { AreDisjoint schema.now constraints.now → 0 < length found → IfOk result (IsGroundedSurely (unseen schema.now constraints.now query.now cells.now.tree.nodes) false) }
+{
+    if !has_chosen(cells) {
+        let tree = flat_tree(alloc, constraints.len())?;
+        return Ok(Grounded::Always(tree, found));
+    }
+    let fewest = chosen_program(alloc, schema, constraints, cells, query, -1)?;
+    let Probed { verdict, found } = probe(alloc, &fewest, Want::Without, found, nodes)?;
+    let lacking = match verdict {
+        Verdict::Empty(tree) => return Ok(Grounded::Impossible(Why::Void(tree))),
+        Verdict::Short(tree) => Lacking::Never(NeverBy::Tree(tree)),
+        Verdict::Open => Lacking::Open,
+    };
+    ground_most(
+        alloc,
+        schema,
+        constraints,
+        cells,
+        query,
+        false,
+        lacking,
+        found,
+        nodes,
+    )
+}
+
+/// Whether some cell is chosen.
+fn has_chosen(cells: &Cells) -> bool
+    ensures some { IsTrue result → Any (λ (cell : Cell). cell.chosen ≡ true) cells.now.cells }
+    ensures none { result ≡ false → All (λ (cell : Cell). cell.chosen ≡ true → ⊥) cells.now.cells }
+{
+    for cell in cells.cells.as_slice() {
+        if cell.chosen {
+            return true;
+        }
+    }
+    false
+}
+
+/// Searches for a list with a chosen row, or for any list where rows were observed.
+fn ground_most(
+    alloc: Global,
+    schema: &Schema,
+    constraints: &[Constraint],
+    cells: &Cells,
+    query: &Query,
+    observed: bool,
+    lacking: Lacking,
+    found: Seq<Seq<u64>>,
+    nodes: u32,
+) -> Result<Grounded, Memory>
+    requires well_formed { IsWellFormed schema.now }
+    requires constraints { AreConstraints schema.now constraints.now }
+    requires cells { AreCells schema.now constraints.now query.now cells.now }
+    requires some { HasValues (unseen schema.now constraints.now query.now cells.now.tree.nodes) observed }
+    requires lawful { All (AreLawful (unseen schema.now constraints.now query.now cells.now.tree.nodes)) found }
+    requires totals { IsUnlistedIfNone (unseen schema.now constraints.now query.now cells.now.tree.nodes) nodes found }
+    requires lacking { IsLacking (unseen schema.now constraints.now query.now cells.now.tree.nodes) observed nodes found lacking }
+    requires nodes { (1 ≤ nodes) × (nodes ≤ 100_000) }
+    ensures grounded { IfOk result (IsGrounded (unseen schema.now constraints.now query.now cells.now.tree.nodes) observed nodes) }
+    ensures disjoint { AreDisjoint schema.now constraints.now → 0 < length found → IsLackingSurely (unseen schema.now constraints.now query.now cells.now.tree.nodes) found lacking → IfOk result (IsGroundedSurely (unseen schema.now constraints.now query.now cells.now.tree.nodes) observed) }
+{
+    let most = chosen_program(alloc, schema, constraints, cells, query, 1)?;
+    let want = want_for(observed);
+    let Probed { verdict, found } = probe(alloc, &most, want, found, nodes)?;
+    match verdict {
+        Verdict::Empty(tree) => Ok(Grounded::Impossible(Why::Void(tree))),
+        Verdict::Short(tree) if observed => Ok(Grounded::Impossible(Why::Void(tree))),
+        Verdict::Short(tree) => Ok(Grounded::Always(tree, found)),
+        Verdict::Open => Ok(Grounded::Open(Grounds { lacking, found })),
+    }
+}
+
+/// Where rows were observed, each list gives a value, and else those with a chosen row.
+pub(crate) fn want_for(observed: bool) -> Want
+    ensures { result ≡ want_for observed }
+{
+    if observed { Want::Any } else { Want::Gaining }
+}

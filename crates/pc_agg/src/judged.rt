@@ -1,0 +1,228 @@
+ghost use Rattle.std.specs.Prelude.{◌≡◌, ◌≤◌, ◌^◌, nat_abs, List, All, IfOk, length};
+ghost use Rattle.std.specs.List.{AllZip};
+ghost use Rattle.pc_model.specs.Accepted.{AreConstraints};
+ghost use Rattle.pc_model.specs.Cells.{IsInSome};
+ghost use Rattle.pc_model.specs.WellFormed.{IsWellFormed};
+ghost use Rattle.pc_cells.specs.declared.cells.Cell.{Cell};
+ghost use Rattle.pc_cells.specs.Found.{IsFilled};
+ghost use Rattle.pc_model.specs.declared.row.Row.{Row};
+ghost use Rattle.pc_licence.specs.Pools.{AreLawful};
+ghost use Rattle.pc_agg.specs.Asked.{AreCells};
+ghost use Rattle.pc_agg.specs.Extremes.{always_as, crossed, judged, relation_from, CanStand, IsJudged, IsLackFrom, IsOpenLack};
+ghost use Rattle.pc_agg.specs.Ends.{signed};
+ghost use Rattle.pc_agg.specs.Settings.{unseen};
+ghost use Rattle.pc_agg.specs.Stands.{IsEndAt, IsMarkedBy};
+
+use crate::bounds::{bounded_by, impossible_by};
+use crate::extreme::Extreme;
+use crate::gains::chosen_program;
+use crate::grounds::Lacking;
+use crate::probe::find_wanted;
+use crate::settling::rows_of_cells;
+use crate::stand::Stand;
+use crate::want::Want;
+use pc_cells::Cells;
+use pc_list::Seq;
+use pc_model::{Constraint, Query, Row, Schema};
+use pc_num::{Frac, Memory};
+use pc_proof::{AlwaysBy, Answer, End, Lack, Mark, Relation, Why};
+use pc_witness::rebuild;
+use std::alloc::Global;
+
+/// The answer where both ends stand, over all counts that were found.
+pub(crate) fn judge(
+    alloc: Global,
+    schema: &Schema,
+    constraints: &[Constraint],
+    cells: &Cells,
+    query: &Query,
+    observed: bool,
+    lacking: Lacking,
+    low: Stand,
+    high: Stand,
+    found: Seq<Seq<u64>>,
+) -> Result<Answer, Memory>
+    requires well_formed { IsWellFormed schema.now }
+    requires constraints { AreConstraints schema.now constraints.now }
+    requires cells { AreCells schema.now constraints.now query.now cells.now }
+    requires lawful { All (AreLawful (unseen schema.now constraints.now query.now cells.now.tree.nodes)) found }
+    requires sized { length low.picks ≡ length cells.now.cells }
+    requires low { CanStand low found }
+    requires high { CanStand high found }
+    ensures { IfOk result (IsJudged (unseen schema.now constraints.now query.now cells.now.tree.nodes) observed lacking low high found) }
+{
+    let picks = low.picks.as_slice();
+    let relation = relation_from(alloc, picks, found.as_slice())?;
+    let lack = lack_from(
+        alloc,
+        schema,
+        constraints,
+        cells,
+        query,
+        lacking,
+        picks,
+        found.as_slice(),
+    )?;
+    let low = end_at(alloc, Extreme::Low, low, found.as_slice())?;
+    let high = end_at(alloc, Extreme::High, high, found.as_slice())?;
+    Ok(judged(observed, relation, lack, low, high))
+}
+
+/// The relation, the lack and both ends, unless the ends cross.
+fn judged(observed: bool, relation: Relation, lack: Lack, low: End, high: End) -> Answer
+    ensures { result ≡ judged observed relation lack low high }
+{
+    if high.value.num < low.value.num {
+        return crossed(observed, relation, low, high);
+    }
+    Answer {
+        relation,
+        lack,
+        ends: Some((low, high)),
+    }
+}
+
+/// Ends that cross leave nothing possible where rows were observed, and else no list with a value.
+fn crossed(observed: bool, relation: Relation, low: End, high: End) -> Answer
+    ensures { result ≡ crossed observed relation low high }
+{
+    if observed {
+        return impossible_by(Why::Ends(bounded_by(low), bounded_by(high)));
+    }
+    always_as(relation, AlwaysBy::Ends(bounded_by(low), bounded_by(high)))
+}
+
+fn always_as(relation: Relation, by: AlwaysBy) -> Answer
+    ensures { result ≡ always_as relation by }
+{
+    Answer {
+        relation,
+        lack: Lack::Always(by),
+        ends: None,
+    }
+}
+
+/// No list gives a value, over a row of each cell.
+pub(crate) fn always_by(
+    alloc: Global,
+    cells: &Cells,
+    found: &[Seq<u64>],
+    by: AlwaysBy,
+) -> Result<Answer, Memory>
+    requires filled { All IsFilled cells.now.cells }
+    requires sized { All (λ counts. length counts ≡ length cells.now.cells) found.now }
+    ensures { IfOk result (λ answer. (picks : List Row) × AllZip (λ (cell : Cell) row. IsInSome cell.leaves row) cells.now.cells picks × (answer ≡ always_as (relation_from picks found.now) by)) }
+{
+    let picks = rows_of_cells(alloc, cells)?;
+    let relation = relation_from(alloc, picks.as_slice(), found)?;
+    Ok(always_as(relation, by))
+}
+
+/// A list of the first counts that were found.
+pub(crate) fn relation_from(
+    alloc: Global,
+    picks: &[Row],
+    found: &[Seq<u64>],
+) -> Result<Relation, Memory>
+    requires sized { All (λ counts. length picks.now ≡ length counts) found.now }
+    ensures { IfOk result (λ relation. relation ≡ relation_from picks.now found.now) }
+{
+    let Some(counts) = found.first() else {
+        return Ok(Relation::Undecided);
+    };
+    let runs = rebuild(alloc, picks, counts.as_slice())?;
+    Ok(Relation::Possible(runs))
+}
+
+/// What is known of the lack, with lists of both kinds where it may be there and may not.
+pub(crate) fn lack_from(
+    alloc: Global,
+    schema: &Schema,
+    constraints: &[Constraint],
+    cells: &Cells,
+    query: &Query,
+    lacking: Lacking,
+    picks: &[Row],
+    found: &[Seq<u64>],
+) -> Result<Lack, Memory>
+    requires well_formed { IsWellFormed schema.now }
+    requires constraints { AreConstraints schema.now constraints.now }
+    requires cells { AreCells schema.now constraints.now query.now cells.now }
+    requires lawful { All (AreLawful (unseen schema.now constraints.now query.now cells.now.tree.nodes)) found.now }
+    requires sized { length picks.now ≡ length cells.now.cells }
+    ensures { IfOk result (IsLackFrom (unseen schema.now constraints.now query.now cells.now.tree.nodes) picks.now found.now lacking) }
+{
+    match lacking {
+        Lacking::Never(by) => Ok(Lack::Never(by)),
+        Lacking::Open => open_lack(alloc, schema, constraints, cells, query, picks, found),
+    }
+}
+
+fn open_lack(
+    alloc: Global,
+    schema: &Schema,
+    constraints: &[Constraint],
+    cells: &Cells,
+    query: &Query,
+    picks: &[Row],
+    found: &[Seq<u64>],
+) -> Result<Lack, Memory>
+    requires well_formed { IsWellFormed schema.now }
+    requires constraints { AreConstraints schema.now constraints.now }
+    requires cells { AreCells schema.now constraints.now query.now cells.now }
+    requires lawful { All (AreLawful (unseen schema.now constraints.now query.now cells.now.tree.nodes)) found.now }
+    requires sized { length picks.now ≡ length cells.now.cells }
+    ensures { IfOk result (IsOpenLack (unseen schema.now constraints.now query.now cells.now.tree.nodes) picks.now found.now) }
+{
+    let fewest = chosen_program(alloc, schema, constraints, cells, query, -1)?;
+    let Some(without) = find_wanted(&fewest, Want::Without, found) else {
+        return Ok(Lack::Undecided);
+    };
+    let most = chosen_program(alloc, schema, constraints, cells, query, 1)?;
+    let Some(with) = find_wanted(&most, Want::Gaining, found) else {
+        return Ok(Lack::Undecided);
+    };
+    let without = rebuild(alloc, picks, found[without].as_slice())?;
+    let with = rebuild(alloc, picks, found[with].as_slice())?;
+    Ok(Lack::Sometimes { without, with })
+}
+
+/// The end of a stand, reached where some counts that were found are wanted.
+fn end_at(alloc: Global, extreme: Extreme, stand: Stand, found: &[Seq<u64>]) -> Result<End, Memory>
+    requires can { CanStand stand found.now }
+    ensures { IfOk result (IsEndAt extreme stand found.now) }
+{
+    let mark = mark_at(alloc, &stand, found)?;
+    Ok(End {
+        value: Frac {
+            num: number_at(extreme, stand.key),
+            den: 1,
+        },
+        mark,
+        proof: stand.proof,
+    })
+}
+
+/// The number of a key.
+fn number_at(extreme: Extreme, key: i128) -> i128
+    requires { nat_abs key ≤ 2 ^ 63 }
+    ensures { result ≡ signed extreme key }
+{
+    match extreme {
+        Extreme::Low => -key,
+        Extreme::High => key,
+    }
+}
+
+fn mark_at(alloc: Global, stand: &Stand, found: &[Seq<u64>]) -> Result<Mark, Memory>
+    requires can { CanStand stand.now found.now }
+    ensures { IfOk result (IsMarkedBy stand.now found.now) }
+{
+    match find_wanted(&stand.program, stand.want, found) {
+        Some(place) => {
+            let runs = rebuild(alloc, stand.picks.as_slice(), found[place].as_slice())?;
+            Ok(Mark::Exact(runs))
+        }
+        None => Ok(Mark::Outer),
+    }
+}

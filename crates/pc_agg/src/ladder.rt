@@ -1,0 +1,131 @@
+ghost use Rattle.std.specs.Prelude.{◌≡◌, ◌++◌, ◌&&◌, [], ◌∷◌, cond, length, map, IfOk};
+ghost use Rattle.std.specs.Option.{option_to_list};
+ghost use Rattle.pc_model.specs.Cells.{classes_of, leaves_in};
+ghost use Rattle.pc_model.specs.WellFormed.{IsWellFormed};
+ghost use Rattle.pc_proof.specs.Setting.{on_chosen};
+ghost use Rattle.pc_agg.specs.Asked.{AreCells};
+ghost use Rattle.pc_agg.specs.Kept.{passes, AreKept};
+ghost use Rattle.pc_agg.specs.Rungs.{key_of, AreRungs, IsLadder};
+ghost use Rattle.pc_agg.specs.Settings.{unseen};
+
+use crate::extreme::Extreme;
+use crate::falling::falling_of;
+use pc_cells::{Cell, Cells};
+use pc_list::Seq;
+use pc_model::{Constraint, Query, Schema};
+use pc_num::Memory;
+use std::alloc::Global;
+
+/// How an end is tested at a number: whether some list has a row that reaches it, or whether some list has no row that
+/// falls short of it.
+#[derive(Clone, Copy, Debug, PartialEq, Eq)]
+pub(crate) enum Test {
+    Reach,
+    Avoid,
+}
+
+/// The keys of the cells towards an end, and the keys at which the end can stand, greatest first. A key is the number at
+/// the end, with its sign turned for a low end, so that a greater key is farther out. It is 0 for a cell that is not
+/// chosen.
+#[derive(Debug, Drop)]
+pub(crate) struct Ladder {
+    pub extreme: Extreme,
+    pub test: Test,
+    pub keys: Seq<i128>,
+    pub rungs: Seq<i128>,
+}
+
+/// The ladder of an end, where the observed rows reach a key.
+pub(crate) fn ladder_of(
+    alloc: Global,
+    schema: &Schema,
+    constraints: &[Constraint],
+    cells: &Cells,
+    query: &Query,
+    extreme: Extreme,
+    test: Test,
+    keys: Seq<i128>,
+    seen: Option<i128>,
+) -> Result<Ladder, Memory>
+    requires well_formed { IsWellFormed schema.now }
+    requires cells { AreCells schema.now constraints.now query.now cells.now }
+    requires keyed { keys ≡ map (on_chosen (key_of (unseen schema.now constraints.now query.now cells.now.tree.nodes) extreme)) (classes_of (leaves_in schema.now cells.now.tree.nodes)) }
+    ensures extreme { IfOk result (λ ladder. ladder.extreme ≡ extreme) }
+    ensures test { IfOk result (λ ladder. ladder.test ≡ test) }
+    ensures keyed { IfOk result (IsLadder (unseen schema.now constraints.now query.now cells.now.tree.nodes)) }
+    ensures rungs { IfOk result (λ ladder. AreRungs (unseen schema.now constraints.now query.now cells.now.tree.nodes) extreme test seen ladder.rungs) }
+{
+    let kept = kept_keys(alloc, cells.cells.as_slice(), keys.as_slice(), test, seen)?;
+    let numbers = with_seen(kept, seen)?;
+    let rungs = falling_of(alloc, numbers.into_vec())?;
+    Ok(Ladder {
+        extreme,
+        test,
+        keys,
+        rungs,
+    })
+}
+
+/// The keys of chosen cells that pass.
+fn kept_keys(
+    alloc: Global,
+    cells: &[Cell],
+    keys: &[i128],
+    test: Test,
+    seen: Option<i128>,
+) -> Result<Seq<i128>, Memory>
+    requires sized { length keys.now ≡ length cells.now }
+    ensures { IfOk result (AreKept cells.now keys.now test seen (length cells.now)) }
+{
+    let mut kept = Seq::new(alloc);
+    for place in 0..cells.len() {
+        let keeps = is_kept(&cells[place], keys[place], test, seen);
+        kept = with_key(kept, keys[place], keeps)?;
+    }
+    Ok(kept)
+}
+
+fn is_kept(cell: &Cell, key: i128, test: Test, seen: Option<i128>) -> bool
+    ensures { result ≡ (cell.now.chosen && passes test seen key) }
+{
+    if !cell.chosen {
+        return false;
+    }
+    passes(test, seen, key)
+}
+
+/// Whether a key is above what was observed, or below it.
+fn passes(test: Test, seen: Option<i128>, key: i128) -> bool
+    ensures { result ≡ passes test seen key }
+{
+    let Some(observed) = seen else {
+        return true;
+    };
+    match test {
+        Test::Reach => observed < key,
+        Test::Avoid => key < observed,
+    }
+}
+
+fn with_key(kept: Seq<i128>, key: i128, keeps: bool) -> Result<Seq<i128>, Memory>
+    ensures { IfOk result (λ more. more ≡ cond keeps (kept ++ key ∷ []) kept) }
+{
+    if !keeps {
+        return Ok(kept);
+    }
+    let mut more = kept;
+    more.push(key)?;
+    Ok(more)
+}
+
+/// The keys with what was observed, where it is there.
+fn with_seen(kept: Seq<i128>, seen: Option<i128>) -> Result<Seq<i128>, Memory>
+    ensures { IfOk result (λ all. all ≡ kept ++ option_to_list seen) }
+{
+    let Some(observed) = seen else {
+        return Ok(kept);
+    };
+    let mut all = kept;
+    all.push(observed)?;
+    Ok(all)
+}

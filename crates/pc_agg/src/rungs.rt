@@ -1,0 +1,157 @@
+ghost use Rattle.std.specs.Prelude.{◌≡◌, ◌<◌, ◌≤◌, ◌&&◌, pos, int_le, int_lt, cond, length, map, IfOk};
+ghost use Rattle.pc_model.specs.WellFormed.{IsWellFormed};
+ghost use Rattle.pc_model.specs.Accepted.{AreConstraints};
+ghost use Rattle.pc_model.specs.Membership.{AreDisjoint};
+ghost use Rattle.pc_bound.specs.Allocation.{IsProgram};
+ghost use Rattle.pc_bound.specs.Sums.{int_at};
+ghost use Rattle.pc_bound.specs.CellPrograms.{program_with};
+ghost use Rattle.pc_branch.specs.Ends.{HasSmallGains};
+ghost use Rattle.pc_program.specs.Settled.{HasOneBits};
+ghost use Rattle.pc_tableau.specs.Numbers.{table};
+ghost use Rattle.pc_cells.specs.Found.{class_of_cell};
+ghost use Rattle.pc_agg.specs.Asked.{AreCells};
+ghost use Rattle.pc_agg.specs.Keyed.{reach_gain, avoid_cap, chosen_gain, with_closed, tested_program};
+ghost use Rattle.pc_agg.specs.Rungs.{program_at, IsLadder};
+ghost use Rattle.pc_agg.specs.Settings.{unseen};
+
+use crate::gains::chosen_gains;
+use crate::ladder::{Ladder, Test};
+use crate::programs::program_of;
+use pc_bound::Program;
+use pc_cells::{Cell, Cells};
+use pc_list::Seq;
+use pc_model::{Constraint, Query, Schema};
+use pc_num::Memory;
+use std::alloc::Global;
+
+/// The program that tests a rung.
+pub(crate) fn program_at(
+    alloc: Global,
+    schema: &Schema,
+    constraints: &[Constraint],
+    cells: &Cells,
+    query: &Query,
+    ladder: &Ladder,
+    place: usize,
+) -> Result<Program, Memory>
+    requires well_formed { IsWellFormed schema.now }
+    requires constraints { AreConstraints schema.now constraints.now }
+    requires cells { AreCells schema.now constraints.now query.now cells.now }
+    requires keyed { IsLadder (unseen schema.now constraints.now query.now cells.now.tree.nodes) ladder.now }
+    requires there { place < length ladder.now.rungs }
+    ensures program { IfOk result (λ p. p ≡ program_at (unseen schema.now constraints.now query.now cells.now.tree.nodes) ladder.now place) }
+    ensures is_program { IfOk result IsProgram }
+    ensures small { IfOk result HasSmallGains }
+    ensures disjoint { AreDisjoint schema.now constraints.now → IfOk result HasOneBits }
+{
+    tested(alloc, constraints, cells, ladder, place)
+}
+
+/// The same by what the cells and the keys say alone.
+fn tested(
+    alloc: Global,
+    constraints: &[Constraint],
+    cells: &Cells,
+    ladder: &Ladder,
+    place: usize,
+) -> Result<Program, Memory>
+    requires keyed { length ladder.now.keys ≡ length cells.now.cells }
+    requires there { place < length ladder.now.rungs }
+    ensures { IfOk result (λ p. p ≡ tested_program constraints.now cells.now.cells ladder.now.keys (int_at ladder.now.rungs place) ladder.now.test) }
+{
+    let listed = cells.cells.as_slice();
+    let keys = ladder.keys.as_slice();
+    let rung = ladder.rungs.as_slice()[place];
+    match ladder.test {
+        Test::Reach => reaching(alloc, constraints, listed, keys, rung),
+        Test::Avoid => avoiding(alloc, constraints, listed, keys, rung),
+    }
+}
+
+/// The program that counts the rows of the chosen cells whose keys reach a rung.
+fn reaching(
+    alloc: Global,
+    constraints: &[Constraint],
+    cells: &[Cell],
+    keys: &[i128],
+    rung: i128,
+) -> Result<Program, Memory>
+    requires keyed { length keys.now ≡ length cells.now }
+    ensures { IfOk result (λ p. p ≡ program_with constraints.now (map class_of_cell cells.now) (table (length cells.now) (reach_gain cells.now keys.now rung))) }
+{
+    let gains = reach_gains(alloc, cells, keys, rung)?;
+    program_of(alloc, constraints, cells, gains)
+}
+
+#[tactic(auto, using(pc_tableau::proofs::Tables::table_steps))]
+fn reach_gains(
+    alloc: Global,
+    cells: &[Cell],
+    keys: &[i128],
+    rung: i128,
+) -> Result<Seq<i128>, Memory>
+    requires keyed { length keys.now ≡ length cells.now }
+    ensures { IfOk result (λ gains. gains ≡ table (length cells.now) (reach_gain cells.now keys.now rung)) }
+{
+    let mut gains = Seq::new(alloc);
+    for cell in 0..cells.len() {
+        gains.push(gain_at(cells[cell].chosen, keys[cell], rung))?;
+    }
+    Ok(gains)
+}
+
+fn gain_at(chosen: bool, key: i128, rung: i128) -> i128
+    ensures { result ≡ cond (chosen && int_le rung key) (pos 1) (pos 0) }
+{
+    if chosen && rung <= key {
+        return 1;
+    }
+    0
+}
+
+/// The program that counts the chosen rows, with none in the cells whose keys fall short of a rung.
+fn avoiding(
+    alloc: Global,
+    constraints: &[Constraint],
+    cells: &[Cell],
+    keys: &[i128],
+    rung: i128,
+) -> Result<Program, Memory>
+    requires keyed { length keys.now ≡ length cells.now }
+    ensures { IfOk result (λ p. p ≡ with_closed (program_with constraints.now (map class_of_cell cells.now) (table (length cells.now) (chosen_gain cells.now (pos 1)))) cells.now keys.now rung) }
+{
+    let gains = chosen_gains(alloc, cells, 1)?;
+    let open = program_of(alloc, constraints, cells, gains)?;
+    let cap = open_caps(alloc, cells, keys, open.cap.as_slice(), rung)?;
+    let mut program = open;
+    program.cap = cap;
+    Ok(program)
+}
+
+#[tactic(auto, using(pc_tableau::proofs::Tables::table_steps))]
+fn open_caps(
+    alloc: Global,
+    cells: &[Cell],
+    keys: &[i128],
+    caps: &[u64],
+    rung: i128,
+) -> Result<Seq<u64>, Memory>
+    requires keyed { length keys.now ≡ length cells.now }
+    requires capped { length caps.now ≡ length cells.now }
+    ensures { IfOk result (λ left. left ≡ table (length cells.now) (avoid_cap cells.now keys.now caps.now rung)) }
+{
+    let mut left = Seq::new(alloc);
+    for cell in 0..cells.len() {
+        left.push(cap_at(cells[cell].chosen, keys[cell], caps[cell], rung))?;
+    }
+    Ok(left)
+}
+
+fn cap_at(chosen: bool, key: i128, cap: u64, rung: i128) -> u64
+    ensures { result ≡ cond (chosen && int_lt key rung) 0 cap }
+{
+    if chosen && key < rung {
+        return 0;
+    }
+    cap
+}

@@ -1,0 +1,241 @@
+ghost use Rattle.std.specs.Prelude.{◌≡◌, ◌-◌, ◌<◌, ◌≤◌, ◌^◌, ◌==◌, nat_abs, length, All, Any, IfOk, IfSome, IsSomeAnd, is_some};
+ghost use Rattle.pc_model.specs.Accepted.{AreConstraints, IsNumeric, IsColumnWhere};
+ghost use Rattle.pc_model.specs.Membership.{AreDisjoint};
+ghost use Rattle.pc_model.specs.WellFormed.{IsWellFormed};
+ghost use Rattle.pc_licence.specs.Pools.{AreLawful};
+ghost use Rattle.pc_agg.specs.Asked.{AreCells};
+ghost use Rattle.pc_agg.specs.Grounds.{most_chosen, want_for, HasValues};
+ghost use Rattle.pc_agg.specs.Rungs.{IsLadder};
+ghost use Rattle.pc_agg.specs.Settings.{unseen};
+ghost use Rattle.pc_agg.specs.Stands.{is_observed, proof_of, want_at, IsAttaining, IsStood, IsStoodOn, IsStoodSurely};
+ghost use Rattle.pc_agg.specs.Wants.{IsDoubt, IsFound};
+
+use crate::climb::{Climbed, Standing, climb};
+use crate::extreme::Extreme;
+use crate::gains::total_program;
+use crate::grounds::want_for;
+use crate::ladder::{Ladder, Test, ladder_of};
+use crate::one_leaf::flat_tree;
+use crate::rungs::program_at;
+use crate::targets::{Targets, find_keys};
+use crate::want::Want;
+use pc_bound::Program;
+use pc_cells::Cells;
+use pc_list::Seq;
+use pc_model::{Constraint, Query, Row, Schema, Tree};
+use pc_num::Memory;
+use pc_proof::Proof;
+use std::alloc::Global;
+
+/// Where an end stands: its key, what shows that it holds, the program whose wanted counts attain it, and a row of each
+/// cell with the cell's number at that end.
+#[derive(Debug, Drop)]
+pub(crate) struct Stand {
+    pub key: i128,
+    pub proof: Proof,
+    pub program: Program,
+    pub want: Want,
+    pub picks: Seq<Row>,
+}
+
+/// A stand, with all counts that were found so far.
+#[derive(Debug, Drop)]
+pub(crate) struct On {
+    pub stand: Stand,
+    pub found: Seq<Seq<u64>>,
+}
+
+/// Where an end stands, or a tree that shows that there is no list.
+#[derive(Debug, Drop)]
+pub(crate) enum Stood {
+    At(On),
+    Empty(Tree),
+}
+
+/// Searches an end of a least or a greatest number by one of the tests, where the observed rows reach a key.
+pub(crate) fn search_end(
+    alloc: Global,
+    schema: &Schema,
+    constraints: &[Constraint],
+    cells: &Cells,
+    query: &Query,
+    extreme: Extreme,
+    test: Test,
+    seen: Option<i128>,
+    found: Seq<Seq<u64>>,
+    nodes: u32,
+) -> Result<Stood, Memory>
+    requires well_formed { IsWellFormed schema.now }
+    requires constraints { AreConstraints schema.now constraints.now }
+    requires numbers { IsSomeAnd query.now.column (IsColumnWhere IsNumeric schema.now) }
+    requires cells { AreCells schema.now constraints.now query.now cells.now }
+    requires some { HasValues (unseen schema.now constraints.now query.now cells.now.tree.nodes) (is_some seen) }
+    requires lawful { All (AreLawful (unseen schema.now constraints.now query.now cells.now.tree.nodes)) found }
+    requires doubt { IsDoubt (most_chosen (unseen schema.now constraints.now query.now cells.now.tree.nodes)) (want_for (is_some seen)) nodes found }
+    requires small_seen { IfSome seen (λ m. nat_abs m ≤ 2 ^ 63) }
+    requires nodes { (1 ≤ nodes) × (nodes ≤ 100_000) }
+    ensures stood { IfOk result (IsStood (unseen schema.now constraints.now query.now cells.now.tree.nodes) nodes extreme test seen found) }
+    ensures disjoint { AreDisjoint schema.now constraints.now → 0 < length found → Any (IsFound (most_chosen (unseen schema.now constraints.now query.now cells.now.tree.nodes)) (want_for (is_some seen))) found → IfOk result IsStoodSurely }
+{
+    let Targets { gains, picks } = find_keys(alloc, schema, constraints, cells, query, extreme)?;
+    let observed = seen.is_some();
+    let ladder = ladder_of(
+        alloc,
+        schema,
+        constraints,
+        cells,
+        query,
+        extreme,
+        test,
+        gains,
+        seen,
+    )?;
+    let want = want_at(test, observed);
+    let climbed = climb(
+        alloc,
+        schema,
+        constraints,
+        cells,
+        query,
+        &ladder,
+        want,
+        found,
+        nodes,
+    )?;
+    match climbed {
+        Climbed::Empty(tree) => Ok(Stood::Empty(tree)),
+        Climbed::At(standing) => {
+            let on = stand_on(
+                alloc,
+                schema,
+                constraints,
+                cells,
+                query,
+                &ladder,
+                observed,
+                standing,
+                picks,
+            )?;
+            Ok(Stood::At(on))
+        }
+    }
+}
+
+/// Which counts attain an end.
+fn want_at(test: Test, observed: bool) -> Want
+    ensures { result ≡ want_at test observed }
+{
+    match test {
+        Test::Reach => Want::Gaining,
+        Test::Avoid => want_for(observed),
+    }
+}
+
+/// The stand on a rung of the ladder.
+fn stand_on(
+    alloc: Global,
+    schema: &Schema,
+    constraints: &[Constraint],
+    cells: &Cells,
+    query: &Query,
+    ladder: &Ladder,
+    observed: bool,
+    standing: Standing,
+    picks: Seq<Row>,
+) -> Result<On, Memory>
+    requires well_formed { IsWellFormed schema.now }
+    requires constraints { AreConstraints schema.now constraints.now }
+    requires cells { AreCells schema.now constraints.now query.now cells.now }
+    requires keyed { IsLadder (unseen schema.now constraints.now query.now cells.now.tree.nodes) ladder.now }
+    requires inside { standing.place < length ladder.now.rungs }
+    ensures stood { IfOk result (λ on. IsStoodOn (unseen schema.now constraints.now query.now cells.now.tree.nodes) (length constraints.now) ladder.now observed standing picks on.stand on.found) }
+{
+    let Standing { place, tree, found } = standing;
+    let key = ladder.rungs.as_slice()[place];
+    let proof = proof_of(alloc, constraints.len(), ladder.test, observed, tree)?;
+    let Attaining { program, want } = attaining_at(
+        alloc,
+        schema,
+        constraints,
+        cells,
+        query,
+        ladder,
+        observed,
+        place,
+    )?;
+    let stand = Stand {
+        key,
+        proof,
+        program,
+        want,
+        picks,
+    };
+    Ok(On { stand, found })
+}
+
+/// A program and which of its counts attain the end. Where a far end is that of an observed row, any list does.
+#[derive(Debug, Drop)]
+struct Attaining {
+    program: Program,
+    want: Want,
+}
+
+fn attaining_at(
+    alloc: Global,
+    schema: &Schema,
+    constraints: &[Constraint],
+    cells: &Cells,
+    query: &Query,
+    ladder: &Ladder,
+    observed: bool,
+    place: usize,
+) -> Result<Attaining, Memory>
+    requires well_formed { IsWellFormed schema.now }
+    requires constraints { AreConstraints schema.now constraints.now }
+    requires cells { AreCells schema.now constraints.now query.now cells.now }
+    requires keyed { IsLadder (unseen schema.now constraints.now query.now cells.now.tree.nodes) ladder.now }
+    requires inside { place < length ladder.now.rungs }
+    ensures { IfOk result (λ made. IsAttaining (unseen schema.now constraints.now query.now cells.now.tree.nodes) ladder.now observed place made.program made.want) }
+{
+    if is_observed(ladder, observed, place) {
+        let program = total_program(alloc, schema, constraints, cells, query, 1)?;
+        return Ok(Attaining {
+            program,
+            want: Want::Any,
+        });
+    }
+    let program = program_at(alloc, schema, constraints, cells, query, ladder, place)?;
+    let want = want_at(ladder.test, observed);
+    Ok(Attaining { program, want })
+}
+
+/// Whether the rung is that of an observed row at a far end.
+fn is_observed(ladder: &Ladder, observed: bool, place: usize) -> bool
+    requires inside { place < length ladder.now.rungs }
+    ensures { result ≡ is_observed ladder.now.test observed (length ladder.now.rungs - place == 1) }
+{
+    match ladder.test {
+        Test::Reach => observed && ladder.rungs.len() - place == 1,
+        Test::Avoid => false,
+    }
+}
+
+/// The tree of the rung before, or what shows the first rung: an observed row, or a tree of one leaf.
+fn proof_of(
+    alloc: Global,
+    constraints: usize,
+    test: Test,
+    observed: bool,
+    tree: Option<Tree>,
+) -> Result<Proof, Memory>
+    ensures { IfOk result (λ proof. proof ≡ proof_of constraints test observed tree) }
+{
+    if let Some(tree) = tree {
+        return Ok(Proof::Tree(tree));
+    }
+    if observed && test == Test::Avoid {
+        return Ok(Proof::Rows);
+    }
+    let tree = flat_tree(alloc, constraints)?;
+    Ok(Proof::Tree(tree))
+}
