@@ -1,13 +1,16 @@
 #!/usr/bin/env bash
-# Measures what `pc bound` spends on a count, a sum, a least and a greatest number where constraints overlap: over the month of examples/month, over
-# the cases of a folder, each with 500 drawn rows, and over a million rows of 12 columns. Of each it prints
+# Measures what `pc bound` spends on a count, a sum, a least and a greatest number and an average where constraints overlap:
+# over the month of examples/month, over the cases of a folder, each with 500 drawn rows, and over a million rows of 12
+# columns. Of each it prints
 # - the processor time of the whole call;
 # - the shares of reading, of the cells and of the search. Reading is the same call with no constraints. Cells are the same
 #   call less reading where each constraint allows no row: the domain is divided as before, and each program is over at
 #   once. The search is the rest;
 # - the time of bench/ends.sh, a script that is given the cells and has cbc solve a program for each end, or of
-#   bench/levels.sh, which has cbc halve the numbers of the cells for the ends of a least or a greatest number; and the ratio
-#   of ours to it, of the whole call and of the call less reading;
+#   bench/levels.sh, which has cbc halve the numbers of the cells for the ends of a least or a greatest number, or of
+#   bench/ratios.py, which has it solve a program for each step towards an end of an average; and the ratio of ours to it, of
+#   the whole call and of the call less reading;
+# - of an average, the steps that each end takes there, by the method that is ours too;
 # - whether both say the same ends.
 # Both sides are measured in the same run, each with the start of its processes. A time is the median of the runs, each of
 # several calls where a call is short; what takes a second or more is run once. Run ./build first.
@@ -58,21 +61,30 @@ added() {
     $1 == "low" || $1 == "high" { sub(/\./, "", $2); printf "%s %.0f %s\n", $1, $2 - seen, $3 }' "$2"
 }
 
+# ratios REPORT: the ends of an average as they are printed
+ratios() {
+  awk '
+    $1 == "relation" && $2 == "impossible" || $1 == "none" && $2 == "always" { print "low none"; print "high none" }
+    $1 == "low" || $1 == "high"' "$1"
+}
+
 # agree OURS THEIRS: an exact end of ours is theirs, and an outer one holds theirs
 agree() {
   awk 'NR == FNR { theirs[$1] = $2; next }
-    $3 == "outer" { open = 1; if (theirs[$1] != "none" && ($1 == "low" ? $2 > theirs[$1] : $2 < theirs[$1])) wrong = 1; next }
+    function number(text, parts) { return split(text, parts, "/") == 2 ? parts[1] / parts[2] : text + 0 }
+    $3 == "outer" { open = 1; if (theirs[$1] != "none" && ($1 == "low" ? number($2) > number(theirs[$1]) : number($2) < number(theirs[$1]))) wrong = 1; next }
     $2 != theirs[$1] { wrong = 1 }
     END { print wrong ? "DISAGREES" : open ? "agrees, an end is outer" : "agrees" }' "$2" "$1"
 }
 
 # answer NAME SCHEMA ROWS CONSTRAINTS COLUMN
 answer() {
-  local name=$1 schema=$2 rows=$3 constraints=$4 column=$5 query asked reading idle whole theirs seen base peer line
+  local name=$1 schema=$2 rows=$3 constraints=$4 column=$5 query asked reading idle whole theirs seen count total scale base peer line
   "$pc" show "$schema" "$constraints" > shown || { echo "$name: $(cat shown)"; return; }
   sed '/^disjoint /d; s/, [0-9]*\.\.[0-9]*$/, 0..0/' shown > idle.constraints
   : > no.constraints
-  for query in count "sum($column)" "min($column)" "max($column)"; do
+  scale=$(awk -F, -v column="$column" '$1 == column { print $2 == "dec" ? $3 : 0 }' "$schema")
+  for query in count "sum($column)" "min($column)" "max($column)" "avg($column)"; do
     asked=$column
     if [ "$query" = count ]; then asked=''; fi
     python3 "$top/bench/divide.py" "$schema" shown $asked > cells
@@ -82,6 +94,10 @@ answer() {
     fi
     measure "$pc" bound "$schema" "$rows" no.constraints "$query"
     reading=$took seen=$(awk '$1 == "low" { sub(/\./, "", $2); print $2 }' said)
+    case $query in
+      count) count=$seen ;;
+      sum*) total=$seen ;;
+    esac
     measure "$pc" bound "$schema" "$rows" idle.constraints "$query"
     idle=$took
     measure "$pc" bound "$schema" "$rows" "$constraints" "$query"
@@ -95,13 +111,18 @@ answer() {
       base=$seen peer=("$top/bench/ends.sh" cells)
       case $query in
         min* | max*) base=0 peer=("$top/bench/levels.sh" cells "${query%%(*}" "$seen") ;;
+        avg*) peer=("$top/bench/ratios.py" cells "$total" "$count" "$scale") ;;
       esac
       measure "${peer[@]}"
       theirs=$took
       cp said ends
-      added "$base" report > ours
+      case $query in
+        avg*) ratios report > ours ;;
+        *) added "$base" report > ours ;;
+      esac
       line="$line; $(awk -v theirs="$theirs" -v whole="$whole" -v reading="$reading" 'BEGIN {
         printf "cbc %.4f s, ratio %.2f, without reading %.2f", theirs / 1000000, whole / theirs, (whole > reading ? whole - reading : 0) / theirs }'); $(agree ours ends)"
+      case $query in avg*) line="$line; steps $(awk '{ printf "%s%s %s", (NR > 1 ? ", " : ""), $1, $3 }' ends)" ;; esac
     fi
     echo "$line"
   done

@@ -1,10 +1,11 @@
 #!/usr/bin/env python3
-"""Makes 60 counts and sums over small domains, and 40 least and greatest numbers, and finds what is true of each by going
-over every list of lost rows that is possible.
+"""Makes 60 counts and sums over small domains, 40 least and greatest numbers and 40 averages, and finds what is true of each
+by going over every list of lost rows that is possible.
 
     tools/small_cases.py table 1          the file small.rt of pc_agg's tests: the first 30 counts and sums
     tools/small_cases.py table 2          its file small_more.rt: the others
     tools/small_cases.py table 3          its file small_extremes.rt: the least and greatest numbers
+    tools/small_cases.py table 4          the file small_averages.rt of pc_trials: the averages
     tools/small_cases.py files FOLDER     each count and sum as files, for a program: NUMBER.schema, .rows, .constraints,
                                           .query, and .range, which has the two ends or `none`
 
@@ -13,10 +14,12 @@ greatest numbers of the constraints ends the walk, so it has nothing in common w
 """
 import itertools
 import sys
+from fractions import Fraction
 from pathlib import Path
 
 CASES = 60
 EXTREMES = 40
+AVERAGES = 40
 # a case with more lists than this is passed over
 MOST_LISTS = 60_000
 
@@ -155,13 +158,16 @@ class Case:
         number = row[self.asked]
         if self.aggregate == "sum":
             return value + number
+        if self.aggregate == "avg":
+            return (value[0] + number, value[1] + 1)
         if value is None:
             return number
         return min(value, number) if self.aggregate == "min" else max(value, number)
 
     def seen(self):
-        """The aggregate of the observed rows; a least or a greatest number of no rows is nothing."""
-        value = 0 if self.aggregate in ("count", "sum") else None
+        """The aggregate of the observed rows; a least or a greatest number of no rows is nothing. Of an average it is the sum
+        and the number of rows."""
+        value = {"count": 0, "sum": 0, "avg": (0, 0)}.get(self.aggregate)
         for row in self.observed:
             value = self.with_row(value, row)
         return value
@@ -229,6 +235,14 @@ def extreme_of(draws, columns):
         raise Unfit
     asked = draws.among(numbers)
     return draws.among(["min", "max"]), asked, drawn_part(draws, columns, draws.below(2))
+
+
+def average_of(draws, columns):
+    """The average of a column, of all rows or of some."""
+    numbers = number_places(columns)
+    if not numbers:
+        raise Unfit
+    return "avg", draws.among(numbers), drawn_part(draws, columns, draws.below(2))
 
 
 def observed_of(draws, columns):
@@ -394,6 +408,41 @@ def made_extremes():
                 break
 
 
+# what is wanted of averages, each in turn
+AVERAGES_WANTED = ["seen", "never", "sometimes", "seen", "never", "sometimes", "seen", "always", "never", "impossible"]
+
+
+def average_kind(case, found):
+    """Whether no list is possible, none gives a value, some give one, or all do; then whether rows were observed. One value
+    alone is nothing of these."""
+    if not found:
+        return "impossible"
+    ratios = {Fraction(*value) for value in found if value[1]}
+    if not ratios:
+        return "always"
+    if len(ratios) == 1:
+        return "single"
+    if (0, 0) in found:
+        return "sometimes"
+    return "seen" if case.seen()[1] else "never"
+
+
+def made_averages():
+    """The averages with what they can be. Whatever is not wanted is drawn anew, of the next kind."""
+    draws, kinds_in_turn = Draws(3), itertools.cycle(EXTREME_KINDS)
+    for number in range(AVERAGES):
+        while True:
+            kind, *words = next(kinds_in_turn)
+            try:
+                case = kind(draws, average_of, *words)
+                found = case.values()
+            except Unfit:
+                continue
+            if average_kind(case, found) == AVERAGES_WANTED[number % len(AVERAGES_WANTED)]:
+                yield case, found
+                break
+
+
 # ---- output
 
 
@@ -413,6 +462,19 @@ def truth_text(found):
     if not numbers:
         return "Truth::Always"
     return f"Truth::{'Sometimes' if None in found else 'Never'}({min(numbers)}, {max(numbers)})"
+
+
+def average_text(case, found):
+    """Lines of the report: of the relation or the lack, and of both ends where they are there."""
+    if not found:
+        return '("relation impossible\\n", "", "")'
+    ratios = {Fraction(*value) for value in found if value[1]}
+    if not ratios:
+        return '("none always\\n", "", "")'
+    scale = 10 ** case.columns[case.asked].scale
+    lack = "sometimes" if (0, 0) in found else "never"
+    lines = (f"none {lack}\n", f"low {min(ratios) / scale} exact\n", f"high {max(ratios) / scale} exact\n")
+    return f"({', '.join(quoted(line) for line in lines)})"
 
 
 def table(first, name, kind, cases):
@@ -439,7 +501,22 @@ TRUTHS = [
 ]
 
 
+AVERAGE_LINES = [
+    "use super::averages::{Lines, Texts};",
+    "",
+    "// Texts, and lines of the report: of the relation or the lack, and of both ends. A table is a part, since a check reads it",
+    "// in one step.",
+]
+AVERAGE_PARTS = ["FIRST_AVERAGES", "SECOND_AVERAGES", "THIRD_AVERAGES", "FOURTH_AVERAGES"]
+
+
 def put_table(number):
+    if number == "4":
+        cases = [(case, average_text(case, found)) for case, found in made_averages()]
+        for part, place in zip(AVERAGE_PARTS, range(0, AVERAGES, AVERAGES // len(AVERAGE_PARTS))):
+            first = FIRST + AVERAGE_LINES if place == 0 else [""]
+            print(table(first, part, "Lines<'static>", cases[place : place + AVERAGES // len(AVERAGE_PARTS)]))
+        return
     if number == "3":
         cases = [(case, truth_text(found)) for case, found in made_extremes()]
         print(table(FIRST + TRUTHS, "SMALL_EXTREMES", "Truth", cases))
@@ -459,7 +536,7 @@ def put_files(folder):
 
 def main():
     words = sys.argv[1:]
-    if words[:1] == ["table"] and words[1:] in (["1"], ["2"], ["3"]):
+    if words[:1] == ["table"] and words[1:] in (["1"], ["2"], ["3"], ["4"]):
         put_table(words[1])
     elif words[:1] == ["files"] and len(words) == 2:
         put_files(Path(words[1]))

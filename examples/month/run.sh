@@ -1,5 +1,6 @@
 #!/bin/sh
-# Asks how many sales the month can have had, what they can have come to, and how cheap and how dear one can have been.
+# Asks how many sales the month can have had, what they can have come to, how cheap and how dear one can have been, and
+# what they can have cost on average.
 # Run ./build first.
 set -eu
 here=$(cd "$(dirname "$0")" && pwd)
@@ -8,6 +9,6 @@ pc=$here/../../pc
 work=$(mktemp -d)
 trap 'rm -rf "$work"' EXIT
 "$here/rows.sh" > "$work/rows.csv"
-for query in count 'sum(price)' 'min(price)' 'max(price)'; do
+for query in count 'sum(price)' 'min(price)' 'max(price)' 'avg(price)'; do
   "$pc" bound "$here/schema.csv" "$work/rows.csv" "$here/constraints.txt" "$query"
 done

@@ -16,8 +16,8 @@ use Rattle.pc_model.specs.Aggregate.{asked, int_sum, kept}
 use Rattle.pc_model.specs.Folds.{IsFold, sum_at, best_at}
 use Rattle.pc_proof.specs.Setting.{narrowed}
 use Rattle.pc_proof.specs.Unbroken.{AllowsName}
-use Rattle.pc_agg.specs.Asked.{question_as, ComesTo, Asking, setting_for}
-use Rattle.pc_agg.specs.Settings.{setting_of}
+use Rattle.pc_search.specs.Asked.{question_as, ComesTo, Asking, setting_for}
+use Rattle.pc_search.specs.Settings.{setting_of}
 
 -- without a name a region keeps all of it
 whole_part : (chosen : Region) (group : Option ℕ) → narrowed chosen group None ≡ chosen

@@ -30,11 +30,11 @@ use Rattle.pc_licence.specs.Pools.{AreLawful}
 use Rattle.pc_licence.specs.Shown.{counts_of_runs}
 use Rattle.pc_licence.proofs.RunCounts.{runs-counted}
 use Rattle.pc_licence.specs.Totals.{seen_value}
-use Rattle.pc_agg.specs.declared.extreme.Extreme.{Extreme}
-use Rattle.pc_agg.specs.declared.extreme.Extreme.TheVariants.{Low, High}
-use Rattle.pc_agg.specs.Asked.{Asking, setting_for}
-use Rattle.pc_agg.specs.Ends.{gain_towards, adds, signed, IsPick, program_towards}
-use Rattle.pc_agg.specs.Settings.{unseen}
+use Rattle.pc_search.specs.declared.extreme.Extreme.{Extreme}
+use Rattle.pc_search.specs.declared.extreme.Extreme.TheVariants.{Low, High}
+use Rattle.pc_search.specs.Asked.{Asking, setting_for}
+use Rattle.pc_search.specs.Ends.{gain_towards, adds, signed, IsPick, program_towards}
+use Rattle.pc_search.specs.Settings.{unseen}
 use Rattle.pc_agg.specs.Settling.{AreRowsOfCells}
 use Rattle.pc_agg.proofs.Questions.{value_is}
 

@@ -40,19 +40,19 @@ use Rattle.pc_licence.specs.Totals.{seen_value}
 use Rattle.pc_licence.specs.Wanted.{nothing, LeavesOpen}
 use Rattle.pc_licence.proofs.Attained.{high-attained, low-attained}
 use Rattle.pc_licence.proofs.Trees.{licence-open}
-use Rattle.pc_agg.specs.declared.limit.Limit.{Limit}
+use Rattle.pc_search.specs.declared.limit.Limit.{Limit}
 use Rattle.pc_agg.specs.declared.aim.Aim.{Aim}
-use Rattle.pc_agg.specs.declared.extreme.Extreme.{Extreme}
-use Rattle.pc_agg.specs.declared.extreme.Extreme.TheVariants.{Low, High}
+use Rattle.pc_search.specs.declared.extreme.Extreme.{Extreme}
+use Rattle.pc_search.specs.declared.extreme.Extreme.TheVariants.{Low, High}
 use Rattle.pc_agg.specs.Answered.{IsEnd}
-use Rattle.pc_agg.specs.Asked.{Asking, setting_for}
-use Rattle.pc_agg.specs.Ends.{gain_towards, signed, HoldsEnd, program_towards}
-use Rattle.pc_agg.specs.Limits.{IsLimit, IsReached, IsCutShort}
+use Rattle.pc_search.specs.Asked.{Asking, setting_for}
+use Rattle.pc_search.specs.Ends.{gain_towards, signed, HoldsEnd, program_towards}
+use Rattle.pc_search.specs.Limits.{IsLimit, IsReached, IsCutShort}
 use Rattle.pc_agg.specs.Marks.{IsMarked, IsAim, IsAmong}
 use Rattle.pc_agg.specs.Observed.{folded_value}
-use Rattle.pc_agg.specs.Settings.{unseen}
+use Rattle.pc_search.specs.Settings.{unseen}
 use Rattle.pc_agg.proofs.Attained.{attained, of_cells, counted_runs}
-use Rattle.pc_agg.proofs.ProgramEnds.{is_program}
+use Rattle.pc_search.proofs.ProgramEnds.{is_program}
 use Rattle.pc_agg.proofs.Questions.{folded_is, posed, tree_for}
 
 -- ---- a tree whose bound is within a limit
@@ -130,16 +130,20 @@ abbrev pub SearchedEnd : Extreme → Setting → ℕ → Agg → Ratio → Proof
 SearchedEnd High s budget agg v proof = HighSearched s budget agg v proof
 SearchedEnd Low s budget agg v proof = LowSearched s budget agg v proof
 
--- what an end that the code made has
-pub record IsDone (extreme : Extreme) (s : Setting) (budget : ℕ) (agg : Agg) (found : List (List ℕ)) (end : End) : Type 0 where
+-- what an end that the code made has, whatever the answer shows beside it
+pub record IsEndDone (extreme : Extreme) (s : Setting) (budget : ℕ) (agg : Agg) (found : List (List ℕ)) (end : End) : Type 0 where
   pub holds : HoldsEnd s extreme end
   pub formed : IsFormed end.value end.proof
-  pub is_whole : end.value.den ≡ pos 1
   pub shows : ShowsEnd extreme s agg (ratio_of end.value) end.proof
   pub searched : SearchedEnd extreme s budget agg (ratio_of end.value) end.proof
   pub licensed : (answer : Answer) → ShownFrom s found answer → IfOuter end.mark (LicensedEnd extreme s budget answer agg (ratio_of end.value) end.proof)
-  pub unshown : (answer : Answer) → ShownFrom s found answer → IfOuter end.mark (IsShown s answer (ratio_of end.value) → ⊥)
   pub from : All (λ runs. Contains found (counts_of_runs s runs)) (runs_of_mark end.mark)
+
+-- that of a whole number, which nothing shown attains where it is outer
+pub record IsDone (extreme : Extreme) (s : Setting) (budget : ℕ) (agg : Agg) (found : List (List ℕ)) (end : End) : Type 0 where
+  pub base : IsEndDone extreme s budget agg found end
+  pub is_whole : end.value.den ≡ pos 1
+  pub unshown : (answer : Answer) → ShownFrom s found answer → IfOuter end.mark (IsShown s answer (ratio_of end.value) → ⊥)
 
 module _ (s : Setting) (budget : ℕ) (found : Limit) (number : ℤ) where
   abbrev v : Ratio
@@ -275,14 +279,16 @@ module _ (schema : Schema) (constraints : List Constraint) (query : Query) (seen
 
   done_with : (mark : Mark) → IsMarked p aim.limit.most aim.picks found mark → IsDone extreme s budget query.agg found (end_with mark)
   done_with mark marked = record {
-    holds = holds_end mark marked;
-    formed = record { positive = omega (arith, ints); ratio = tt };
+    base = record {
+      holds = holds_end mark marked;
+      formed = record { positive = omega (arith, ints); ratio = tt };
+      shows = shown_end;
+      searched = searched_end;
+      licensed = λ answer from. licensed_end answer mark marked;
+      from = mark_from mark marked;
+    };
     is_whole = refl;
-    shows = shown_end;
-    searched = searched_end;
-    licensed = λ answer from. licensed_end answer mark marked;
     unshown = λ answer. unshown_end answer mark marked;
-    from = mark_from mark marked;
   }
 
   pub end_done : (end : End) → IsEnd seen query.agg extreme found aim end → IsDone extreme s budget query.agg found end

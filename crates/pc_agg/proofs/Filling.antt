@@ -15,7 +15,7 @@ use Rattle.pc_class.proofs.SettledTrees.{rows_of_tree}
 use Rattle.pc_model.specs.declared.query.Query.{Query}
 use Rattle.pc_cells.specs.declared.cells.Cell.{Cell}
 use Rattle.pc_cells.proofs.Decomposed.{classes_of_cells}
-use Rattle.pc_agg.specs.Settings.{unseen}
+use Rattle.pc_search.specs.Settings.{unseen}
 use Rattle.pc_agg.specs.Settling.{AreRowsOfCells}
 use Rattle.pc_cells.specs.Found.{class_of_cell, cell_of, cells_of, IsFilled, leaves_at, leaf_at}
 

@@ -1,7 +1,6 @@
 -- The tree of one leaf, whose multipliers are 0, shows that nothing gains where no cell that has rows does.
-use Rattle.std.proofs.Common.{◌≡◌, ℕ, ◌<◌, ◌≤◌, ◌^◌, Bool, true, false, cond, List, length, map, get_or, All, refl, sym, ap, ap₂, subst, ◌∙◌, arith}
-use Rattle.std.specs.Prelude.{ℤ, pos, ◌*ℤ◌, int_le, int_lt, ◌&&◌}
-use Rattle.std.specs.Int.{int_max}
+use Rattle.std.proofs.Common.{◌≡◌, ℕ, ◌<◌, ◌≤◌, Bool, true, false, cond, List, length, map, get_or, All, refl, ap, ap₂, ◌∙◌, arith}
+use Rattle.std.specs.Prelude.{ℤ, pos, ◌*ℤ◌, ◌≤ℤ◌, int_le, int_lt, ◌&&◌}
 use Rattle.std.proofs.lemmas.Bool.{false_from_ne_true}
 use Rattle.std.proofs.lemmas.Int.{ints}
 use Rattle.std.proofs.lemmas.List.{length-map, get_or-map}
@@ -10,73 +9,29 @@ use Rattle.pc_model.specs.declared.constraint.Constraint.{Constraint}
 use Rattle.pc_model.specs.declared.query.Query.{Query}
 use Rattle.pc_model.specs.declared.tree.CutNode.{CutNode}
 use Rattle.pc_model.specs.Accepted.{AreConstraints}
-use Rattle.pc_model.specs.Places.{has_bit}
 use Rattle.pc_model.specs.WellFormed.{IsWellFormed}
 use Rattle.pc_model.specs.Cells.{Class, IsSettledTree}
-use Rattle.pc_bound.specs.declared.program.Program.{Program}
-use Rattle.pc_bound.specs.Sums.{nat_at, int_at}
-use Rattle.pc_bound.specs.Allocation.{IsProgram, cells_of, constraints_of}
-use Rattle.pc_bound.specs.Bound.{part_of, rest_of, constraint_share, cell_share, raw_bound, bound_of}
+use Rattle.pc_bound.specs.Sums.{int_at}
 use Rattle.pc_bound.specs.CellPrograms.{cap_of}
 use Rattle.pc_bound.proofs.CellPlaces.{no_class, cell_inside, floor_is}
-use Rattle.pc_bound.proofs.SumBelow.{sum_below-none, none_chosen}
 use Rattle.pc_branch.specs.Ends.{HasSmallGains}
-use Rattle.pc_branch.specs.Licence.{no_multipliers}
-use Rattle.pc_branch.proofs.Leaves.{start_multipliers}
-use Rattle.pc_branch.proofs.Points.{exact-div}
-use Rattle.pc_branch.proofs.Widths.{no_number, HasFitWidth-small}
 use Rattle.pc_proof.specs.Setting.{Setting, cells, on_chosen, counting, open_cap, program_for, program_without}
 use Rattle.pc_proof.specs.Table.{one}
-use Rattle.pc_agg.specs.declared.extreme.Extreme.{Extreme}
-use Rattle.pc_agg.specs.declared.want.Want.TheVariants as wants
-use Rattle.pc_agg.specs.Flat.{flat_tree}
-use Rattle.pc_agg.specs.Rungs.{key_of, AllUpTo}
-use Rattle.pc_agg.specs.Settings.{unseen}
-use Rattle.pc_agg.specs.Wants.{FallsShort}
-use Rattle.pc_agg.proofs.UnseenPrograms.{tested_small, for_program, for_small, without_program, without_small}
-
-no_product : (a b : ℤ) → a ≡ pos 0 → a *ℤ b ≡ pos 0
-no_product a b none = rw none (omega (arith, ints))
-
-greater_none : (a b : ℤ) → a ≡ pos 0 → b ≡ pos 0 → int_max a b ≡ pos 0
-greater_none a b first second = rw (first, second) refl
-
--- ---- the bound
-
-module _ (p : Program) where
-  rest_gain : (i : ℕ) → rest_of p (no_multipliers p) i ≡ int_at p.gain i
-  rest_gain i =
-      let none = sum_below-none (constraints_of p) (part_of p (no_multipliers p) i)
-      (λ j h. none_chosen (has_bit (nat_at p.masks i) j) (int_at (no_multipliers p).by j) (no_number (constraints_of p) j)) in
-      omega (arith, ints, none)
-
-  module _ (floors : (i : ℕ) → i < cells_of p → nat_at p.floor i ≡ 0) (none : (i : ℕ) → i < cells_of p → int_at p.gain i *ℤ pos (nat_at p.cap i) ≡ pos 0) where
-    at_floor : (i : ℕ) → i < cells_of p → rest_of p (no_multipliers p) i *ℤ pos (nat_at p.floor i) ≡ pos 0
-    at_floor i h =
-        let zero_is : pos (nat_at p.floor i) ≡ pos 0 = ap pos (floors i h) in
-        ap (λ x. rest_of p (no_multipliers p) i *ℤ x) zero_is ∙ omega (arith, ints)
-
-    at_cap : (i : ℕ) → i < cells_of p → rest_of p (no_multipliers p) i *ℤ pos (nat_at p.cap i) ≡ pos 0
-    at_cap i h = ap (λ x. x *ℤ pos (nat_at p.cap i)) (rest_gain i) ∙ none i h
-
-    raw_none : raw_bound p p.floor p.cap (no_multipliers p) ≡ pos 0
-    raw_none =
-        let limits = sum_below-none (constraints_of p) (constraint_share p (no_multipliers p)) (λ j h. no_product (int_at (no_multipliers p).by j) _ (no_number (constraints_of p) j)) in
-        let shares = sum_below-none (cells_of p) (cell_share p p.floor p.cap (no_multipliers p)) (λ i h. greater_none _ _ (at_floor i h) (at_cap i h)) in
-        omega (arith, ints, limits, shares)
-
-    bound_none : bound_of p p.floor p.cap (no_multipliers p) ≡ pos 0
-    bound_none = sym (exact-div (pos 1) (pos 0) (raw_bound p p.floor p.cap (no_multipliers p)) (omega (arith, ints)) (sym raw_none))
-
-    pub flat_short : (budget n : ℕ) → IsProgram p → HasSmallGains p → constraints_of p ≡ n → 1 ≤ budget → FallsShort p wants.Gaining budget (flat_tree n)
-    flat_short budget n program small same some = subst (λ k. FallsShort p wants.Gaining budget (flat_tree k)) same (record {
-      preorder = refl;
-      proves = start_multipliers p (HasFitWidth-small p program small);
-      under = omega (arith, ints, bound_none);
-      search = record { few = some; splits = tt };
-    })
+use Rattle.pc_search.specs.declared.extreme.Extreme.{Extreme}
+use Rattle.pc_search.specs.declared.want.Want.TheVariants as wants
+use Rattle.pc_search.specs.Flat.{flat_tree}
+use Rattle.pc_search.specs.Keys.{key_of}
+use Rattle.pc_agg.specs.Rungs.{AllUpTo}
+use Rattle.pc_search.specs.Settings.{unseen}
+use Rattle.pc_search.specs.Wants.{FallsShort}
+use Rattle.pc_search.specs.Limits.{greatest_gain}
+use Rattle.pc_search.proofs.FlatTrees.{no_product, flat_short}
+use Rattle.pc_search.proofs.UnseenPrograms.{tested_small, for_program, for_small, without_program, without_small}
 
 -- ---- programs of cells
+
+no_more : (x : ℤ) → x ≡ pos 0 → x ≤ℤ pos 0
+no_more x none = omega (arith, ints, none)
 
 -- what a closed cell gains, or one that is not chosen
 no_gain : (chosen passes : Bool) → (chosen ≡ true → passes ≡ false) → cond (chosen && passes) (pos 1) (pos 0) ≡ pos 0
@@ -110,12 +65,12 @@ module _ (schema : Schema) (constraints : List Constraint) (query : Query) (node
       FallsShort (program_for u gain) wants.Gaining budget (flat_tree (length constraints))
   no_gains gain small each =
       flat_short (program_for u gain) (λ i h. floor_is constraints (cells u) (map gain (cells u)) i (there (map gain (cells u)) i h))
-      (λ i h. no_product (int_at (map gain (cells u)) i) _ (get_or-map gain (cells u) i no_class (pos 0) (there (map gain (cells u)) i h) ∙ each i (there (map gain (cells u)) i h)))
+      (λ i h. no_more _ (no_product (int_at (map gain (cells u)) i) _ (get_or-map gain (cells u) i no_class (pos 0) (there (map gain (cells u)) i h) ∙ each i (there (map gain (cells u)) i h))))
       budget (length constraints) (for_program schema constraints query nodes formed are tree gain) small long some
 
   pub flat_none : All (λ (class : Class). class.chosen ≡ true → ⊥) (cells u) → FallsShort (program_for u (on_chosen one)) wants.Gaining budget (flat_tree (length constraints))
   flat_none never =
-      no_gains (on_chosen one) (for_small schema constraints query nodes formed are tree (on_chosen one) (λ class. tested_small (2 ^ 63) class.chosen (pos 1) (omega arith)))
+      no_gains (on_chosen one) (for_small schema constraints query nodes formed are tree (on_chosen one) (λ class. tested_small (greatest_gain) class.chosen (pos 1) (omega arith)))
       (λ i h. not_chosen (class_at i).chosen (never i no_class h))
 
   module _ (extreme : Extreme) (key : ℤ) (most : AllUpTo u extreme key) where
@@ -124,7 +79,7 @@ module _ (schema : Schema) (constraints : List Constraint) (query : Query) (node
     flat_reach =
         no_gains (counting (λ class. int_lt key (key_of u extreme class)))
         (for_small schema constraints query nodes formed are tree (counting (λ class. int_lt key (key_of u extreme class)))
-        (λ class. tested_small (2 ^ 63) (class.chosen && int_lt key (key_of u extreme class)) (pos 1) (omega arith)))
+        (λ class. tested_small (greatest_gain) (class.chosen && int_lt key (key_of u extreme class)) (pos 1) (omega arith)))
         (λ i h. no_gain (class_at i).chosen (int_lt key (key_of u extreme (class_at i)))
         (λ chosen. let less = most i no_class h chosen in false_from_ne_true (int_lt key (key_of u extreme (class_at i))) (λ e. omega (arith, ints, less, e))))
 
@@ -139,6 +94,6 @@ module _ (schema : Schema) (constraints : List Constraint) (query : Query) (node
         flat_short (program_without u closed) (λ i h. floor_is constraints (cells u) (map (on_chosen one) (cells u)) i (there (map (on_chosen one) (cells u)) i h))
         (λ i h.
         let inside = there (map (on_chosen one) (cells u)) i h in
-        ap₂ (λ x (n : ℕ). x *ℤ pos n) (get_or-map (on_chosen one) (cells u) i no_class (pos 0) inside) (get_or-map (open_cap u closed) (cells u) i no_class 0 inside)
-        ∙ no_share (class_at i).chosen (closed (class_at i)) (cap_of constraints (class_at i)) (shut i inside))
+        no_more _ (ap₂ (λ x (n : ℕ). x *ℤ pos n) (get_or-map (on_chosen one) (cells u) i no_class (pos 0) inside) (get_or-map (open_cap u closed) (cells u) i no_class 0 inside)
+        ∙ no_share (class_at i).chosen (closed (class_at i)) (cap_of constraints (class_at i)) (shut i inside)))
         budget (length constraints) (without_program schema constraints query nodes formed are tree closed) (without_small schema constraints query nodes formed are tree closed) long some

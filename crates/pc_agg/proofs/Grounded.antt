@@ -23,21 +23,22 @@ use Rattle.pc_proof.specs.Unbroken.{IsDecided}
 use Rattle.pc_licence.specs.Pools.{AreLawful}
 use Rattle.pc_agg.specs.declared.grounds.Lacking.{Lacking}
 use Rattle.pc_agg.specs.declared.grounds.Lacking.TheVariants as lackings
-use Rattle.pc_agg.specs.declared.probe.Probed.{Probed}
-use Rattle.pc_agg.specs.declared.probe.Verdict.TheVariants as verdicts
-use Rattle.pc_agg.specs.declared.want.Want.{Want}
-use Rattle.pc_agg.specs.declared.want.Want.TheVariants as wants
-use Rattle.pc_agg.specs.Asked.{AreCells}
-use Rattle.pc_agg.specs.Flat.{flat_tree}
-use Rattle.pc_agg.specs.Grounds.{want_for, most_chosen, fewest_chosen, HasValues, AreGrounds, AreAlways, AreGroundsSurely, IsLacking, IsLackingSurely, IsUnlistedIfNone}
-use Rattle.pc_agg.specs.Settings.{unseen}
+use Rattle.pc_search.specs.declared.probes.Probed.{Probed}
+use Rattle.pc_search.specs.declared.probes.Verdict.TheVariants as verdicts
+use Rattle.pc_search.specs.declared.want.Want.{Want}
+use Rattle.pc_search.specs.declared.want.Want.TheVariants as wants
+use Rattle.pc_search.specs.Asked.{AreCells}
+use Rattle.pc_search.specs.Flat.{flat_tree}
+use Rattle.pc_search.specs.Wants.{want_for, most_chosen, fewest_chosen}
+use Rattle.pc_agg.specs.Grounds.{HasValues, AreGrounds, AreAlways, AreGroundsSurely, IsLacking, IsLackingSurely, IsUnlistedIfNone}
+use Rattle.pc_search.specs.Settings.{unseen}
 use Rattle.pc_agg.specs.Settling.{IsRelation, IsUnlisted}
-use Rattle.pc_agg.specs.Wants.{FallsShort, IsDoubt, IsFound, IsProbed, IsSure, IsVerdict}
-use Rattle.pc_agg.proofs.Empty.{shows_none}
+use Rattle.pc_search.specs.Wants.{FallsShort, IsDoubt, IsFound, IsProbed, IsSure, IsVerdict}
+use Rattle.pc_search.proofs.Empty.{shows_none}
 use Rattle.pc_agg.proofs.Flat.{flat_none}
 use Rattle.pc_agg.proofs.Lacking.{unlisted_grown, lacking_grown, surely_grown}
-use Rattle.pc_agg.proofs.SettledPrograms.{classes_are}
-use Rattle.pc_agg.proofs.Shorts.{shows_no_gain, shows_some_row, short_empty}
+use Rattle.pc_search.proofs.SettledPrograms.{classes_are}
+use Rattle.pc_search.proofs.Shorts.{shows_no_gain, shows_some_row, short_empty}
 
 any_map : {X Y : Type 0} (P : Y → Type 0) (f : X → Y) (xs : List X) → Any (λ x. P (f x)) xs → Any P (map f xs)
 any_map P f xs some = (some.0, f some.1, omega (arith, some.2, length-map xs f), get_or-map f xs some.0 some.1 (f some.1) some.2 ∙ ap f some.3, some.4)

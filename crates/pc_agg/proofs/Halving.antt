@@ -13,20 +13,21 @@ use Rattle.pc_bound.proofs.CellPlaces.{no_class}
 use Rattle.pc_proof.specs.Setting.{Setting, cells, counting, open_cap, program_for}
 use Rattle.pc_proof.specs.Table.{none, ShowsNone}
 use Rattle.pc_licence.specs.Pools.{AreLawful}
-use Rattle.pc_agg.specs.declared.extreme.Extreme.{Extreme}
+use Rattle.pc_search.specs.declared.extreme.Extreme.{Extreme}
 use Rattle.pc_agg.specs.declared.ladder.Test.{Test}
 use Rattle.pc_agg.specs.declared.ladder.Test.TheVariants.{Reach, Avoid}
 use Rattle.pc_agg.specs.declared.ladder.Ladder.{Ladder}
 use Rattle.pc_agg.specs.declared.climb.Span.{Span}
-use Rattle.pc_agg.specs.declared.probe.Probed.{Probed}
-use Rattle.pc_agg.specs.declared.probe.Verdict.{Verdict}
-use Rattle.pc_agg.specs.declared.probe.Verdict.TheVariants as verdicts
-use Rattle.pc_agg.specs.declared.want.Want.{Want}
+use Rattle.pc_search.specs.declared.probes.Probed.{Probed}
+use Rattle.pc_search.specs.declared.probes.Verdict.{Verdict}
+use Rattle.pc_search.specs.declared.probes.Verdict.TheVariants as verdicts
+use Rattle.pc_search.specs.declared.want.Want.{Want}
 use Rattle.pc_agg.specs.Climbing.{above, if_empty, narrowed, IsSpan, IsHalved, IsSureSpan, IsSureHalf}
-use Rattle.pc_agg.specs.Limits.{IsEmpty}
-use Rattle.pc_agg.specs.Rungs.{key_of, reaches, rung_program, program_at, IsStanding}
-use Rattle.pc_agg.specs.Wants.{IsDoubt, IsFound, IsMet, IsProbed, IsSure, IsUnder, IsVerdict, FallsShort}
-use Rattle.pc_agg.proofs.Empty.{shows_none}
+use Rattle.pc_search.specs.Limits.{IsEmpty}
+use Rattle.pc_search.specs.Keys.{key_of}
+use Rattle.pc_agg.specs.Rungs.{reaches, rung_program, program_at, IsStanding}
+use Rattle.pc_search.specs.Wants.{IsDoubt, IsFound, IsMet, IsProbed, IsSure, IsUnder, IsVerdict, FallsShort}
+use Rattle.pc_search.proofs.Empty.{shows_none}
 
 -- ---- what was found stays found
 

@@ -28,21 +28,23 @@ use Rattle.pc_proof.specs.Setting.{Setting, cells}
 use Rattle.pc_proof.specs.Table.{IsExtreme}
 use Rattle.pc_licence.specs.Licensed.{IsSettledLack}
 use Rattle.pc_licence.specs.Pools.{AreLawful}
-use Rattle.pc_agg.specs.declared.extreme.Extreme.{Extreme}
-use Rattle.pc_agg.specs.declared.extreme.Extreme.TheVariants.{Low, High}
+use Rattle.pc_search.specs.declared.extreme.Extreme.{Extreme}
+use Rattle.pc_search.specs.declared.extreme.Extreme.TheVariants.{Low, High}
 use Rattle.pc_agg.specs.declared.grounds.Grounds.{Grounds}
 use Rattle.pc_agg.specs.declared.ladder.Test.{Test}
 use Rattle.pc_agg.specs.declared.ladder.Test.TheVariants.{Reach, Avoid}
 use Rattle.pc_agg.specs.declared.stand.Stand.{Stand}
 use Rattle.pc_agg.specs.Answered.{bounded_by}
-use Rattle.pc_agg.specs.Asked.{Asking, setting_for}
+use Rattle.pc_search.specs.Asked.{Asking, setting_for}
 use Rattle.pc_agg.specs.Extremes.{agg_of, seen_number, test_at, key_at, relation_from, always_as, crossed, AreStands, CanStand, IsJudged}
-use Rattle.pc_agg.specs.Grounds.{want_for, most_chosen, AreGrounds, AreAlways, AreGroundsSurely, IsLacking, IsLackingSurely, IsUnlistedIfNone}
+use Rattle.pc_search.specs.Wants.{want_for, most_chosen}
+use Rattle.pc_agg.specs.Grounds.{AreGrounds, AreAlways, AreGroundsSurely, IsLacking, IsLackingSurely, IsUnlistedIfNone}
 use Rattle.pc_agg.specs.Owed.{Owes}
-use Rattle.pc_agg.specs.Settings.{unseen}
+use Rattle.pc_search.specs.Settings.{unseen}
 use Rattle.pc_agg.specs.Settling.{AreRowsOfCells}
-use Rattle.pc_agg.specs.Stands.{IsAtEnd, IsWanted, IsStand}
-use Rattle.pc_agg.specs.Wants.{IsFound, IsDoubt, IsMet}
+use Rattle.pc_search.specs.Keys.{IsAtEnd}
+use Rattle.pc_agg.specs.Stands.{IsWanted, IsStand}
+use Rattle.pc_search.specs.Wants.{IsFound, IsDoubt, IsMet}
 use Rattle.pc_agg.proofs.Ending.{IsDone}
 use Rattle.pc_agg.proofs.Lacking.{any_grown, doubt_grown, unlisted_grown, lacking_grown, surely_grown, relation_is, relation_may, relation_decided, IsObserving, lack_done, lack_settled}
 use Rattle.pc_agg.proofs.Owing.{IsLackDone, owes_always, owes_both, crossing, do_cross}
@@ -152,7 +154,7 @@ module _ (schema : Schema) (constraints : List Constraint) (query : Query) (seen
               observing.none none,
               do_cross schema constraints query seen nodes formed limited tree budget asking found lawful is.low_end is.high_end low_done high_done crossed',
               subst IsExtreme (sym agg_is) (is_extreme far),
-            ) (low_done.searched, high_done.searched) (λ disjoint. relation_decided low.picks found (listed disjoint))
+            ) (low_done.base.searched, high_done.base.searched) (λ disjoint. relation_decided low.picks found (listed disjoint))
 
         by_test : (test : Bool) → int_lt is.high_end.value.num is.low_end.value.num ≡ test →
             Owes s budget (cond test (crossed observed (relation_from low.picks found) is.low_end is.high_end) (record { relation = relation_from low.picks found; lack = is.lack; ends = Some (is.low_end, is.high_end) }))

@@ -32,14 +32,15 @@ use Rattle.pc_licence.proofs.Attaining.{lacking, giving}
 use Rattle.pc_licence.proofs.Found.{shown-found}
 use Rattle.pc_agg.specs.declared.grounds.Lacking.{Lacking}
 use Rattle.pc_agg.specs.declared.grounds.Lacking.TheVariants as lackings
-use Rattle.pc_agg.specs.declared.want.Want.{Want}
-use Rattle.pc_agg.specs.declared.want.Want.TheVariants as wants
-use Rattle.pc_agg.specs.Asked.{Asking, setting_for}
+use Rattle.pc_search.specs.declared.want.Want.{Want}
+use Rattle.pc_search.specs.declared.want.Want.TheVariants as wants
+use Rattle.pc_search.specs.Asked.{Asking, setting_for}
 use Rattle.pc_agg.specs.Extremes.{relation_from, IsOpenLack, IsLackFrom}
-use Rattle.pc_agg.specs.Grounds.{want_for, most_chosen, fewest_chosen, IsLacking, IsLackingSurely, IsUnlistedIfNone}
-use Rattle.pc_agg.specs.Settings.{unseen}
+use Rattle.pc_search.specs.Wants.{want_for, most_chosen, fewest_chosen}
+use Rattle.pc_agg.specs.Grounds.{IsLacking, IsLackingSurely, IsUnlistedIfNone}
+use Rattle.pc_search.specs.Settings.{unseen}
 use Rattle.pc_agg.specs.Settling.{AreRowsOfCells, IsRelation}
-use Rattle.pc_agg.specs.Wants.{IsFound, IsDoubt}
+use Rattle.pc_search.specs.Wants.{IsFound, IsDoubt}
 use Rattle.pc_agg.proofs.Attained.{counted_runs}
 use Rattle.pc_agg.proofs.Owing.{IsLackDone}
 use Rattle.pc_agg.proofs.Questions.{posed, tree_for}

@@ -14,14 +14,15 @@ use Rattle.pc_cells.specs.declared.cells.Cell.{Cell}
 use Rattle.pc_cells.specs.Found.{class_of_cell, cells_of}
 use Rattle.pc_cells.proofs.Decomposed.{classes_of_cells}
 use Rattle.pc_proof.specs.Setting.{Setting, cells, on_chosen}
-use Rattle.pc_agg.specs.declared.extreme.Extreme.{Extreme}
+use Rattle.pc_search.specs.declared.extreme.Extreme.{Extreme}
 use Rattle.pc_agg.specs.declared.ladder.Test.{Test}
 use Rattle.pc_agg.specs.declared.ladder.Test.TheVariants.{Reach, Avoid}
 use Rattle.pc_agg.specs.Falling.{IsFallingOf}
 use Rattle.pc_agg.specs.Kept.{passes, HasKey, AreKept, AreStandable}
-use Rattle.pc_agg.specs.Rungs.{key_of, AreRungs}
-use Rattle.pc_agg.specs.Settings.{unseen}
-use Rattle.pc_agg.specs.Targets.{cell_at}
+use Rattle.pc_search.specs.Keys.{key_of}
+use Rattle.pc_agg.specs.Rungs.{AreRungs}
+use Rattle.pc_search.specs.Settings.{unseen}
+use Rattle.pc_search.specs.Targets.{cell_at}
 use Rattle.pc_agg.proofs.LadderRungs.{reach_apart, reach_each, reach_top, reach_bottom, avoid_apart, avoid_each, avoid_top, avoid_bottom, none_standable}
 
 abbrev is_chosen : Class → Bool
@@ -58,13 +59,13 @@ module _ (schema : Schema) (constraints : List Constraint) (query : Query) (node
   classes : map class_of_cell found ≡ cells u
   classes = ap (map class_of_cell) listed ∙ classes_of_cells (leaves_in schema nodes) (classes_of (leaves_in schema nodes))
 
-  long : length found ≡ length (cells u)
+  pub long : length found ≡ length (cells u)
   long = sym (length-map found class_of_cell) ∙ ap length classes
 
-  class_is : (i : ℕ) → i < length found → class_of_cell (cell_at found i) ≡ get_or (cells u) i no_class
+  pub class_is : (i : ℕ) → i < length found → class_of_cell (cell_at found i) ≡ get_or (cells u) i no_class
   class_is i inside = sym (get_or-map class_of_cell found i (record { mask = 0; chosen = false; leaves = [] }) no_class inside) ∙ ap (λ list. get_or list i no_class) classes
 
-  key_is : (i : ℕ) → i < length found → (cell_at found i).chosen ≡ true → get_or keys i (pos 0) ≡ key_of u extreme (get_or (cells u) i no_class)
+  pub key_is : (i : ℕ) → i < length found → (cell_at found i).chosen ≡ true → get_or keys i (pos 0) ≡ key_of u extreme (get_or (cells u) i no_class)
   key_is i inside chosen =
       let class = get_or (cells u) i no_class in
       let chosen_is : class.chosen ≡ true = ap is_chosen (sym (class_is i inside)) ∙ chosen in

@@ -9,8 +9,8 @@ use Rattle.pc_bound.specs.declared.program.Program.{Program}
 use Rattle.pc_model.specs.Cells.{Class}
 use Rattle.pc_proof.specs.Setting.{Setting, program_for}
 use Rattle.pc_licence.specs.Pools.{AreLawful}
-use Rattle.pc_agg.specs.declared.want.Want.{Want}
-use Rattle.pc_agg.specs.Wants.{IsFound, IsMet}
+use Rattle.pc_search.specs.declared.want.Want.{Want}
+use Rattle.pc_search.specs.Wants.{IsFound, IsMet}
 
 pub lawful_met : (u : Setting) (gain : Class → ℤ) (found : List (List ℕ)) → All (AreLawful u) found → All (IsMet (program_for u gain)) found
 lawful_met u gain found lawful place d inside = let own = lawful place d inside in record { sized = own.sized; met = own.met }

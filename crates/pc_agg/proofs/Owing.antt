@@ -1,5 +1,5 @@
 -- Answers over a settled relation and two ends owe what they must.
-use Rattle.std.proofs.Common.{◌≡◌, ℕ, Bool, true, false, ◌&&◌, cond, inl, List, [], ◌++◌, get_or, All, Contains, Some, None, refl, sym, ap, ap₂, subst, ◌∙◌, arith}
+use Rattle.std.proofs.Common.{◌≡◌, ℕ, Bool, true, false, ◌&&◌, cond, inl, List, [], ◌++◌, get_or, All, Any, Contains, Some, None, refl, sym, ap, ap₂, subst, ◌∙◌, true≢false, arith}
 use Rattle.std.specs.Prelude.{◌||◌, int_lt}
 use Rattle.std.proofs.lemmas.Bool.{and_parts}
 use Rattle.std.proofs.lemmas.Int.{ints}
@@ -33,24 +33,24 @@ use Rattle.pc_bound.specs.Allocation.{IsAllocation}
 use Rattle.pc_proof.specs.Setting.{Setting, region_of, leaves, program_for}
 use Rattle.pc_proof.specs.Table.{ratio_of, one, minus_one, EndsCross, HasValue, ShowsAlways, ShowsImpossible}
 use Rattle.pc_proof.specs.Unbroken.{HoldsRelation, HoldsLack, IsDecided, IsExact, MayStand, plain_relation, plain_lack}
-use Rattle.pc_licence.specs.Licensed.{LicensedRelation, LicensedLack, IsSettledLack}
+use Rattle.pc_licence.specs.Licensed.{LicensedRelation, LicensedLack, IfOuter, IsSettledLack}
 use Rattle.pc_licence.specs.Pools.{AreLawful, ShownFrom}
 use Rattle.pc_licence.specs.Searched.{WhySearched, AlwaysSearched, RelationSearched, LackSearched}
 use Rattle.pc_licence.specs.Wanted.{any, Has}
-use Rattle.pc_licence.specs.Shown.{runs_of_mark, runs_of_relation, runs_of_lack, shown_runs, counts_of_runs}
+use Rattle.pc_licence.specs.Shown.{runs_of_mark, runs_of_relation, runs_of_lack, shown_runs, counts_of_runs, IsShown}
 use Rattle.pc_agg.specs.declared.aim.Aim.{Aim}
 use Rattle.pc_agg.specs.declared.settling.Settled.{Settled}
-use Rattle.pc_agg.specs.declared.extreme.Extreme.TheVariants.{Low, High}
+use Rattle.pc_search.specs.declared.extreme.Extreme.TheVariants.{Low, High}
 use Rattle.pc_agg.specs.Answered.{impossible_by, answer_between, bounded_by, is_open, IsAnswer, IsBetween}
-use Rattle.pc_agg.specs.Asked.{Asking, setting_for}
-use Rattle.pc_agg.specs.Ends.{program_towards}
-use Rattle.pc_agg.specs.Limits.{IsReached}
+use Rattle.pc_search.specs.Asked.{Asking, setting_for}
+use Rattle.pc_search.specs.Ends.{program_towards}
+use Rattle.pc_search.specs.Limits.{IsReached}
 use Rattle.pc_agg.specs.Marks.{IsAim, IsAmong}
-use Rattle.pc_agg.specs.Owed.{Owes, OwesSettled, answer_of}
-use Rattle.pc_agg.specs.Settings.{unseen}
+use Rattle.pc_agg.specs.Owed.{Owes, OwesSettled, answer_of, HasEnds, CanGive, IsGiving, MayGiveOne, LeavesLack}
+use Rattle.pc_search.specs.Settings.{unseen}
 use Rattle.pc_agg.specs.Settling.{IsListed, IsUnlisted, IsOfCells, IsRelation, IsSettled}
 use Rattle.pc_agg.proofs.Attained.{lawful_runs, counted_runs}
-use Rattle.pc_agg.proofs.Ending.{IsDone, end_done, end_exact}
+use Rattle.pc_agg.proofs.Ending.{IsEndDone, IsDone, end_done, end_exact}
 use Rattle.pc_agg.proofs.Questions.{tree_for}
 
 -- nothing shown has counts in an empty list
@@ -67,6 +67,14 @@ pub record IsLackDone (s : Setting) (budget : ℕ) (found : List (List ℕ)) (la
   pub from : All (λ runs. Contains found (counts_of_runs s runs)) (runs_of_lack lack)
   pub licensed : (answer : Answer) → ShownFrom s found answer → LicensedLack s budget answer lack
   pub searched : LackSearched s budget lack
+
+-- a relation that breaks no rule, whose lists were found
+pub record IsRelationDone (s : Setting) (budget : ℕ) (found : List (List ℕ)) (relation : Relation) : Type 0 where
+  pub holds : HoldsRelation s relation
+  pub from : All (λ runs. Contains found (counts_of_runs s runs)) (runs_of_relation relation)
+  pub licensed : (answer : Answer) → ShownFrom s found answer → LicensedRelation s budget answer relation
+  pub searched : RelationSearched s budget relation
+  pub undecided : relation ≡ relations.Undecided → found ≡ []
 
 or_true : (b : Bool) → (b || true) ≡ true
 or_true true = refl
@@ -147,10 +155,17 @@ module _ (schema : Schema) (constraints : List Constraint) (query : Query) (seen
       (All-append (IsThere found) (runs_of_relation relation) (runs_of_lack lack) (relation_from found relation lawful is) lack_from)
       (All-nil (IsThere found))
 
+  relation_searched : (found : List (List ℕ)) (relation : Relation) → IsRelation u budget found relation → RelationSearched s budget relation
+  relation_searched found (relations.Possible runs) is = tt
+  relation_searched found (relations.Impossible why) is = why_searched why is.1
+  relation_searched found relations.Undecided is = tt
+
   pub settled_with : (found : List (List ℕ)) (relation : Relation) (lack : Lack) → All (AreLawful u) found → IsRelation u budget found relation →
-      plain.is_silent (plain_lack lack) ≡ (always_has_value query.agg || plain.is_impossible (plain_relation relation)) → HoldsLack s lack → All (IsThere found) (runs_of_lack lack) →
-      ((answer : Answer) → ShownFrom s found answer → LicensedLack s budget answer lack) → (AreDisjoint schema constraints → IsDecided relation × IsSettledLack lack) → OwesSettled s budget relation lack found
-  settled_with found relation lack lawful is silent lack_holds lack_from lack_licensed decided =
+      plain.is_silent (plain_lack lack) ≡ (always_has_value query.agg || plain.is_impossible (plain_relation relation)) → HoldsLack s lack → LackSearched s budget lack → All (IsThere found) (runs_of_lack lack) →
+      ((answer : Answer) → ShownFrom s found answer → LicensedLack s budget answer lack) → (AreDisjoint schema constraints → IsDecided relation × IsSettledLack lack) →
+      (always_has_value query.agg ≡ false → HasEnds relation lack → CanGive s × MayGiveOne s budget found) → (lack ≡ lacks.Undecided → LeavesLack s budget found) →
+      (AreDisjoint schema constraints → always_has_value query.agg ≡ false → HasEnds relation lack → Any (IsGiving s) found) → OwesSettled s budget relation lack found
+  settled_with found relation lack lawful is silent lack_holds lack_searched lack_from lack_licensed decided gives open_lack surely =
       let shown = shown_settled found relation lack lawful is lack_from in
       record {
         relation_holds = relation_holds found relation lawful is;
@@ -164,17 +179,25 @@ module _ (schema : Schema) (constraints : List Constraint) (query : Query) (seen
           low_unshown = tt;
           high_unshown = tt;
         };
+        searched = record { relation = relation_searched found relation is; lack = lack_searched; low = tt; high = tt };
         lawful = lawful;
         shown = shown;
         undecided = nothing_found found relation is;
         sharp = decided;
+        can_give = λ no ends. (gives no ends).0;
+        gives = λ no ends. (gives no ends).1;
+        open_lack = open_lack;
+        surely_gives = surely;
       }
+
+  silent_left : (found : List (List ℕ)) → lacks.Silent ≡ lacks.Undecided → LeavesLack s budget found
+  silent_left found same = absurd (true≢false (ap (λ lack. plain.is_silent (plain_lack lack)) same))
 
   settled_as : (found : List (List ℕ)) (relation : Relation) → always_has_value query.agg ≡ true → All (AreLawful u) found → IsRelation u budget found relation → (AreDisjoint schema constraints → IsDecided relation) →
       OwesSettled s budget relation lacks.Silent found
   settled_as found relation always lawful is decided =
-      settled_with found relation lacks.Silent lawful is (sym (ap (λ test. test || plain.is_impossible (plain_relation relation)) always)) tt (All-nil (IsThere found)) (λ answer from. tt)
-      (λ disjoint. (decided disjoint, tt))
+      settled_with found relation lacks.Silent lawful is (sym (ap (λ test. test || plain.is_impossible (plain_relation relation)) always)) tt tt (All-nil (IsThere found)) (λ answer from. tt)
+      (λ disjoint. (decided disjoint, tt)) (λ no ends. absurd (true≢false (sym always ∙ no))) (silent_left found) (λ disjoint no ends. absurd (true≢false (sym always ∙ no)))
 
   pub owes_settled : (settled : Settled) → always_has_value query.agg ≡ true → IsSettled u budget settled → (AreDisjoint schema constraints → IsDecided settled.relation) → OwesSettled s budget settled.relation settled.lack settled.found
   owes_settled settled always is decided =
@@ -183,12 +206,17 @@ module _ (schema : Schema) (constraints : List Constraint) (query : Query) (seen
   -- nothing is possible, whatever the aggregate
   pub settled_impossible : (why : Why) → ShowsImpossible u why → IsOfCells why → OwesSettled s budget (relations.Impossible why) lacks.Silent []
   settled_impossible why shows of =
-      settled_with [] (relations.Impossible why) lacks.Silent (All-nil (AreLawful u)) (shows, of) (sym (or_true (always_has_value query.agg))) tt (All-nil (IsThere [])) (λ answer from. tt) (λ disjoint. (tt, tt))
+      settled_with [] (relations.Impossible why) lacks.Silent (All-nil (AreLawful u)) (shows, of) (sym (or_true (always_has_value query.agg))) tt tt (All-nil (IsThere [])) (λ answer from. tt) (λ disjoint. (tt, tt))
+      (λ no ends. absurd (true≢false ends.0)) (silent_left []) (λ disjoint no ends. absurd (true≢false ends.0))
 
-  relation_searched : (found : List (List ℕ)) (relation : Relation) → IsRelation u budget found relation → RelationSearched s budget relation
-  relation_searched found (relations.Possible runs) is = tt
-  relation_searched found (relations.Impossible why) is = why_searched why is.1
-  relation_searched found relations.Undecided is = tt
+  relation_done : (found : List (List ℕ)) (relation : Relation) → All (AreLawful u) found → IsRelation u budget found relation → IsRelationDone s budget found relation
+  relation_done found relation lawful is = record {
+    holds = relation_holds found relation lawful is;
+    from = relation_from found relation lawful is;
+    licensed = λ answer from. relation_licensed found relation answer is from;
+    searched = relation_searched found relation is;
+    undecided = nothing_found found relation is;
+  }
 
   -- ---- no list
 
@@ -249,18 +277,18 @@ module _ (schema : Schema) (constraints : List Constraint) (query : Query) (seen
 
   -- ---- both ends
 
-  module _ (found : List (List ℕ)) (lawful : All (AreLawful u) found) (low high : End) (low_done : IsDone Low s budget query.agg found low) (high_done : IsDone High s budget query.agg found high) where
+  module _ (found : List (List ℕ)) (low high : End) (low_end : IsEndDone Low s budget query.agg found low) (high_end : IsEndDone High s budget query.agg found high) where
     abbrev with_ends : Relation → Lack → Answer
     with_ends relation lack = record { relation = relation; lack = lack; ends = Some (low, high) }
 
-    shown_from : (relation : Relation) (lack : Lack) → IsRelation u budget found relation → IsLackDone s budget found lack → ShownFrom s found (with_ends relation lack)
+    shown_from : (relation : Relation) (lack : Lack) → IsRelationDone s budget found relation → IsLackDone s budget found lack → ShownFrom s found (with_ends relation lack)
     shown_from relation lack is done =
         All-append (IsThere found) (runs_of_relation relation ++ runs_of_lack lack) (runs_of_mark low.mark ++ runs_of_mark high.mark)
-        (All-append (IsThere found) (runs_of_relation relation) (runs_of_lack lack) (relation_from found relation lawful is) done.from)
-        (All-append (IsThere found) (runs_of_mark low.mark) (runs_of_mark high.mark) low_done.from high_done.from)
+        (All-append (IsThere found) (runs_of_relation relation) (runs_of_lack lack) is.from done.from)
+        (All-append (IsThere found) (runs_of_mark low.mark) (runs_of_mark high.mark) low_end.from high_end.from)
 
     -- an exact end shows runs, whose counts were found
-    stands : (relation : Relation) (end : End) → IsRelation u budget found relation → All (IsThere found) (runs_of_mark end.mark) → MayStand relation end
+    stands : (relation : Relation) (end : End) → IsRelationDone s budget found relation → All (IsThere found) (runs_of_mark end.mark) → MayStand relation end
     stands (relations.Possible runs) end is from = tt
     stands (relations.Impossible why) end is from = tt
     stands relations.Undecided end is from = by_mark end.mark from
@@ -268,12 +296,14 @@ module _ (schema : Schema) (constraints : List Constraint) (query : Query) (seen
         by_mark : (mark : Mark) → All (IsThere found) (runs_of_mark mark) → MayStand relations.Undecided (record { value = end.value; mark = mark; proof = end.proof })
         by_mark marks.Outer from = refl
         by_mark (marks.Exact runs) from =
-            let there = subst (λ l. Contains l (counts_of_runs s runs)) is.none (All-head (IsThere found) runs [] from) in
+            let there = subst (λ l. Contains l (counts_of_runs s runs)) (is.undecided refl) (All-head (IsThere found) runs [] from) in
             absurd (omega (arith, there.1))
 
-    pub owes_both : (relation : Relation) (lack : Lack) → plain.is_impossible (plain_relation relation) ≡ false → IsRelation u budget found relation → IsLackDone s budget found lack →
+    -- the answer with these ends, of which nothing shown attains an outer one
+    pub owes_ends : (relation : Relation) (lack : Lack) → plain.is_impossible (plain_relation relation) ≡ false → IsRelationDone s budget found relation → IsLackDone s budget found lack →
+        IfOuter low.mark (IsShown s (with_ends relation lack) (ratio_of low.value) → ⊥) → IfOuter high.mark (IsShown s (with_ends relation lack) (ratio_of high.value) → ⊥) →
         (AreDisjoint schema constraints → IsDecided relation × IsExact low.mark × IsExact high.mark × IsSettledLack lack) → Owes s budget (with_ends relation lack)
-    owes_both relation lack may is done decided =
+    owes_ends relation lack may is done low_unshown high_unshown decided =
         let shown = shown_from relation lack is done in
         record {
           form = record {
@@ -281,47 +311,58 @@ module _ (schema : Schema) (constraints : List Constraint) (query : Query) (seen
             preorder = tree.preorder;
             silent = done.silent ∙ sym (ap (λ test. always_has_value query.agg || test) may ∙ or_false (always_has_value query.agg));
             absent = sym (ap₂ ◌||◌ may done.given);
-            low = low_done.formed;
-            high = high_done.formed;
+            low = low_end.formed;
+            high = high_end.formed;
           };
           unbroken = record {
             allowed = asking.allowed;
             proper = tree.proper;
             settled = settled_here;
-            relation = relation_holds found relation lawful is;
+            relation = is.holds;
             lack = done.holds;
-            low = (low_done.holds, stands relation low is low_done.from);
-            high = (high_done.holds, stands relation high is high_done.from);
+            low = (low_end.holds, stands relation low is low_end.from);
+            high = (high_end.holds, stands relation high is high_end.from);
           };
           licensed = record {
-            relation = relation_licensed found relation (with_ends relation lack) is shown;
+            relation = is.licensed (with_ends relation lack) shown;
             lack = done.licensed (with_ends relation lack) shown;
-            low = low_done.licensed (with_ends relation lack) shown;
-            high = high_done.licensed (with_ends relation lack) shown;
-            low_unshown = low_done.unshown (with_ends relation lack) shown;
-            high_unshown = high_done.unshown (with_ends relation lack) shown;
+            low = low_end.licensed (with_ends relation lack) shown;
+            high = high_end.licensed (with_ends relation lack) shown;
+            low_unshown = low_unshown;
+            high_unshown = high_unshown;
           };
-          searched = record { relation = relation_searched found relation is; lack = done.searched; low = low_done.searched; high = high_done.searched };
+          searched = record { relation = is.searched; lack = done.searched; low = low_end.searched; high = high_end.searched };
           sharp = λ disjoint. let all = decided disjoint in (record { decided = all.0; ends = (all.1, all.2) }, all.3);
         }
 
+  module _ (found : List (List ℕ)) (lawful : All (AreLawful u) found) (low high : End) (low_done : IsDone Low s budget query.agg found low) (high_done : IsDone High s budget query.agg found high) where
+    abbrev both_ends : Relation → Lack → Answer
+    both_ends relation lack = record { relation = relation; lack = lack; ends = Some (low, high) }
+
+    pub owes_both : (relation : Relation) (lack : Lack) → plain.is_impossible (plain_relation relation) ≡ false → IsRelation u budget found relation → IsLackDone s budget found lack →
+        (AreDisjoint schema constraints → IsDecided relation × IsExact low.mark × IsExact high.mark × IsSettledLack lack) → Owes s budget (both_ends relation lack)
+    owes_both relation lack may is done decided =
+        let related = relation_done found relation lawful is in
+        let shown = shown_from found low high low_done.base high_done.base relation lack related done in
+        owes_ends found low high low_done.base high_done.base relation lack may related done (low_done.unshown (both_ends relation lack) shown) (high_done.unshown (both_ends relation lack) shown) decided
+
     -- ends that cross
     pub do_cross : int_lt high.value.num low.value.num ≡ true → EndsCross s (bounded_by low) (bounded_by high)
-    do_cross crossed = record { low_holds = low_done.shows; high_holds = high_done.shows; above = not_at_most; formed = (low_done.formed, high_done.formed) }
+    do_cross crossed = record { low_holds = low_done.base.shows; high_holds = high_done.base.shows; above = not_at_most; formed = (low_done.base.formed, high_done.base.formed) }
       where
         not_at_most : IsAtMost (ratio_of low.value) (ratio_of high.value) → ⊥
         not_at_most less = omega (arith, ints, (rw (low_done.is_whole, high_done.is_whole) at less), crossed)
 
     -- leave nothing possible where each list has a value
     pub crossing : HasValue s.question → int_lt high.value.num low.value.num ≡ true → Owes s budget (impossible_by (whys.Ends (bounded_by low) (bounded_by high)))
-    crossing valued crossed = owes_impossible (whys.Ends (bounded_by low) (bounded_by high)) (do_cross crossed, valued) (low_done.searched, high_done.searched)
+    crossing valued crossed = owes_impossible (whys.Ends (bounded_by low) (bounded_by high)) (do_cross crossed, valued) (low_done.base.searched, high_done.base.searched)
 
     pub owes_between : (relation : Relation) → always_has_value query.agg ≡ true → plain.is_impossible (plain_relation relation) ≡ false → IsRelation u budget found relation →
         (AreDisjoint schema constraints → IsDecided relation × IsExact low.mark × IsExact high.mark) → Owes s budget (answer_between relation low high)
     owes_between relation always may is decided = by_test (is_open relation && int_lt high.value.num low.value.num) refl
       where
         by_test : (test : Bool) → (is_open relation && int_lt high.value.num low.value.num) ≡ test →
-            Owes s budget (cond test (impossible_by (whys.Ends (bounded_by low) (bounded_by high))) (with_ends relation lacks.Silent))
+            Owes s budget (cond test (impossible_by (whys.Ends (bounded_by low) (bounded_by high))) (both_ends relation lacks.Silent))
         by_test true e = crossing (inl always) (and_parts (is_open relation) (int_lt high.value.num low.value.num) e).1
         by_test false e = owes_both relation lacks.Silent may is (silent_done found always) (λ disjoint. let all = decided disjoint in (all.0, all.1, all.2, tt))
 

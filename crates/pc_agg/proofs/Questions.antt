@@ -21,8 +21,8 @@ use Rattle.pc_proof.proofs.Ends.{sum_asks_numbers}
 use Rattle.pc_proof.proofs.Groups.{keeps_region}
 use Rattle.pc_proof.proofs.Seen.{keeps, value-count, value-sum}
 use Rattle.pc_licence.specs.Totals.{seen_value}
-use Rattle.pc_agg.specs.Asked.{Asking, asked_as, setting_for}
-use Rattle.pc_agg.specs.Ends.{adds}
+use Rattle.pc_search.specs.Asked.{Asking, asked_as, setting_for}
+use Rattle.pc_search.specs.Ends.{adds}
 use Rattle.pc_agg.specs.Observed.{folded_value}
 
 some_sum : (column : Option ℕ) (named : ℕ) (P : Type 0) → column ≡ Some named → IfSome column (λ _. P) → P

@@ -1,7 +1,7 @@
 -- The programs that the code makes of cells and keys are those of the cells' classes.
-use Rattle.std.proofs.Common.{◌≡◌, ℕ, ◌<◌, ◌≤◌, ◌^◌, Bool, true, false, cond, List, [], length, map, replicate, get_or, refl, sym, ap, ap₂, subst, ◌∙◌, arith}
+use Rattle.std.proofs.Common.{◌≡◌, ℕ, ◌<◌, ◌≤◌, Bool, true, false, cond, List, length, map, get_or, refl, sym, ap, ap₂, subst, ◌∙◌, arith}
 use Rattle.std.specs.Prelude.{ℤ, pos, nat_abs, int_le, int_lt, ◌&&◌}
-use Rattle.std.proofs.lemmas.List.{length-map, get_or-map, ext_get_or}
+use Rattle.std.proofs.lemmas.List.{length-map, get_or-map}
 use Rattle.pc_model.specs.declared.schema.Schema.{Schema}
 use Rattle.pc_model.specs.declared.constraint.Constraint.{Constraint}
 use Rattle.pc_model.specs.declared.query.Query.{Query}
@@ -14,36 +14,26 @@ use Rattle.pc_bound.specs.Sums.{nat_at, int_at}
 use Rattle.pc_bound.specs.Allocation.{IsProgram}
 use Rattle.pc_bound.specs.CellPrograms.{cap_of, program_with}
 use Rattle.pc_tableau.specs.Numbers.{table}
-use Rattle.pc_tableau.proofs.Listed.{length-table, at-table}
 use Rattle.pc_branch.specs.Ends.{HasSmallGains}
 use Rattle.pc_program.specs.Settled.{HasOneBits}
 use Rattle.pc_cells.specs.declared.cells.Cell.{Cell}
 use Rattle.pc_cells.specs.declared.cells.Cells.{Cells}
 use Rattle.pc_cells.specs.Found.{class_of_cell}
-use Rattle.pc_proof.specs.Setting.{Setting, cells, on_chosen, counting, open_cap, program_for}
-use Rattle.pc_agg.specs.declared.extreme.Extreme.{Extreme}
+use Rattle.pc_proof.specs.Setting.{Setting, cells, on_chosen, counting, open_cap}
+use Rattle.pc_search.specs.declared.extreme.Extreme.{Extreme}
 use Rattle.pc_agg.specs.declared.ladder.Ladder.{Ladder}
 use Rattle.pc_agg.specs.declared.ladder.Test.{Test}
 use Rattle.pc_agg.specs.declared.ladder.Test.TheVariants.{Reach, Avoid}
-use Rattle.pc_agg.specs.Asked.{AreCells}
-use Rattle.pc_agg.specs.Keyed.{reach_gain, avoid_cap, chosen_gain, with_closed, tested_program}
-use Rattle.pc_agg.specs.Rungs.{key_of, reaches, avoids, rung_program, program_at, IsLadder}
-use Rattle.pc_agg.specs.Settings.{unseen}
-use Rattle.pc_agg.proofs.CellPrograms.{map_twice}
-use Rattle.pc_agg.proofs.SettledPrograms.{classes_are}
-use Rattle.pc_agg.proofs.Totals.{map_alike}
-use Rattle.pc_agg.proofs.UnseenPrograms.{tested_small, for_program, for_small, for_one_bits, without_program, without_small, without_one_bits}
-
-abbrev no_cell : Cell
-no_cell = record { mask = 0; chosen = false; leaves = [] }
-
--- a table of what a list gives at each place
-pub table_mapped : {X Y : Type 0} (f : ℕ → Y) (g : X → Y) (xs : List X) (d : X) (e : Y) → ((i : ℕ) → i < length xs → f i ≡ g (get_or xs i d)) → table (length xs) f ≡ map g xs
-table_mapped f g xs d e each =
-    ext_get_or e (table (length xs) f) (map g xs) (length-table (length xs) f ∙ sym (length-map xs g))
-    (λ i h.
-    let there : i < length xs = omega (arith, h, length-table (length xs) f) in
-    at-table (length xs) f i e there ∙ each i there ∙ sym (get_or-map g xs i d e there))
+use Rattle.pc_search.specs.Asked.{AreCells}
+use Rattle.pc_agg.specs.Keyed.{reach_gain, avoid_cap, with_closed, tested_program}
+use Rattle.pc_search.specs.Targets.{chosen_gain}
+use Rattle.pc_search.specs.Keys.{key_of}
+use Rattle.pc_agg.specs.Rungs.{reaches, avoids, rung_program, program_at, IsLadder}
+use Rattle.pc_search.specs.Settings.{unseen}
+use Rattle.pc_search.specs.Limits.{greatest_gain}
+use Rattle.pc_search.proofs.CellPrograms.{map_twice}
+use Rattle.pc_search.proofs.ListedPrograms.{no_cell, table_mapped, gains_are, program_is, chosen_is, own_classes}
+use Rattle.pc_search.proofs.UnseenPrograms.{tested_small, for_program, for_small, for_one_bits, without_program, without_small, without_one_bits}
 
 gain_same : (chosen : Bool) (rung key : ℤ) → cond (chosen && int_le rung (cond chosen key (pos 0))) (pos 1) (pos 0) ≡ cond (chosen && int_le rung key) (pos 1) (pos 0)
 gain_same true rung key = refl
@@ -56,22 +46,6 @@ cap_same false rung key cap = refl
 module _ (s : Setting) (list : List Cell) (classes : map class_of_cell list ≡ cells s) where
   abbrev class_at : ℕ → Class
   class_at i = class_of_cell (get_or list i no_cell)
-
-  -- gains that are those of the classes
-  gains_are : (own : ℕ → ℤ) (gain : Class → ℤ) → ((i : ℕ) → i < length list → own i ≡ gain (class_at i)) → table (length list) own ≡ map gain (cells s)
-  gains_are own gain each =
-      table_mapped own (λ cell. gain (class_of_cell cell)) list no_cell (pos 0) each ∙ map_twice gain class_of_cell list ∙ ap (map gain) classes
-
-  program_is : (gains : List ℤ) (gain : Class → ℤ) → gains ≡ map gain (cells s) → program_with s.question.constraints (map class_of_cell list) gains ≡ program_for s gain
-  program_is gains gain is = ap₂ (program_with s.question.constraints) classes is
-
-  pub chosen_is : (gain : ℤ) → program_with s.question.constraints (map class_of_cell list) (table (length list) (chosen_gain list gain)) ≡ program_for s (on_chosen (λ class. gain))
-  chosen_is gain = program_is (table (length list) (chosen_gain list gain)) (on_chosen (λ class. gain)) (gains_are (chosen_gain list gain) (on_chosen (λ class. gain)) (λ i h. refl))
-
-  pub even_is : (gain : ℤ) → program_with s.question.constraints (map class_of_cell list) (replicate (length list) gain) ≡ program_for s (λ class. gain)
-  even_is gain =
-      program_is (replicate (length list) gain) (λ class. gain)
-      (ap (λ n. replicate n gain) (sym (length-map list class_of_cell) ∙ ap length classes) ∙ map_alike gain (cells s))
 
   module _ (extreme : Extreme) (keys : List ℤ) (keyed : keys ≡ map (on_chosen (key_of s extreme)) (cells s)) (rung : ℤ) where
     pub keys_long : length keys ≡ length list
@@ -92,7 +66,7 @@ module _ (s : Setting) (list : List Cell) (classes : map class_of_cell list ≡ 
 
     pub reaching_is : program_with s.question.constraints (map class_of_cell list) (table (length list) (reach_gain list keys rung)) ≡ reaches s extreme rung
     reaching_is =
-        program_is (table (length list) (reach_gain list keys rung)) reached (gains_are (reach_gain list keys rung) reached gain_is)
+        program_is s list classes (table (length list) (reach_gain list keys rung)) reached (gains_are s list classes (reach_gain list keys rung) reached gain_is)
 
     abbrev closed : Class → Bool
     closed class = int_lt (key_of s extreme class) rung
@@ -116,7 +90,7 @@ module _ (s : Setting) (list : List Cell) (classes : map class_of_cell list ≡ 
         ∙ map_twice (open_cap s closed) class_of_cell list ∙ ap (map (open_cap s closed)) classes
 
     pub avoiding_is : with_closed (program_with s.question.constraints (map class_of_cell list) (table (length list) (chosen_gain list (pos 1)))) list keys rung ≡ avoids s extreme rung
-    avoiding_is = ap₂ (λ (p : Program) caps. record p { cap = caps }) (chosen_is (pos 1)) caps_are
+    avoiding_is = ap₂ (λ (p : Program) caps. record p { cap = caps }) (chosen_is s list classes (pos 1)) caps_are
 
     tested_is : (test : Test) → tested_program s.question.constraints list keys rung test ≡ rung_program s extreme test rung
     tested_is Reach = reaching_is
@@ -130,14 +104,14 @@ module _ (schema : Schema) (constraints : List Constraint) (query : Query) (foun
   u = unseen schema constraints query found.tree.nodes
 
   classes : map class_of_cell found.cells ≡ cells u
-  classes = classes_are schema constraints query.chosen found.tree.nodes found.cells [] formed own.tree own.listed
+  classes = own_classes schema constraints query found formed are own
 
   module _ (extreme : Extreme) (key : ℤ) where
     abbrev passing : Class → ℤ
     passing = counting (λ class. int_le key (key_of u extreme class))
 
-    passing_small : (class : Class) → nat_abs (passing class) ≤ 2 ^ 63
-    passing_small class = tested_small (2 ^ 63) (class.chosen && int_le key (key_of u extreme class)) (pos 1) (omega arith)
+    passing_small : (class : Class) → nat_abs (passing class) ≤ greatest_gain
+    passing_small class = tested_small (greatest_gain) (class.chosen && int_le key (key_of u extreme class)) (pos 1) (omega arith)
 
     abbrev short_of : Class → Bool
     short_of class = int_lt (key_of u extreme class) key
@@ -172,38 +146,3 @@ module _ (schema : Schema) (constraints : List Constraint) (query : Query) (foun
 
       pub at_one_bits : AreDisjoint schema constraints → HasOneBits p
       at_one_bits disjoint = subst HasOneBits (sym at_is) (rung_one_bits ladder.extreme (int_at ladder.rungs place) ladder.test disjoint)
-
-  -- ---- the same gain in the chosen cells
-
-  module _ (gain : ℤ) (p : Program) (is : p ≡ program_with constraints (map class_of_cell found.cells) (table (length found.cells) (chosen_gain found.cells gain))) where
-    pub chosen_for : p ≡ program_for u (on_chosen (λ class. gain))
-    chosen_for = is ∙ chosen_is u found.cells classes gain
-
-    pub chosen_formed : IsProgram p
-    chosen_formed = subst IsProgram (sym chosen_for) (for_program schema constraints query found.tree.nodes formed are own.tree (on_chosen (λ class. gain)))
-
-    module _ (small : nat_abs gain ≤ 2 ^ 63) where
-      each_small : (class : Class) → nat_abs (on_chosen (λ class. gain) class) ≤ 2 ^ 63
-      each_small class = tested_small (2 ^ 63) class.chosen gain small
-
-      pub chosen_small : HasSmallGains p
-      chosen_small = subst HasSmallGains (sym chosen_for) (for_small schema constraints query found.tree.nodes formed are own.tree (on_chosen (λ class. gain)) each_small)
-
-      pub chosen_one_bits : AreDisjoint schema constraints → HasOneBits p
-      chosen_one_bits disjoint = subst HasOneBits (sym chosen_for) (for_one_bits schema constraints query found.tree.nodes formed are own.tree (on_chosen (λ class. gain)) each_small disjoint)
-
-  -- ---- and in all cells
-
-  module _ (gain : ℤ) (p : Program) (is : p ≡ program_with constraints (map class_of_cell found.cells) (replicate (length found.cells) gain)) where
-    pub even_for : p ≡ program_for u (λ class. gain)
-    even_for = is ∙ even_is u found.cells classes gain
-
-    pub even_formed : IsProgram p
-    even_formed = subst IsProgram (sym even_for) (for_program schema constraints query found.tree.nodes formed are own.tree (λ class. gain))
-
-    module _ (small : nat_abs gain ≤ 2 ^ 63) where
-      pub even_small : HasSmallGains p
-      even_small = subst HasSmallGains (sym even_for) (for_small schema constraints query found.tree.nodes formed are own.tree (λ class. gain) (λ class. small))
-
-      pub even_one_bits : AreDisjoint schema constraints → HasOneBits p
-      even_one_bits disjoint = subst HasOneBits (sym even_for) (for_one_bits schema constraints query found.tree.nodes formed are own.tree (λ class. gain) (λ class. small) disjoint)

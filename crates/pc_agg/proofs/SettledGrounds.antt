@@ -1,5 +1,5 @@
 -- What is settled over the grounds of an aggregate that can lack a value owes what it must.
-use Rattle.std.proofs.Common.{◌≡◌, ℕ, ◌<◌, pos, Bool, false, List, length, All, Contains, refl, sym, ap, ap₂, subst, ◌∙◌, nat_lt, ltb-true, ltb-false, arith}
+use Rattle.std.proofs.Common.{◌≡◌, ℕ, ◌<◌, pos, Bool, false, List, length, All, Contains, refl, sym, ap, ap₂, subst, ◌∙◌, true≢false, Any, nat_lt, ltb-true, ltb-false, arith}
 use Rattle.std.specs.Prelude.{◌||◌}
 use Rattle.std.proofs.lemmas.Int.{ints}
 use Rattle.std.proofs.lemmas.List.Elements.{All-nil}
@@ -26,17 +26,19 @@ use Rattle.pc_proof.specs.Setting.{Setting}
 use Rattle.pc_proof.specs.Unbroken.{HoldsLack, plain_lack}
 use Rattle.pc_licence.specs.Licensed.{LicensedLack, IsSettledLack}
 use Rattle.pc_licence.specs.Pools.{AreLawful, ShownFrom}
+use Rattle.pc_licence.specs.Searched.{LackSearched}
 use Rattle.pc_licence.specs.Shown.{runs_of_lack, counts_of_runs}
 use Rattle.pc_agg.specs.declared.grounds.Grounds.{Grounds}
 use Rattle.pc_agg.specs.declared.grounds.Grounded.{Grounded}
 use Rattle.pc_agg.specs.declared.grounds.Grounded.TheVariants as grounded
 use Rattle.pc_agg.specs.declared.settling.Settled.{Settled}
-use Rattle.pc_agg.specs.Asked.{Asking, setting_for}
+use Rattle.pc_search.specs.Asked.{Asking, setting_for}
 use Rattle.pc_agg.specs.Extremes.{relation_from, HasLawful, IsLackFrom, IsSettledOver, IsSettledFrom}
 use Rattle.pc_agg.specs.Grounds.{IsGrounded, IsGroundedSurely, IsUnlistedIfNone}
-use Rattle.pc_agg.specs.Owed.{OwesSettled}
-use Rattle.pc_agg.specs.Settings.{unseen}
+use Rattle.pc_agg.specs.Owed.{OwesSettled, CanGive, IsGiving, MayGiveOne, LeavesLack}
+use Rattle.pc_search.specs.Settings.{unseen}
 use Rattle.pc_agg.specs.Settling.{AreRowsOfCells}
+use Rattle.pc_agg.proofs.Giving.{is_undecided, settled_lack, can_give, may_give, surely_giving, lack_left}
 use Rattle.pc_agg.proofs.Lacking.{relation_is, relation_may, relation_decided, IsObserving, lack_done, lack_settled}
 use Rattle.pc_agg.proofs.Owing.{settled_with, settled_impossible}
 use Rattle.pc_agg.proofs.Totals.{sized_rows}
@@ -45,6 +47,12 @@ pub grounded_lawful : (u : Setting) (observed : Bool) (budget : ℕ) (ground : G
 grounded_lawful u observed budget (grounded.Impossible why) is = tt
 grounded_lawful u observed budget (grounded.Always tree found) is = is.lawful
 grounded_lawful u observed budget (grounded.Open grounds) is = is.lawful
+
+-- what was found for what is settled is lawful
+pub settled_lawful : (u : Setting) (ground : Grounded) (settled : Settled) → HasLawful u ground → IsSettledFrom u ground settled → All (AreLawful u) settled.found
+settled_lawful u (grounded.Impossible why) settled lawful from = subst (λ (x : Settled). All (AreLawful u) x.found) (sym from) (All-nil (AreLawful u))
+settled_lawful u (grounded.Always tree found) settled lawful from = subst (All (AreLawful u)) (sym from.0.found_is) lawful
+settled_lawful u (grounded.Open grounds) settled lawful from = subst (All (AreLawful u)) (sym from.0.found_is) lawful
 
 pub sized_found : (u : Setting) (picks : List Row) (found : List (List ℕ)) → AreRowsOfCells u picks → All (AreLawful u) found → All (λ counts. length picks ≡ length counts) found
 sized_found u picks found rows lawful place d inside = sized_rows u picks _ rows (lawful place d inside)
@@ -78,16 +86,20 @@ module _ (schema : Schema) (constraints : List Constraint) (query : Query) (seen
 
   -- a list of the first counts, and a lack that is known
   settled_over : (found : List (List ℕ)) (settled : Settled) (lack : Lack) → IsSettledOver u found settled → settled.lack ≡ lack → All (AreLawful u) found → IsUnlistedIfNone u budget found →
-      plain.is_silent (plain_lack lack) ≡ false → HoldsLack s lack → All (IsThere found) (runs_of_lack lack) → ((answer : Answer) → ShownFrom s found answer → LicensedLack s budget answer lack) →
-      (AreDisjoint schema constraints → (0 < length found) × IsSettledLack lack) → OwesSettled s budget settled.relation settled.lack settled.found
-  settled_over found settled lack is same lawful totals silent holds from licensed sure =
+      plain.is_silent (plain_lack lack) ≡ false → HoldsLack s lack → LackSearched s budget lack → All (IsThere found) (runs_of_lack lack) → ((answer : Answer) → ShownFrom s found answer → LicensedLack s budget answer lack) →
+      (AreDisjoint schema constraints → (0 < length found) × IsSettledLack lack) → (plain.is_always (plain_lack lack) ≡ false → CanGive s × MayGiveOne s budget found) → (lack ≡ lacks.Undecided → LeavesLack s budget found) →
+      (AreDisjoint schema constraints → plain.is_always (plain_lack lack) ≡ false → Any (IsGiving s) found) → OwesSettled s budget settled.relation settled.lack settled.found
+  settled_over found settled lack is same lawful totals silent holds searched from licensed sure gives open_lack surely =
       let owed =
       settled_with schema constraints query seen nodes formed limited tree budget asking found (relation_from is.picks found) lack lawful (relation_is u budget is.picks found is.rows totals)
-      (silent ∙ sym (ap₂ ◌||◌ lacks_value (relation_may is.picks found))) holds from licensed
-      (λ disjoint. let own = sure disjoint in (relation_decided is.picks found own.0, own.1)) in
+      (silent ∙ sym (ap₂ ◌||◌ lacks_value (relation_may is.picks found))) holds searched from licensed
+      (λ disjoint. let own = sure disjoint in (relation_decided is.picks found own.0, own.1)) (λ no ends. gives ends.1) open_lack (λ disjoint no ends. surely disjoint ends.1) in
       subst (OwesSettled s budget settled.relation settled.lack) (sym is.found_is)
       (subst (λ relation. OwesSettled s budget relation settled.lack found) (sym is.relation_is)
       (subst (λ l. OwesSettled s budget (relation_from is.picks found) l found) (sym same) owed))
+
+  settled_lack_left : (lack : Lack) (found : List (List ℕ)) → is_undecided lack ≡ false → lack ≡ lacks.Undecided → LeavesLack s budget found
+  settled_lack_left lack found settled same = absurd (settled_lack lack settled same)
 
   pub owes_grounded : (observed : Bool) → IsObserving s observed → (ground : Grounded) (settled : Settled) → IsGrounded u observed budget ground →
       (AreDisjoint schema constraints → IsGroundedSurely u observed ground) → IsSettledFrom u ground settled → OwesSettled s budget settled.relation settled.lack settled.found
@@ -95,16 +107,22 @@ module _ (schema : Schema) (constraints : List Constraint) (query : Query) (seen
       subst (λ (x : Settled). OwesSettled s budget x.relation x.lack x.found) (sym from)
       (settled_impossible schema constraints query seen nodes formed limited tree budget asking why is.0 is.1)
   owes_grounded observed observing (grounded.Always by_tree found) settled is sure from =
-      settled_over found settled (lacks.Always (alwayses.Tree by_tree)) from.0 from.1 is.lawful is.totals refl (observing.none is.unseen, is.shows) (All-nil (IsThere found)) (λ answer shown. tt)
-      (λ disjoint. (sure disjoint, tt))
+      settled_over found settled (lacks.Always (alwayses.Tree by_tree)) from.0 from.1 is.lawful is.totals refl (observing.none is.unseen, is.shows) tt (All-nil (IsThere found)) (λ answer shown. tt)
+      (λ disjoint. (sure disjoint, tt)) (λ may. absurd (true≢false may)) (settled_lack_left (lacks.Always (alwayses.Tree by_tree)) found refl) (λ disjoint may. absurd (true≢false may))
   owes_grounded observed observing (grounded.Open grounds) settled is sure from =
       let done =
       lack_done schema constraints query seen nodes formed tree budget asking lacks_value observed observing from.0.picks from.0.rows grounds.found is.lawful grounds.lacking settled.lack
       is.lacking_is is.doubt from.1 in
-      settled_over grounds.found settled settled.lack from.0 refl is.lawful is.totals (done.silent ∙ lacks_value) done.holds done.from done.licensed
+      settled_over grounds.found settled settled.lack from.0 refl is.lawful is.totals (done.silent ∙ lacks_value) done.holds done.searched done.from done.licensed
       (λ disjoint.
       let own = sure disjoint in
       (own.listed, lack_settled u observed budget from.0.picks grounds.found grounds.lacking settled.lack is.lacking_is own.lacking_surely own.found_some from.1))
+      (λ may'. (
+        can_give schema constraints query seen nodes budget asking observed observing is.some,
+        may_give schema constraints query seen nodes budget asking observed grounds.found observing is.doubt,
+      ))
+      (lack_left schema constraints query seen nodes budget asking observed from.0.picks grounds.found grounds.lacking settled.lack observing is.lawful is.lacking_is from.1)
+      (λ disjoint may'. surely_giving schema constraints query seen nodes budget asking observed grounds.found observing (sure disjoint).found_some)
 
 -- whether rows were observed, by their number
 pub observing_count : (schema : Schema) (constraints : List Constraint) (query : Query) (seen : Folded) (nodes : List CutNode) (asking : Asking schema constraints query seen) →

@@ -33,22 +33,24 @@ use Rattle.pc_licence.specs.Pools.{AreLawful, ShownFrom, HoldsNone}
 use Rattle.pc_licence.specs.Shown.{runs_of_mark, counts_of_runs, IsShown}
 use Rattle.pc_licence.specs.Wanted.{Has, LeavesOpen}
 use Rattle.pc_licence.proofs.Found.{shown-found}
-use Rattle.pc_agg.specs.declared.extreme.Extreme.{Extreme}
-use Rattle.pc_agg.specs.declared.extreme.Extreme.TheVariants.{Low, High}
+use Rattle.pc_search.specs.declared.extreme.Extreme.{Extreme}
+use Rattle.pc_search.specs.declared.extreme.Extreme.TheVariants.{Low, High}
 use Rattle.pc_agg.specs.declared.ladder.Test.{Test}
 use Rattle.pc_agg.specs.declared.ladder.Test.TheVariants.{Reach, Avoid}
 use Rattle.pc_agg.specs.declared.stand.Stand.{Stand}
-use Rattle.pc_agg.specs.declared.want.Want.{Want}
-use Rattle.pc_agg.specs.declared.want.Want.TheVariants as wants
-use Rattle.pc_agg.specs.Asked.{Asking, setting_for}
-use Rattle.pc_agg.specs.Ends.{signed, HoldsEnd}
+use Rattle.pc_search.specs.declared.want.Want.{Want}
+use Rattle.pc_search.specs.declared.want.Want.TheVariants as wants
+use Rattle.pc_search.specs.Asked.{Asking, setting_for}
+use Rattle.pc_search.specs.Ends.{signed, HoldsEnd}
 use Rattle.pc_agg.specs.Extremes.{agg_of, seen_number, test_at, key_at}
-use Rattle.pc_agg.specs.Grounds.{want_for, IsUnlistedIfNone}
+use Rattle.pc_search.specs.Wants.{want_for}
+use Rattle.pc_agg.specs.Grounds.{IsUnlistedIfNone}
 use Rattle.pc_agg.specs.Rungs.{reaches, avoids, rung_program}
-use Rattle.pc_agg.specs.Settings.{unseen}
+use Rattle.pc_search.specs.Settings.{unseen}
 use Rattle.pc_agg.specs.Settling.{AreRowsOfCells}
-use Rattle.pc_agg.specs.Stands.{IsAtEnd, IsProved, IsBeside, IsBeyond, IsObservedKey, IsNear, IsWanted, IsStand, IsMarkedBy, IsEndAt}
-use Rattle.pc_agg.specs.Wants.{wanted_of, Reaches, IsFound, IsDoubt}
+use Rattle.pc_search.specs.Keys.{IsAtEnd}
+use Rattle.pc_agg.specs.Stands.{IsProved, IsBeside, IsBeyond, IsObservedKey, IsNear, IsWanted, IsStand, IsMarkedBy, IsEndAt}
+use Rattle.pc_search.specs.Wants.{wanted_of, Reaches, IsFound, IsDoubt}
 use Rattle.pc_agg.proofs.Attained.{counted_runs}
 use Rattle.pc_agg.proofs.Ending.{ShowsEnd, LicensedEnd, SearchedEnd, IsDone}
 use Rattle.pc_agg.proofs.Owing.{both_totals}
@@ -303,14 +305,16 @@ module _ (schema : Schema) (constraints : List Constraint) (query : Query) (seen
 
     done_with : (mark : Mark) → IsMarkedBy stand found mark → IsDone extreme s budget query.agg found (end_with mark)
     done_with mark marked = record {
-      holds = holds_end extreme mark refl marked;
-      formed = record { positive = omega (arith, ints); ratio = ratio_here extreme stand is };
+      base = record {
+        holds = holds_end extreme mark refl marked;
+        formed = record { positive = omega (arith, ints); ratio = ratio_here extreme stand is };
+        shows = shows_as;
+        searched = subst (λ agg. SearchedEnd extreme s budget agg v stand.proof) (sym agg_is) (searched_end schema constraints query seen nodes asking IsNumbered numbered budget far extreme stand.key stand.proof is.proved);
+        licensed = λ answer from. licensed_mark answer mark marked from;
+        from = mark_from mark marked;
+      };
       is_whole = refl;
-      shows = shows_as;
-      searched = subst (λ agg. SearchedEnd extreme s budget agg v stand.proof) (sym agg_is) (searched_end schema constraints query seen nodes asking IsNumbered numbered budget far extreme stand.key stand.proof is.proved);
-      licensed = λ answer from. licensed_mark answer mark marked from;
       unshown = λ answer from. unshown_mark answer mark marked from;
-      from = mark_from mark marked;
     }
 
     pub stand_done : (end : End) → IsEndAt extreme stand found end → IsDone extreme s budget query.agg found end

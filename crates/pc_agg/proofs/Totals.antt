@@ -1,5 +1,5 @@
 -- What searches of totals settle, and the lists that they find.
-use Rattle.std.proofs.Common.{◌≡◌, ℕ, ◌<◌, ◌≤◌, ◌^◌, ℤ, pos, neg_ℤ, nat_abs, ◌≤ℤ◌, ◌<ℤ◌, Bool, true, false, cond, inl, inr, ◌⊎◌, List, [], ◌∷◌, length, map, replicate, All, Option, Some, None, Result, Ok, Err, refl, sym, ap, ap₂, subst, ◌∙◌, arith}
+use Rattle.std.proofs.Common.{◌≡◌, ℕ, ◌<◌, ◌≤◌, ◌^◌, ℤ, pos, neg_ℤ, nat_abs, ◌≤ℤ◌, ◌<ℤ◌, Bool, true, false, cond, inl, inr, ◌⊎◌, List, [], ◌∷◌, length, map, All, Option, Some, None, Result, Ok, Err, refl, sym, ap, ap₂, subst, ◌∙◌, arith}
 use Rattle.std.specs.Prelude.{int_lt, slice_index_or, IfSome, IfOk, MatchOption, ⊤}
 use Rattle.std.proofs.lemmas.Int.{ints, clamps}
 use Rattle.std.proofs.lemmas.List.{length-map, get_or_default}
@@ -20,13 +20,13 @@ use Rattle.pc_proof.specs.Table.{one, minus_one, bound_for, IsSound, Cross}
 use Rattle.pc_licence.specs.Pools.{AreLawful}
 use Rattle.pc_licence.specs.Wanted.{any, LeavesOpen}
 use Rattle.pc_licence.proofs.Trees.{licence-open}
-use Rattle.pc_agg.specs.declared.limit.Limit.{Limit}
+use Rattle.pc_search.specs.declared.limit.Limit.{Limit}
 use Rattle.pc_agg.specs.declared.settling.Settled.{Settled}
 use Rattle.pc_agg.specs.declared.settling.Total.{Total}
 use Rattle.pc_agg.specs.declared.settling.Total.TheVariants as totals
-use Rattle.pc_agg.specs.Limits.{IsLimit, IsReached, IsCutShort, IsEmpty}
+use Rattle.pc_search.specs.Limits.{IsLimit, IsReached, IsCutShort, IsEmpty}
 use Rattle.pc_agg.specs.Settling.{AreRowsOfCells, AreOpenTotals, IsLimitOfGain, IsSettled, IsLeftOpen, IsTotal, IsTotalOf, left_open}
-use Rattle.pc_agg.proofs.Empty.{shows_none}
+use Rattle.pc_search.proofs.Empty.{shows_none}
 use Rattle.pc_agg.proofs.Ending.{within_limit}
 
 -- what holds of a good result by two clauses, one of which has a premise
@@ -35,10 +35,6 @@ ok_both (Ok x) P Q R first second join = join x first second
 ok_both (Err e) P Q R first second join = tt
 
 -- ---- gains
-
-pub map_alike : {X : Type 0} (g : ℤ) (xs : List X) → replicate (length xs) g ≡ map (λ (x : X). g) xs
-map_alike g [] = refl
-map_alike g (x ∷ xs) = ap (λ later. g ∷ later) (map_alike g xs)
 
 module _ (u : Setting) where
   -- ---- a list

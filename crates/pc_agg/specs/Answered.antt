@@ -1,5 +1,5 @@
 -- The answer that a settled relation and two ends give.
-use Rattle.std.specs.Prelude.{◌≡◌, ◌≤◌, ◌^◌, ◌+ℤ◌, ℕ, int_lt, nat_abs, Bool, true, false, ◌&&◌, cond, length, List, [], ◌∷◌, All, Option, Some, None}
+use Rattle.std.specs.Prelude.{◌≡◌, ◌≤◌, ◌^◌, ◌+ℤ◌, ℕ, int_lt, nat_abs, Bool, true, false, ◌&&◌, cond, length, List, All, Some, None}
 use Rattle.pc_model.specs.declared.query.Agg.{Agg}
 use Rattle.pc_model.specs.declared.query.Folded.{Folded}
 use Rattle.pc_bound.specs.Allocation.{IsProgram, IsAllocation, cells_of}
@@ -13,16 +13,11 @@ use Rattle.pc_proof.specs.declared.answer.Lack.TheVariants.{Silent}
 use Rattle.pc_proof.specs.declared.answer.End.{End}
 use Rattle.pc_proof.specs.declared.answer.Answer.{Answer}
 use Rattle.pc_agg.specs.declared.aim.Aim.{Aim}
-use Rattle.pc_agg.specs.declared.extreme.Extreme.{Extreme}
-use Rattle.pc_agg.specs.declared.extreme.Extreme.TheVariants.{Low, High}
-use Rattle.pc_agg.specs.Ends.{signed}
+use Rattle.pc_search.specs.declared.extreme.Extreme.{Extreme}
+use Rattle.pc_search.specs.declared.extreme.Extreme.TheVariants.{Low, High}
+use Rattle.pc_search.specs.Ends.{signed}
 use Rattle.pc_agg.specs.Marks.{IsEndOf}
 use Rattle.pc_agg.specs.Observed.{folded_value}
-
--- what one search found
-abbrev pub found_of : Option (List ℕ) → List (List ℕ)
-found_of None = []
-found_of (Some counts) = counts ∷ []
 
 abbrev pub impossible_by : Why → Answer
 impossible_by why = record { relation = Impossible why; lack = Silent; ends = None }

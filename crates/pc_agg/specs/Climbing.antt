@@ -10,11 +10,11 @@ use Rattle.pc_agg.specs.declared.ladder.Ladder.{Ladder}
 use Rattle.pc_agg.specs.declared.climb.Span.{Span}
 use Rattle.pc_agg.specs.declared.climb.Halved.{Halved}
 use Rattle.pc_agg.specs.declared.climb.Halved.TheVariants as halves
-use Rattle.pc_agg.specs.declared.probe.Verdict.{Verdict}
-use Rattle.pc_agg.specs.declared.probe.Verdict.TheVariants as verdicts
-use Rattle.pc_agg.specs.declared.want.Want.{Want}
+use Rattle.pc_search.specs.declared.probes.Verdict.{Verdict}
+use Rattle.pc_search.specs.declared.probes.Verdict.TheVariants as verdicts
+use Rattle.pc_search.specs.declared.want.Want.{Want}
 use Rattle.pc_agg.specs.Rungs.{program_at, IsStep}
-use Rattle.pc_agg.specs.Wants.{IsDoubt, IsFound}
+use Rattle.pc_search.specs.Wants.{IsDoubt, IsFound}
 
 -- the rungs before the first are shown not to be ends, and the last, unless it is that of the ladder, is in doubt
 pub record IsSpan (s : Setting) (budget : ℕ) (ladder : Ladder) (want : Want) (found : List (List ℕ)) (span : Span) : Type 0 where

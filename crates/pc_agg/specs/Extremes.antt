@@ -19,8 +19,8 @@ use Rattle.pc_proof.specs.declared.answer.Answer.{Answer}
 use Rattle.pc_proof.specs.Setting.{Setting, program_for}
 use Rattle.pc_proof.specs.Table.{none, ShowsNone}
 use Rattle.pc_licence.specs.Pools.{AreLawful}
-use Rattle.pc_agg.specs.declared.extreme.Extreme.{Extreme}
-use Rattle.pc_agg.specs.declared.extreme.Extreme.TheVariants.{Low, High}
+use Rattle.pc_search.specs.declared.extreme.Extreme.{Extreme}
+use Rattle.pc_search.specs.declared.extreme.Extreme.TheVariants.{Low, High}
 use Rattle.pc_agg.specs.declared.extremes.Pair.{Pair}
 use Rattle.pc_agg.specs.declared.extremes.Pair.TheVariants as pairs
 use Rattle.pc_agg.specs.declared.grounds.Grounded.{Grounded}
@@ -31,13 +31,13 @@ use Rattle.pc_agg.specs.declared.ladder.Test.{Test}
 use Rattle.pc_agg.specs.declared.ladder.Test.TheVariants.{Reach, Avoid}
 use Rattle.pc_agg.specs.declared.settling.Settled.{Settled}
 use Rattle.pc_agg.specs.declared.stand.Stand.{Stand}
-use Rattle.pc_agg.specs.declared.want.Want.TheVariants as wants
+use Rattle.pc_search.specs.declared.want.Want.TheVariants as wants
 use Rattle.pc_agg.specs.Answered.{impossible_by, bounded_by}
-use Rattle.pc_agg.specs.Ends.{signed}
-use Rattle.pc_agg.specs.Grounds.{fewest_chosen, most_chosen}
+use Rattle.pc_search.specs.Ends.{signed}
+use Rattle.pc_search.specs.Wants.{fewest_chosen, most_chosen}
 use Rattle.pc_agg.specs.Settling.{AreRowsOfCells}
 use Rattle.pc_agg.specs.Stands.{IsStand, IsEndAt}
-use Rattle.pc_agg.specs.Wants.{IsFound, IsMet}
+use Rattle.pc_search.specs.Wants.{IsFound, IsMet}
 
 -- the far end of a least number is the low one, of a greatest the high one
 abbrev pub agg_of : Extreme → Agg

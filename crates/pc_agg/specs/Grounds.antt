@@ -2,32 +2,18 @@
 use Rattle.std.specs.Prelude.{◌≡◌, ⊤, ℕ, ◌<◌, pos, neg_ℤ, ◌≤ℤ◌, Bool, true, false, List, [], length, All, Any}
 use Rattle.pc_model.specs.declared.tree.Tree.{Tree}
 use Rattle.pc_model.specs.Cells.{Class}
-use Rattle.pc_bound.specs.declared.program.Program.{Program}
 use Rattle.pc_proof.specs.declared.answer.NeverBy.TheVariants as nevers
-use Rattle.pc_proof.specs.Setting.{Setting, cells, on_chosen, program_for}
-use Rattle.pc_proof.specs.Table.{one, minus_one, Shows, ShowsImpossible}
+use Rattle.pc_proof.specs.Setting.{Setting, cells}
+use Rattle.pc_proof.specs.Table.{Shows, ShowsImpossible}
 use Rattle.pc_licence.specs.Pools.{AreLawful}
 use Rattle.pc_agg.specs.declared.grounds.Lacking.{Lacking}
 use Rattle.pc_agg.specs.declared.grounds.Lacking.TheVariants as lackings
 use Rattle.pc_agg.specs.declared.grounds.Grounds.{Grounds}
 use Rattle.pc_agg.specs.declared.grounds.Grounded.{Grounded}
 use Rattle.pc_agg.specs.declared.grounds.Grounded.TheVariants as grounds
-use Rattle.pc_agg.specs.declared.want.Want.{Want}
-use Rattle.pc_agg.specs.declared.want.Want.TheVariants as wants
+use Rattle.pc_search.specs.declared.want.Want.TheVariants as wants
 use Rattle.pc_agg.specs.Settling.{IsUnlisted, IsOfCells}
-use Rattle.pc_agg.specs.Wants.{IsDoubt, IsFound}
-
--- where rows were observed each list gives a value, and else those with a chosen row
-abbrev pub want_for : Bool → Want
-want_for true = wants.Any
-want_for false = wants.Gaining
-
--- the programs that count the chosen rows, and of which the fewest
-abbrev pub most_chosen : Setting → Program
-most_chosen s = program_for s (on_chosen one)
-
-abbrev pub fewest_chosen : Setting → Program
-fewest_chosen s = program_for s (on_chosen minus_one)
+use Rattle.pc_search.specs.Wants.{want_for, most_chosen, fewest_chosen, IsDoubt, IsFound}
 
 -- where nothing was found, both totals were cut short and do not cross
 abbrev pub IsUnlistedIfNone : Setting → ℕ → List (List ℕ) → Type 0

@@ -9,7 +9,7 @@ use Rattle.pc_cells.specs.declared.cells.Cell.{Cell}
 use Rattle.pc_cells.specs.Found.{class_of_cell}
 use Rattle.pc_agg.specs.declared.ladder.Test.{Test}
 use Rattle.pc_agg.specs.declared.ladder.Test.TheVariants.{Reach, Avoid}
-use Rattle.pc_agg.specs.Targets.{cell_at}
+use Rattle.pc_search.specs.Targets.{cell_at, chosen_gain}
 
 -- one for a chosen cell whose key reaches the rung
 abbrev pub reach_gain : List Cell → List ℤ → ℤ → ℕ → ℤ
@@ -18,9 +18,6 @@ reach_gain cells keys rung i = cond ((cell_at cells i).chosen && int_le rung (in
 -- no rows for a chosen cell whose key falls short of the rung
 abbrev pub avoid_cap : List Cell → List ℤ → List ℕ → ℤ → ℕ → ℕ
 avoid_cap cells keys caps rung i = cond ((cell_at cells i).chosen && int_lt (int_at keys i) rung) 0 (nat_at caps i)
-
-abbrev pub chosen_gain : List Cell → ℤ → ℕ → ℤ
-chosen_gain cells gain i = cond (cell_at cells i).chosen gain (pos 0)
 
 -- the program with such caps
 abbrev pub with_closed : Program → List Cell → List ℤ → ℤ → Program

@@ -12,13 +12,13 @@ use Rattle.pc_proof.specs.declared.answer.Proof.TheVariants as proofs
 use Rattle.pc_proof.specs.declared.answer.End.{End}
 use Rattle.pc_proof.specs.Setting.{Setting, cells, program_for}
 use Rattle.pc_proof.specs.Table.{none, ShowsNone}
-use Rattle.pc_agg.specs.declared.limit.Limit.{Limit}
+use Rattle.pc_search.specs.declared.limit.Limit.{Limit}
 use Rattle.pc_agg.specs.declared.aim.Aim.{Aim}
 use Rattle.pc_agg.specs.declared.aim.Aimed.{Aimed}
 use Rattle.pc_agg.specs.declared.aim.Aimed.TheVariants.{At, Nothing}
-use Rattle.pc_agg.specs.declared.extreme.Extreme.{Extreme}
-use Rattle.pc_agg.specs.Ends.{IsPick, program_towards}
-use Rattle.pc_agg.specs.Limits.{IsLimit, IsReached}
+use Rattle.pc_search.specs.declared.extreme.Extreme.{Extreme}
+use Rattle.pc_search.specs.Ends.{IsPick, program_towards}
+use Rattle.pc_search.specs.Limits.{IsLimit, IsReached}
 
 -- the runs are those of counts that were found and are worth the most; or none of those that were found is
 abbrev pub IsMarked : Program → ℤ → List Row → List (List ℕ) → Mark → Type 0

@@ -19,8 +19,8 @@ use Rattle.pc_licence.specs.Wanted.{any, LeavesOpen}
 use Rattle.pc_agg.specs.declared.settling.Settled.{Settled}
 use Rattle.pc_agg.specs.declared.settling.Total.{Total}
 use Rattle.pc_agg.specs.declared.settling.Total.TheVariants as totals
-use Rattle.pc_agg.specs.declared.limit.Limit.{Limit}
-use Rattle.pc_agg.specs.Limits.{IsLimit}
+use Rattle.pc_search.specs.declared.limit.Limit.{Limit}
+use Rattle.pc_search.specs.Limits.{IsLimit}
 
 -- a row of each cell
 abbrev pub AreRowsOfCells : Setting → List Row → Type 0

@@ -1,20 +1,20 @@
 ghost use Rattle.std.specs.Prelude.{◌≡◌, ◌≤◌, ◌^◌, ◌++◌, nat_abs, true, IfOk};
 ghost use Rattle.pc_model.specs.declared.query.Agg.TheVariants as aggs;
 ghost use Rattle.pc_model.specs.Right.{always_has_value};
-ghost use Rattle.pc_agg.specs.Answered.{answer_between, bounded_by, found_of, impossible_by, is_open, CanEnd, IsAnswer};
-ghost use Rattle.pc_agg.specs.Asked.{AreAsked, Asking, setting_for};
+ghost use Rattle.pc_agg.specs.Answered.{answer_between, bounded_by, impossible_by, is_open, CanEnd, IsAnswer};
+ghost use Rattle.pc_search.specs.Limits.{found_of};
+ghost use Rattle.pc_search.specs.Asked.{AreAsked, Asking, setting_for};
 ghost use Rattle.pc_agg.specs.Owed.{Owes};
 
 use crate::aim::{Aim, Aimed, aim_at};
 use crate::ends::end_towards;
-use crate::extreme::Extreme;
-use crate::limit::Limit;
 use crate::settling::{Settled, listed, settle_open};
 use pc_cells::Cells;
 use pc_list::Seq;
 use pc_model::{Agg, Constraint, Folded, Query, Schema};
 use pc_num::Memory;
 use pc_proof::{Answer, Bounded, End, Lack, Relation, Why};
+use pc_search::{Extreme, Limit};
 use std::alloc::Global;
 
 /// The range of the number of rows that the query chooses, where those observed come to `seen`, by searches of at most

@@ -3,19 +3,18 @@ ghost use Rattle.pc_model.specs.WellFormed.{IsWellFormed};
 ghost use Rattle.pc_model.specs.Accepted.{AreConstraints};
 ghost use Rattle.pc_model.specs.Membership.{AreDisjoint};
 ghost use Rattle.pc_licence.specs.Pools.{AreLawful};
-ghost use Rattle.pc_agg.specs.Asked.{AreCells};
+ghost use Rattle.pc_search.specs.Asked.{AreCells};
 ghost use Rattle.pc_agg.specs.Climbing.{above, narrowed, IsSpan, IsHalved, IsSureSpan, IsSureHalf};
 ghost use Rattle.pc_agg.specs.Rungs.{program_at, IsLadder, IsClimbed, IsClimbedSurely};
-ghost use Rattle.pc_agg.specs.Settings.{unseen};
+ghost use Rattle.pc_search.specs.Settings.{unseen};
 
 use crate::ladder::{Ladder, Test};
-use crate::probe::{Probed, Verdict, probe};
 use crate::rungs::program_at;
-use crate::want::Want;
 use pc_cells::Cells;
 use pc_list::Seq;
 use pc_model::{Constraint, Query, Schema, Tree};
 use pc_num::Memory;
+use pc_search::{Probed, Verdict, Want, probe};
 use std::alloc::Global;
 
 /// The rung that an end stands on, with a tree that rules out the rung before it, unless it is the first, and all counts

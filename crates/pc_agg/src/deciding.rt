@@ -1,11 +1,12 @@
-ghost use Rattle.std.specs.Prelude.{◌≡◌, ◌≤◌, IfOk};
+ghost use Rattle.std.specs.Prelude.{◌≡◌, ◌≤◌, All, IfOk};
 ghost use Rattle.pc_model.specs.Accepted.{AreConstraints};
 ghost use Rattle.pc_model.specs.Right.{always_has_value};
 ghost use Rattle.pc_model.specs.WellFormed.{IsWellFormed};
-ghost use Rattle.pc_agg.specs.Asked.{AreAsked, AreCells, Asking, setting_for};
+ghost use Rattle.pc_licence.specs.Pools.{AreLawful};
+ghost use Rattle.pc_search.specs.Asked.{AreAsked, AreCells, Asking, setting_for};
 ghost use Rattle.pc_agg.specs.Grounds.{IsGrounded};
 ghost use Rattle.pc_agg.specs.Owed.{OwesSettled};
-ghost use Rattle.pc_agg.specs.Settings.{unseen};
+ghost use Rattle.pc_search.specs.Settings.{unseen};
 ghost use Rattle.pc_agg.specs.Extremes.{HasLawful, IsSettledFrom};
 
 use crate::grounds::{Grounded, Grounds, ground};
@@ -29,6 +30,7 @@ pub fn settle(
     nodes: u32,
 ) -> Result<Settled, Memory>
     requires asked { AreAsked schema.now seen.now constraints.now cells.now query.now nodes }
+    ensures lawful { IfOk result (λ settled. All (AreLawful (unseen schema.now constraints.now query.now cells.now.tree.nodes)) settled.found) }
     ensures owes { IfOk result (λ settled. (asking : Asking schema.now constraints.now query.now seen.now) → OwesSettled (setting_for schema.now constraints.now query.now seen.now cells.now.tree.nodes asking) nodes settled.relation settled.lack settled.found) }
 {
     if always_has_value(query.agg) {

@@ -4,15 +4,15 @@ ghost use Rattle.pc_model.specs.Membership.{AreDisjoint};
 ghost use Rattle.pc_model.specs.WellFormed.{IsWellFormed};
 ghost use Rattle.pc_model.specs.declared.query.Agg.TheVariants as aggs;
 ghost use Rattle.pc_licence.specs.Pools.{AreLawful};
-ghost use Rattle.pc_agg.specs.Asked.{AreAsked, AreCells, Asking, setting_for};
+ghost use Rattle.pc_search.specs.Asked.{AreAsked, AreCells, Asking, setting_for};
 ghost use Rattle.pc_agg.specs.Extremes.{agg_of, key_at, seen_number, test_at, IsPair, IsPairSurely};
-ghost use Rattle.pc_agg.specs.Grounds.{most_chosen, want_for, HasValues};
+ghost use Rattle.pc_search.specs.Wants.{most_chosen, want_for};
+ghost use Rattle.pc_agg.specs.Grounds.{HasValues};
 ghost use Rattle.pc_agg.specs.Owed.{Owes};
-ghost use Rattle.pc_agg.specs.Settings.{unseen};
-ghost use Rattle.pc_agg.specs.Wants.{IsDoubt, IsFound};
+ghost use Rattle.pc_search.specs.Settings.{unseen};
+ghost use Rattle.pc_search.specs.Wants.{IsDoubt, IsFound};
 
 use crate::bounds::impossible_by;
-use crate::extreme::Extreme;
 use crate::grounds::{Grounded, Grounds, ground};
 use crate::judged::{always_by, judge};
 use crate::ladder::Test;
@@ -22,6 +22,7 @@ use pc_list::Seq;
 use pc_model::{Constraint, Folded, Query, Schema, Tree};
 use pc_num::Memory;
 use pc_proof::{AlwaysBy, Answer, Why};
+use pc_search::Extreme;
 use std::alloc::Global;
 
 /// The range of the least number that a column has among the rows that the query chooses, where those observed come to

@@ -4,20 +4,18 @@ ghost use Rattle.pc_model.specs.Membership.{AreDisjoint};
 ghost use Rattle.pc_model.specs.WellFormed.{IsWellFormed};
 ghost use Rattle.pc_cells.specs.declared.cells.Cell.{Cell};
 ghost use Rattle.pc_licence.specs.Pools.{AreLawful};
-ghost use Rattle.pc_agg.specs.Asked.{AreCells};
-ghost use Rattle.pc_agg.specs.Grounds.{want_for, HasValues, IsGrounded, IsGroundedSurely, IsLacking, IsLackingSurely, IsUnlistedIfNone};
-ghost use Rattle.pc_agg.specs.Settings.{unseen};
+ghost use Rattle.pc_search.specs.Asked.{AreCells};
+ghost use Rattle.pc_search.specs.Wants.{want_for};
+ghost use Rattle.pc_agg.specs.Grounds.{HasValues, IsGrounded, IsGroundedSurely, IsLacking, IsLackingSurely, IsUnlistedIfNone};
+ghost use Rattle.pc_search.specs.Settings.{unseen};
 
-use crate::gains::chosen_program;
-use crate::one_leaf::flat_tree;
-use crate::probe::{Probed, Verdict, probe};
 use crate::settling::{Settled, settle_totals};
-use crate::want::Want;
 use pc_cells::Cells;
 use pc_list::Seq;
 use pc_model::{Constraint, Query, Schema, Tree};
 use pc_num::Memory;
 use pc_proof::{NeverBy, Relation, Why};
+use pc_search::{Probed, Verdict, Want, chosen_program, flat_tree, probe, want_for};
 use std::alloc::Global;
 
 /// Whether the aggregate can lack a value: never, or it may, unless the budget was spent.
@@ -173,11 +171,4 @@ fn ground_most(
         Verdict::Short(tree) => Ok(Grounded::Always(tree, found)),
         Verdict::Open => Ok(Grounded::Open(Grounds { lacking, found })),
     }
-}
-
-/// Where rows were observed, each list gives a value, and else those with a chosen row.
-pub(crate) fn want_for(observed: bool) -> Want
-    ensures { result ≡ want_for observed }
-{
-    if observed { Want::Any } else { Want::Gaining }
 }

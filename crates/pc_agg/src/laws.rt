@@ -7,8 +7,8 @@ ghost use Rattle.pc_model.specs.declared.query.Folded.{Folded};
 ghost use Rattle.pc_model.specs.declared.tree.CutNode.{CutNode};
 ghost use Rattle.pc_model.specs.Accepted.{IsQuery};
 ghost use Rattle.pc_model.specs.Folds.{IsFold};
-ghost use Rattle.pc_agg.specs.Asked.{Asking, setting_for};
-ghost use Rattle.pc_agg.specs.Settings.{setting_of};
+ghost use Rattle.pc_search.specs.Asked.{Asking, setting_for};
+ghost use Rattle.pc_search.specs.Settings.{setting_of};
 
 /// A query without a group is asked of whatever observed rows come to its fold.
 pub fn folds_are_asked_of()

@@ -7,26 +7,17 @@ mod bounds;
 mod climb;
 mod deciding;
 mod ends;
-mod extreme;
 mod extremes;
 mod falling;
-mod gains;
 mod grounds;
 mod judged;
 mod ladder;
 mod laws;
-mod limit;
-mod one_leaf;
-mod probe;
-mod programs;
-mod reached;
 mod rungs;
 mod settling;
 mod stand;
-mod targets;
 #[cfg(test)]
 mod tests;
-mod want;
 
 pub use bounds::{bound_count, bound_sum};
 pub use deciding::settle;

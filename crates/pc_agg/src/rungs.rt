@@ -9,19 +9,19 @@ ghost use Rattle.pc_branch.specs.Ends.{HasSmallGains};
 ghost use Rattle.pc_program.specs.Settled.{HasOneBits};
 ghost use Rattle.pc_tableau.specs.Numbers.{table};
 ghost use Rattle.pc_cells.specs.Found.{class_of_cell};
-ghost use Rattle.pc_agg.specs.Asked.{AreCells};
-ghost use Rattle.pc_agg.specs.Keyed.{reach_gain, avoid_cap, chosen_gain, with_closed, tested_program};
+ghost use Rattle.pc_search.specs.Asked.{AreCells};
+ghost use Rattle.pc_agg.specs.Keyed.{reach_gain, avoid_cap, with_closed, tested_program};
+ghost use Rattle.pc_search.specs.Targets.{chosen_gain};
 ghost use Rattle.pc_agg.specs.Rungs.{program_at, IsLadder};
-ghost use Rattle.pc_agg.specs.Settings.{unseen};
+ghost use Rattle.pc_search.specs.Settings.{unseen};
 
-use crate::gains::chosen_gains;
 use crate::ladder::{Ladder, Test};
-use crate::programs::program_of;
 use pc_bound::Program;
 use pc_cells::{Cell, Cells};
 use pc_list::Seq;
 use pc_model::{Constraint, Query, Schema};
 use pc_num::Memory;
+use pc_search::{chosen_gains, program_of};
 use std::alloc::Global;
 
 /// The program that tests a rung.

@@ -13,18 +13,17 @@ ghost use Rattle.pc_proof.specs.declared.answer.Relation.TheVariants as relation
 ghost use Rattle.pc_proof.specs.declared.answer.Lack.TheVariants as lacks;
 ghost use Rattle.pc_proof.specs.Unbroken.{IsDecided};
 ghost use Rattle.pc_licence.specs.Pools.{AreLawful};
-ghost use Rattle.pc_agg.specs.Asked.{AreCells, AreAsked, Asking, setting_for};
+ghost use Rattle.pc_search.specs.Asked.{AreCells, AreAsked, Asking, setting_for};
 ghost use Rattle.pc_agg.specs.Owed.{OwesSettled};
-ghost use Rattle.pc_agg.specs.Settings.{unseen};
+ghost use Rattle.pc_search.specs.Settings.{unseen};
 ghost use Rattle.pc_agg.specs.Settling.{AreOpenTotals, IsLimitOfGain, IsSettled, IsTotal, IsTotalDecided, IsTotalOf, left_open};
 
-use crate::gains::equal_gains;
-use crate::limit::{Limit, Sought, seek};
 use pc_cells::Cells;
 use pc_list::Seq;
 use pc_model::{Constraint, Folded, Query, Row, Schema};
 use pc_num::Memory;
 use pc_proof::{Lack, Relation, Why};
+use pc_search::{Limit, Sought, equal_gains, seek};
 use pc_witness::rebuild;
 use std::alloc::Global;
 

@@ -3,28 +3,24 @@ ghost use Rattle.pc_model.specs.Accepted.{AreConstraints, IsNumeric, IsColumnWhe
 ghost use Rattle.pc_model.specs.Membership.{AreDisjoint};
 ghost use Rattle.pc_model.specs.WellFormed.{IsWellFormed};
 ghost use Rattle.pc_licence.specs.Pools.{AreLawful};
-ghost use Rattle.pc_agg.specs.Asked.{AreCells};
-ghost use Rattle.pc_agg.specs.Grounds.{most_chosen, want_for, HasValues};
+ghost use Rattle.pc_search.specs.Asked.{AreCells};
+ghost use Rattle.pc_search.specs.Wants.{most_chosen, want_for};
+ghost use Rattle.pc_agg.specs.Grounds.{HasValues};
 ghost use Rattle.pc_agg.specs.Rungs.{IsLadder};
-ghost use Rattle.pc_agg.specs.Settings.{unseen};
+ghost use Rattle.pc_search.specs.Settings.{unseen};
 ghost use Rattle.pc_agg.specs.Stands.{is_observed, proof_of, want_at, IsAttaining, IsStood, IsStoodOn, IsStoodSurely};
-ghost use Rattle.pc_agg.specs.Wants.{IsDoubt, IsFound};
+ghost use Rattle.pc_search.specs.Wants.{IsDoubt, IsFound};
 
 use crate::climb::{Climbed, Standing, climb};
-use crate::extreme::Extreme;
-use crate::gains::total_program;
-use crate::grounds::want_for;
 use crate::ladder::{Ladder, Test, ladder_of};
-use crate::one_leaf::flat_tree;
 use crate::rungs::program_at;
-use crate::targets::{Targets, find_keys};
-use crate::want::Want;
 use pc_bound::Program;
 use pc_cells::Cells;
 use pc_list::Seq;
 use pc_model::{Constraint, Query, Row, Schema, Tree};
 use pc_num::Memory;
 use pc_proof::Proof;
+use pc_search::{Extreme, Targets, Want, find_keys, flat_tree, total_program, want_for};
 use std::alloc::Global;
 
 /// Where an end stands: its key, what shows that it holds, the program whose wanted counts attain it, and a row of each

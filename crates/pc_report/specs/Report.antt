@@ -1,7 +1,7 @@
 -- The report of a document.
 use Rattle.std.specs.Prelude.{ℕ, pos, if◌then◌else◌, List, [], ◌∷◌, ◌++◌, codes, flat_map, Option, Some, None, slice_get}
 use Rattle.std.specs.List.{concat}
-use Rattle.pc_num.specs.Put.{scaled_text, frac_text}
+use Rattle.pc_num.specs.Put.{scaled_text}
 use Rattle.pc_num.specs.declared.fraction.Frac.{Frac}
 use Rattle.pc_model.specs.declared.schema.Kind.{Kind}
 use Rattle.pc_model.specs.declared.schema.Kind.TheVariants.{Int, Dec, Cat}
@@ -26,6 +26,7 @@ use Rattle.pc_proof.specs.declared.document.Block.{Block}
 use Rattle.pc_proof.specs.declared.document.Document.{Document}
 use Rattle.pc_proof.specs.Unbroken.{plain_lack, plain_relation}
 use Rattle.pc_report.specs.RunLines.{name_at, run_lines}
+use Rattle.pc_report.specs.Units.{average_text}
 
 -- every line of a report ends with one
 abbrev pub line_break : List ℕ
@@ -75,7 +76,7 @@ value_text schema aggs.Count column value = scaled_text value.num 0
 value_text schema aggs.Sum column value = scaled_text value.num (scale_for schema column)
 value_text schema aggs.Min column value = scaled_text value.num (scale_for schema column)
 value_text schema aggs.Max column value = scaled_text value.num (scale_for schema column)
-value_text schema aggs.Avg column value = frac_text value
+value_text schema aggs.Avg column value = average_text (scale_for schema column) value
 
 -- ---- the answer
 

@@ -3,6 +3,7 @@ ghost use Rattle.pc_model.specs.Right.{is_always, is_impossible};
 ghost use Rattle.pc_proof.specs.Unbroken.{plain_lack, plain_relation};
 ghost use Rattle.pc_report.specs.Report.{answer_text, end_text, ends_text, lack_text, line_break, mark_text, relation_text, titled_text, values_text, with_text, without_text};
 ghost use Rattle.pc_report.specs.RunLines.{HaveScales};
+ghost use Rattle.pc_report.specs.Units.{ArePrintable, IsPrintable};
 
 use crate::put_runs;
 use crate::value::put_value;
@@ -20,7 +21,8 @@ pub(crate) fn put_answer(
     query: &Query,
     answer: &Answer,
 ) -> Result<(), Memory>
-    requires { HaveScales schema.now.columns }
+    requires scales { HaveScales schema.now.columns }
+    requires printable { ArePrintable query.now.agg answer.now.ends }
     ensures { OnOk result (out.new.items ≡ out.old.items ++ answer_text schema.now query.now answer.now) }
 {
     put_relation(alloc, schema, out, &answer.relation)?;
@@ -62,7 +64,8 @@ fn put_values(
     query: &Query,
     answer: &Answer,
 ) -> Result<(), Memory>
-    requires { HaveScales schema.now.columns }
+    requires scales { HaveScales schema.now.columns }
+    requires printable { ArePrintable query.now.agg answer.now.ends }
     ensures { OnOk result (out.new.items ≡ out.old.items ++ values_text schema.now query.now answer.now.lack answer.now.ends) }
 {
     put_lack(alloc, schema, out, &answer.lack)?;
@@ -124,7 +127,8 @@ fn put_ends(
     query: &Query,
     ends: &Option<(End, End)>,
 ) -> Result<(), Memory>
-    requires { HaveScales schema.now.columns }
+    requires scales { HaveScales schema.now.columns }
+    requires printable { ArePrintable query.now.agg ends.now }
     ensures { OnOk result (out.new.items ≡ out.old.items ++ ends_text schema.now query.now ends.now) }
 {
     match ends {
@@ -145,7 +149,8 @@ fn put_end(
     name: &str,
     end: &End,
 ) -> Result<(), Memory>
-    requires { HaveScales schema.now.columns }
+    requires scales { HaveScales schema.now.columns }
+    requires printable { IsPrintable query.now.agg end.now.value }
     ensures { OnOk result (out.new.items ≡ out.old.items ++ end_text schema.now query.now name.now end.now) }
 {
     out.extend_from_slice(name.as_bytes())?;

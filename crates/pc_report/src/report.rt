@@ -3,6 +3,7 @@ ghost use Rattle.pc_model.specs.Accepted.{IsQuery};
 ghost use Rattle.pc_model.specs.WellFormed.{IsWellFormed};
 ghost use Rattle.pc_proof.specs.declared.document.Block.{Block};
 ghost use Rattle.pc_report.specs.Report.{block_text, blocks_text, group_line, group_text, kind_name, query_line, report_text};
+ghost use Rattle.pc_report.specs.Units.{HasAverages};
 
 use crate::answer::put_answer;
 use crate::runs::name_at;
@@ -23,6 +24,7 @@ pub fn put_report(
 ) -> Result<(), Memory>
     requires well_formed { IsWellFormed schema.now }
     requires queries { All (λ (block : Block). IsQuery schema.now block.query) doc.now.blocks }
+    requires averages { All HasAverages doc.now.blocks }
     ensures ok { OnOk result (out.new.items ≡ out.old.items ++ report_text schema.now doc.now) }
     ensures err { OnErr result (out.new.items ≡ out.old.items) }
 {
@@ -35,6 +37,7 @@ pub fn put_report(
 fn text_of(alloc: Global, schema: &Schema, blocks: &[Block]) -> Result<Vec<u8>, Memory>
     requires well_formed { IsWellFormed schema.now }
     requires queries { All (λ (block : Block). IsQuery schema.now block.query) blocks.now }
+    requires averages { All HasAverages blocks.now }
     ensures { IfOk result (λ text. text.items ≡ blocks_text schema.now blocks.now) }
 {
     let mut text = Vec::new(alloc);
@@ -48,6 +51,7 @@ fn text_of(alloc: Global, schema: &Schema, blocks: &[Block]) -> Result<Vec<u8>, 
 fn put_block(alloc: Global, schema: &Schema, out: &mut Vec<u8>, block: &Block) -> Result<(), Memory>
     requires well_formed { IsWellFormed schema.now }
     requires accepted { IsQuery schema.now block.now.query }
+    requires averages { HasAverages block.now }
     ensures { OnOk result (out.new.items ≡ out.old.items ++ block_text schema.now block.now) }
 {
     put_query_line(alloc, schema, out, &block.query)?;

@@ -1,10 +1,11 @@
-pub mod Files
-pub mod Cases
-pub mod Meanings
 pub mod Answering
-pub mod Listings
-pub mod Queries
-pub mod StopReplies
 pub mod Blocks
 pub mod Budgets
+pub mod Cases
+pub mod Files
+pub mod Listings
+pub mod Meanings
 pub mod Owing
+pub mod Queries
+pub mod SeenSums
+pub mod StopReplies

@@ -2,7 +2,7 @@
 use Rattle.std.proofs.Common.{◌≡◌, ℕ, true, false, List, [], ◌∷◌, Option, Some, None, Ok, Err, All, refl}
 use Rattle.std.proofs.lemmas.List.Elements.{All-cons, All-nil}
 use Rattle.std.specs.Prelude.{is_none}
-use Rattle.std.proofs.lemmas.Bool.{and_parts, false≢true}
+use Rattle.std.proofs.lemmas.Bool.{false≢true}
 use Rattle.pc_model.specs.declared.schema.Schema.{Schema}
 use Rattle.pc_model.specs.declared.query.Query.{Query}
 use Rattle.pc_model.specs.declared.fault.FileKind.TheVariants as kinds
@@ -13,7 +13,7 @@ use Rattle.pc_model.specs.Accepted.{IsQuery}
 use Rattle.pc_model.specs.Refusals.{fault_at, RefusesAs}
 use Rattle.pc_lang.specs.Files.{query_at}
 use Rattle.pc_run.specs.Outcome.{built_query}
-use Rattle.pc_run.specs.Queries.{is_answered, is_built, IsAsked}
+use Rattle.pc_run.specs.Queries.{is_built, IsAsked}
 
 pub query_refused : (schema : Schema) (text : List ℕ) (refusal : Refusal) → RefusesAs refusal (query_at schema 1 text) → RefusesAs refusal (built_query schema text)
 unfolding built_query
@@ -36,8 +36,7 @@ none_only (Some place) e = absurd (false≢true e)
 pub asked_from : (schema : Schema) (query : Query) → IsQuery schema query → is_built query ≡ true → IsAsked schema query
 unfolding is_built
 asked_from schema query accepted built =
-    let p = and_parts (is_answered query.agg) (is_none query.group) built in
-    record { query_of = accepted; answered = p.0; ungrouped = none_only query.group p.1 }
+    record { query_of = accepted; ungrouped = none_only query.group built }
 
 -- of one query
 pub one_asked : (schema : Schema) (query : Query) → IsAsked schema query → All (IsAsked schema) (query ∷ [])

@@ -12,7 +12,7 @@ use Rattle.pc_proof.specs.declared.document.BlockTree.TheVariants.{Own}
 use Rattle.pc_proof.specs.Unbroken.{HasForm, IsUnbroken, IsSharp, plain_answer}
 use Rattle.pc_licence.specs.Licensed.{IsLicensed, IsSettledLack}
 use Rattle.pc_licence.specs.Searched.{AreSearched}
-use Rattle.pc_agg.specs.Settings.{question_of, setting_of}
+use Rattle.pc_search.specs.Settings.{question_of, setting_of}
 
 -- The block is of this query and has a tree of its own. Its answer is right, has the form of an answer and breaks no rule.
 -- What it leaves open is licensed by searches that spent so many nodes each, and the trees of its ends are ones that such a

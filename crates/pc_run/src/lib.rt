@@ -15,8 +15,6 @@ mod query;
 mod reply;
 mod show;
 mod stop;
-#[cfg(test)]
-mod tests;
 
 use pc_base::{Put, Shelf, Sink, Status};
 use reply::respond;

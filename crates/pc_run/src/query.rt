@@ -5,13 +5,13 @@ ghost use Rattle.pc_model.specs.declared.fault.Reason.TheVariants as reasons;
 ghost use Rattle.pc_model.specs.declared.fault.Refusal.TheVariants as refusals;
 ghost use Rattle.pc_model.specs.WellFormed.{IsWellFormed, HaveFewNames};
 ghost use Rattle.pc_run.specs.Outcome.{built_query};
-ghost use Rattle.pc_run.specs.Queries.{built, is_answered, is_built, IsAsked};
+ghost use Rattle.pc_run.specs.Queries.{built, is_built, IsAsked};
 
 use pc_lang::read_query;
-use pc_model::{Agg, Fault, FileKind, Query, Reason, Refusal, Schema};
+use pc_model::{Fault, FileKind, Query, Reason, Refusal, Schema};
 use std::alloc::Global;
 
-/// Reads a query, which is refused if it is an average or grouped.
+/// Reads a query, which is refused if it is grouped.
 #[tactic(auto, using(crate::proofs::Queries::steps))]
 pub(crate) fn read_built(alloc: Global, schema: &Schema, text: &str) -> Result<Query, Refusal>
     requires well_formed { IsWellFormed schema.now }
@@ -40,14 +40,5 @@ fn not_built() -> Refusal
 fn is_built(query: &Query) -> bool
     ensures { result ≡ is_built query.now }
 {
-    is_answered(query.agg) && query.group.is_none()
-}
-
-fn is_answered(agg: Agg) -> bool
-    ensures { result ≡ is_answered agg }
-{
-    match agg {
-        Agg::Count | Agg::Sum | Agg::Min | Agg::Max => true,
-        Agg::Avg => false,
-    }
+    query.group.is_none()
 }

@@ -1,4 +1,6 @@
+ghost use Rattle.std.specs.Prelude.{IsTrue};
 ghost use Rattle.pc_model.specs.WellFormed.{IsWellFormed, HaveFewNames};
+ghost use Rattle.pc_report.specs.Units.{AreAverages, IsAverage};
 
 use super::{SCHEMA, run_of};
 use crate::put_report;
@@ -43,6 +45,7 @@ fn written(
 ) -> Result<Vec<u8>, Refusal>
     requires well_formed { IsWellFormed schema.now }
     requires few_names { HaveFewNames schema.now.columns }
+    requires averages { AreAverages answer.ends }
 {
     let query = read_query(alloc, schema, query, 1)?;
     let mut blocks = Seq::new(alloc);
@@ -67,6 +70,25 @@ fn is_written(written: Result<Vec<u8>, Refusal>, want: &str) -> bool {
         Ok(text) => text.as_slice().strip_prefix(b"before\n") == Some(want.as_bytes()),
         Err(_) => false,
     }
+}
+
+// Whether each end can be printed as an average.
+fn are_averages(ends: &Option<(End, End)>) -> bool
+    ensures { IsTrue result → AreAverages ends.now }
+{
+    match ends {
+        Some((low, high)) => is_average(&low.value) && is_average(&high.value),
+        None => true,
+    }
+}
+
+fn is_average(value: &Frac) -> bool
+    ensures { IsTrue result → IsAverage value.now }
+{
+    if value.den <= 0 || value.den > 30_000_000_000_000_000 {
+        return false;
+    }
+    value.num > i128::MIN
 }
 
 // A possible relation, with a low end that is reached and a high one.
@@ -142,6 +164,7 @@ fn reports_of_counts_and_sums(rt: HostRuntime) -> Result<(), Fail> {
         ("count", None, never, "query count\nrelation impossible\n"),
     ];
     for (query, name, answer, want) in cases {
+        assert!(rt; are_averages(&answer.ends));
         let text = written(alloc, &schema, query, name, answer);
         assert!(rt; is_written(text, want), "{want}");
     }
@@ -160,7 +183,7 @@ fn reports_of_other_aggregates(rt: HostRuntime) -> Result<(), Fail> {
         with: runs_of(alloc, 4, [0, 0, 2])?,
     };
     let least = possible(alloc, sometimes, (-31, 1), (2, 1))?;
-    let mean = possible(alloc, Lack::Undecided, (150, 7), (4, 1))?;
+    let average = possible(alloc, Lack::Undecided, (15_000, 7), (400, 1))?;
     let greatest = outer(
         Relation::Undecided,
         Lack::Never(NeverBy::Rows),
@@ -181,7 +204,7 @@ fn reports_of_other_aggregates(rt: HostRuntime) -> Result<(), Fail> {
         (
             "avg(price) group by branch",
             Some(1),
-            mean,
+            average,
             "query avg(price) group by branch\ngroup branch = \"New York\"\nrelation possible\nrun 1: Chicago, 3, 100.00\nnone undecided\nlow 150/7 exact\nrun 2: \"New York\", -5, -0.05\nhigh 4 exact\nrun 12: \"in\", 31, 0.00\n",
         ),
         (
@@ -198,7 +221,77 @@ fn reports_of_other_aggregates(rt: HostRuntime) -> Result<(), Fail> {
         ),
     ];
     for (query, name, answer, want) in cases {
+        assert!(rt; are_averages(&answer.ends));
         let text = written(alloc, &schema, query, name, answer);
+        assert!(rt; is_written(text, want), "{want}");
+    }
+    Ok(())
+}
+
+#[test]
+fn averages_in_the_unit_of_their_column(rt: HostRuntime) -> Result<(), Fail> {
+    let alloc = rt.alloc();
+    let Ok(schema) = read_schema(
+        alloc,
+        b"day,int,-31,31\nprice,dec,2,-1000.00,1000.00\nweight,dec,6,0,10\n",
+    ) else {
+        assert!(rt; false, "no schema");
+        return Ok(());
+    };
+    let cases: [(&str, (i128, i128), (i128, i128), &str); 8] = [
+        (
+            "avg(day)",
+            (-31, 2),
+            (17_999, 140),
+            "query avg(day)\nrelation undecided\nlow -31/2 outer\nhigh 17999/140 outer\n",
+        ),
+        (
+            "avg(day)",
+            (1, 30_000_000_000_000_000),
+            (i128::MAX, 1),
+            "query avg(day)\nrelation undecided\nlow 1/30000000000000000 outer\nhigh 170141183460469231731687303715884105727 outer\n",
+        ),
+        (
+            "avg(price)",
+            (-15_000, 7),
+            (348_975, 52),
+            "query avg(price)\nrelation undecided\nlow -150/7 outer\nhigh 13959/208 outer\n",
+        ),
+        (
+            "avg(price)",
+            (150, 7),
+            (500, 6),
+            "query avg(price)\nrelation undecided\nlow 3/14 outer\nhigh 5/6 outer\n",
+        ),
+        (
+            "avg(price)",
+            (0, 1),
+            (17_999, 140),
+            "query avg(price)\nrelation undecided\nlow 0 outer\nhigh 17999/14000 outer\n",
+        ),
+        (
+            "avg(price)",
+            (-400, 1),
+            (i128::MAX, 30_000_000_000_000_000),
+            "query avg(price)\nrelation undecided\nlow -4 outer\nhigh 170141183460469231731687303715884105727/3000000000000000000 outer\n",
+        ),
+        (
+            "avg(weight)",
+            (7, 30_000_000_000_000_000),
+            (2_500_000, 3),
+            "query avg(weight)\nrelation undecided\nlow 7/30000000000000000000000 outer\nhigh 5/6 outer\n",
+        ),
+        (
+            "avg(weight)",
+            (1, 1),
+            (10_000_000, 1),
+            "query avg(weight)\nrelation undecided\nlow 1/1000000 outer\nhigh 10 outer\n",
+        ),
+    ];
+    for (query, low, high, want) in cases {
+        let answer = outer(Relation::Undecided, Lack::Silent, low, high);
+        assert!(rt; are_averages(&answer.ends));
+        let text = written(alloc, &schema, query, None, answer);
         assert!(rt; is_written(text, want), "{want}");
     }
     Ok(())

@@ -1,12 +1,14 @@
 use Rattle.std.proofs.Common.{nat_lt, sym, ◌∙◌}
 use Rattle.std.proofs.lemmas.Result.{IfOk-weaker}
 use Rattle.pc_agg.proofs.Owing.{owes_settled}
-use Rattle.pc_agg.proofs.SettledGrounds.{owes_grounded, observing_count}
+use Rattle.pc_search.specs.Settings.{unseen}
+use Rattle.pc_agg.proofs.SettledGrounds.{owes_grounded, observing_count, grounded_lawful, settled_lawful}
 use Rattle.pc_agg.proofs.Totals.{ok_both}
 use Rattle.pc_agg.proofs.deciding.settle.Goals as goal
 
 pub returns-then-always_has_value : goal.returns-then-always_has_value
 returns-then-always_has_value c = record {
+  lawful = IfOk-weaker c.settle_totals.result _ _ (λ settled is. is.lawful) c.settle_totals.ensures.settled;
   owes =
       ok_both c.settle_totals.result _ _ _ c.settle_totals.ensures.settled c.settle_totals.ensures.disjoint
       (λ settled is decided asking.
@@ -16,6 +18,11 @@ returns-then-always_has_value c = record {
 
 pub returns : goal.returns
 returns c = record {
+  lawful =
+      IfOk-weaker c.settle_grounded.result _ _
+      (λ settled from. settled_lawful (unseen c.args.schema.now c.args.constraints.now c.args.query.now c.args.cells.now.tree.nodes) c.in_ok-grounded.grounded settled
+      (grounded_lawful (unseen c.args.schema.now c.args.constraints.now c.args.query.now c.args.cells.now.tree.nodes) (nat_lt 0 c.args.seen.now.count) c.args.nodes c.in_ok-grounded.grounded c.in_ok-grounded.ensures.grounded) from)
+      c.settle_grounded.ensures;
   owes =
       IfOk-weaker c.settle_grounded.result _ _
       (λ settled from asking.

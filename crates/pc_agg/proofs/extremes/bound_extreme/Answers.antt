@@ -4,7 +4,7 @@ use Rattle.std.proofs.lemmas.Result.{IfOk-weaker}
 use Rattle.pc_model.specs.Accepted.{IsNumeric, IsColumnWhere}
 use Rattle.pc_model.specs.Right.{always_has_value}
 use Rattle.pc_agg.specs.Extremes.{seen_number}
-use Rattle.pc_agg.specs.Settings.{unseen}
+use Rattle.pc_search.specs.Settings.{unseen}
 use Rattle.pc_agg.proofs.Filling.{rows_of_cells}
 use Rattle.pc_agg.proofs.Judging.{lacks_value, numbers_of, cells_counted, owes_none, observing, owes_judged, lawful_both_ends, can_low, can_high, sized_low}
 use Rattle.pc_agg.proofs.extremes.bound_extreme.Goals as goal

@@ -1,6 +1,0 @@
-/// The low or the high end of a range.
-#[derive(Clone, Copy, Debug, PartialEq, Eq)]
-pub(crate) enum Extreme {
-    Low,
-    High,
-}

@@ -1,0 +1,16 @@
+pub mod BothEnds
+pub mod CellNumbers
+pub mod ChosenFractions
+pub mod FewRows
+pub mod GreatestKeys
+pub mod Grown
+pub mod OwesAverages
+pub mod SearchedEnds
+pub mod SideCounts
+pub mod SideEnds
+pub mod SideNumbers
+pub mod SidePrograms
+pub mod SideRatios
+pub mod SideShort
+pub mod SideShown
+pub mod SideTable

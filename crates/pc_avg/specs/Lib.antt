@@ -1,0 +1,4 @@
+pub mod Averages
+pub mod Ends
+pub mod Outermost
+pub mod Sides

@@ -1,0 +1,100 @@
+ghost use Rattle.std.specs.Prelude.{◌≡◌, ◌≤◌, ◌*◌, ◌^◌, nat_abs, All, IfOk};
+ghost use Rattle.pc_model.specs.declared.query.Agg.TheVariants as aggs;
+ghost use Rattle.pc_licence.specs.Pools.{AreLawful};
+ghost use Rattle.pc_agg.specs.Owed.{Owes, OwesSettled, answer_of};
+ghost use Rattle.pc_search.specs.Asked.{AreAsked, Asking, setting_for};
+ghost use Rattle.pc_search.specs.Settings.{unseen};
+ghost use Rattle.pc_avg.specs.Averages.{both, has_ends, HasShortEnds};
+
+use crate::copies::{copied_lack, copied_relation};
+use crate::ends::search_end;
+use pc_agg::Settled;
+use pc_cells::Cells;
+use pc_model::{Constraint, Folded, Query, Schema};
+use pc_num::Memory;
+use pc_proof::{Answer, End, Lack, Relation};
+use pc_search::Extreme;
+use std::alloc::Global;
+
+/// The range of the average of a column over the rows that the query chooses, where those observed come to `seen`, from what
+/// was settled for it, by searches of at most so many nodes each.
+pub fn bound_avg(
+    alloc: Global,
+    schema: &Schema,
+    seen: &Folded,
+    constraints: &[Constraint],
+    cells: &Cells,
+    query: &Query,
+    settled: &Settled,
+    nodes: u32,
+) -> Result<Answer, Memory>
+    requires asked { AreAsked schema.now seen.now constraints.now cells.now query.now nodes }
+    requires average { query.now.agg ≡ aggs.Avg }
+    requires small_seen { nat_abs seen.now.sum ≤ 1_000_000 * 10 ^ 15 }
+    requires lawful { All (AreLawful (unseen schema.now constraints.now query.now cells.now.tree.nodes)) settled.now.found }
+    requires settled { (asking : Asking schema.now constraints.now query.now seen.now) → OwesSettled (setting_for schema.now constraints.now query.now seen.now cells.now.tree.nodes asking) nodes settled.now.relation settled.now.lack settled.now.found }
+    ensures owes { IfOk result (λ answer. (asking : Asking schema.now constraints.now query.now seen.now) → Owes (setting_for schema.now constraints.now query.now seen.now cells.now.tree.nodes asking) nodes answer) }
+    ensures kept { IfOk result (λ answer. (answer.relation ≡ settled.now.relation) × (answer.lack ≡ settled.now.lack)) }
+    ensures short { IfOk result HasShortEnds }
+{
+    if !has_ends(settled) {
+        return without_ends(settled);
+    }
+    let found = settled.found.as_slice();
+    let low = search_end(
+        alloc,
+        schema,
+        seen,
+        constraints,
+        cells,
+        query,
+        Extreme::Low,
+        found,
+        nodes,
+    )?;
+    let high = search_end(
+        alloc,
+        schema,
+        seen,
+        constraints,
+        cells,
+        query,
+        Extreme::High,
+        found,
+        nodes,
+    )?;
+    let mut answer = without_ends(settled)?;
+    answer.ends = both(low, high);
+    Ok(answer)
+}
+
+/// Whether some list gives a value, as far as is known.
+fn has_ends(settled: &Settled) -> bool
+    ensures { result ≡ has_ends settled.now.relation settled.now.lack }
+{
+    if let Relation::Impossible(_) = &settled.relation {
+        return false;
+    }
+    if let Lack::Always(_) = &settled.lack {
+        return false;
+    }
+    true
+}
+
+/// What was settled, as an answer.
+fn without_ends(settled: &Settled) -> Result<Answer, Memory>
+    ensures { IfOk result (λ answer. answer ≡ answer_of settled.now.relation settled.now.lack) }
+{
+    Ok(Answer {
+        relation: copied_relation(&settled.relation)?,
+        lack: copied_lack(&settled.lack)?,
+        ends: None,
+    })
+}
+
+/// Both ends, where both are there.
+fn both(low: Option<End>, high: Option<End>) -> Option<(End, End)>
+    ensures { result ≡ both low high }
+{
+    Some((low?, high?))
+}

@@ -1,0 +1,123 @@
+ghost use Rattle.std.specs.Prelude.{◌≡◌, ◌<◌, ◌≤◌, ◌*◌, ◌^◌, nat_abs, [], length, All, IfOk, IsSomeAnd, slice_index_or};
+ghost use Rattle.pc_model.specs.Accepted.{AreConstraints, IsNumeric, IsColumnWhere};
+ghost use Rattle.pc_model.specs.Membership.{AreDisjoint};
+ghost use Rattle.pc_model.specs.WellFormed.{IsWellFormed};
+ghost use Rattle.pc_num.specs.Signs.{Fits};
+ghost use Rattle.pc_licence.specs.Pools.{AreLawful};
+ghost use Rattle.pc_search.specs.Asked.{AreCells};
+ghost use Rattle.pc_search.specs.Ends.{signed};
+ghost use Rattle.pc_search.specs.Settings.{unseen};
+ghost use Rattle.pc_avg.specs.Ends.{end_by_values, end_of, turned, CanTurn, IsEndIfAny, IsEndSurely};
+
+use crate::sides::side_of;
+use pc_cells::Cells;
+use pc_list::Seq;
+use pc_model::{Constraint, Folded, Query, Row, Schema};
+use pc_num::{Frac, Memory};
+use pc_proof::{End, Mark, Proof};
+use pc_ratio::{Highest, greatest_ratio, highest_of};
+use pc_search::Extreme;
+use pc_witness::rebuild;
+use std::alloc::Global;
+
+/// An end of an average, from the greatest ratio of the counts that were found on; none where no row can have a number.
+pub(crate) fn search_end(
+    alloc: Global,
+    schema: &Schema,
+    seen: &Folded,
+    constraints: &[Constraint],
+    cells: &Cells,
+    query: &Query,
+    extreme: Extreme,
+    found: &[Seq<u64>],
+    nodes: u32,
+) -> Result<Option<End>, Memory>
+    requires well_formed { IsWellFormed schema.now }
+    requires constraints { AreConstraints schema.now constraints.now }
+    requires numbers { IsSomeAnd query.now.column (IsColumnWhere IsNumeric schema.now) }
+    requires cells { AreCells schema.now constraints.now query.now cells.now }
+    requires few_seen { seen.now.count ≤ 1_000_000 }
+    requires small_seen { nat_abs seen.now.sum ≤ 1_000_000 * 10 ^ 15 }
+    requires lawful { All (AreLawful (unseen schema.now constraints.now query.now cells.now.tree.nodes)) found.now }
+    requires nodes { (1 ≤ nodes) × (nodes ≤ 100_000) }
+    ensures end { IfOk result (IsEndIfAny (unseen schema.now constraints.now query.now cells.now.tree.nodes) seen.now nodes extreme found.now) }
+    ensures disjoint { AreDisjoint schema.now constraints.now → IfOk result (IsEndSurely (unseen schema.now constraints.now query.now cells.now.tree.nodes) seen.now extreme found.now) }
+{
+    let side = side_of(alloc, schema, seen, constraints, cells, query, extreme)?;
+    let Some(outermost) = side.outermost else {
+        return Ok(None);
+    };
+    let Some(place) = highest_of(&side.fraction, found) else {
+        return Ok(Some(end_by_values(extreme, outermost)));
+    };
+    let start = counts_at(found, place)?;
+    let highest = greatest_ratio(alloc, &side.fraction, outermost, start, nodes)?;
+    let end = end_of(alloc, extreme, side.picks.as_slice(), highest)?;
+    Ok(Some(end))
+}
+
+fn counts_at(found: &[Seq<u64>], place: usize) -> Result<Seq<u64>, Memory>
+    requires inside { place < length found.now }
+    ensures { IfOk result (λ counts. counts ≡ slice_index_or found.now place []) }
+{
+    let counts = found[place].clone()?;
+    Ok(counts)
+}
+
+/// The end that the steps end in.
+fn end_of(alloc: Global, extreme: Extreme, picks: &[Row], highest: Highest) -> Result<End, Memory>
+    requires { CanTurn (length picks.now) highest }
+    ensures { IfOk result (λ end. end ≡ end_of extreme picks.now highest) }
+{
+    match highest {
+        Highest::Reached {
+            ratio,
+            counts,
+            tree,
+        } => Ok(End {
+            value: turned(extreme, ratio),
+            mark: Mark::Exact(rebuild(alloc, picks, counts.as_slice())?),
+            proof: Proof::Tree(tree),
+        }),
+        Highest::Above {
+            ratio,
+            counts: _,
+            tree,
+            value,
+        } => Ok(End {
+            value: turned(extreme, value),
+            mark: Mark::Outer,
+            proof: Proof::At(turned(extreme, ratio), tree),
+        }),
+    }
+}
+
+/// The end by the numbers that rows can have.
+fn end_by_values(extreme: Extreme, outermost: i128) -> End
+    requires { nat_abs outermost ≤ 2 ^ 63 }
+    ensures { result ≡ end_by_values extreme outermost }
+{
+    let value = Frac {
+        num: outermost,
+        den: 1,
+    };
+    End {
+        value: turned(extreme, value),
+        mark: Mark::Outer,
+        proof: Proof::Values,
+    }
+}
+
+/// A fraction, with its sign turned back at a low end.
+fn turned(extreme: Extreme, value: Frac) -> Frac
+    requires { Fits value.num }
+    ensures { result ≡ turned extreme value }
+{
+    match extreme {
+        Extreme::Low => Frac {
+            num: -value.num,
+            den: value.den,
+        },
+        Extreme::High => value,
+    }
+}

@@ -1,0 +1,74 @@
+ghost use Rattle.std.specs.Prelude.{◌≡◌, ◌≤◌, ◌^◌, nat_abs, cond, map, length, All, IfSome};
+ghost use Rattle.pc_model.specs.Cells.{classes_of, leaves_in};
+ghost use Rattle.pc_model.specs.WellFormed.{IsWellFormed};
+ghost use Rattle.pc_proof.specs.Setting.{on_chosen};
+ghost use Rattle.pc_search.specs.Asked.{AreCells};
+ghost use Rattle.pc_search.specs.Keys.{key_of};
+ghost use Rattle.pc_search.specs.Settings.{unseen};
+ghost use Rattle.pc_avg.specs.Outermost.{greater, IsGreatestKey};
+ghost use Rattle.pc_avg.specs.Sides.{observed_key, IsOutermost};
+
+use pc_cells::{Cell, Cells};
+use pc_model::{Constraint, Folded, Query, Schema};
+use pc_search::Extreme;
+
+/// The greatest key of a chosen cell or of an observed row.
+pub(crate) fn outermost_of(
+    schema: &Schema,
+    constraints: &[Constraint],
+    cells: &Cells,
+    query: &Query,
+    extreme: Extreme,
+    keys: &[i128],
+    seen: &Folded,
+) -> Option<i128>
+    requires well_formed { IsWellFormed schema.now }
+    requires cells { AreCells schema.now constraints.now query.now cells.now }
+    requires keyed { keys.now ≡ map (on_chosen (key_of (unseen schema.now constraints.now query.now cells.now.tree.nodes) extreme)) (classes_of (leaves_in schema.now cells.now.tree.nodes)) }
+    requires small { All (λ key. nat_abs key ≤ 2 ^ 63) keys.now }
+    ensures { IsOutermost (unseen schema.now constraints.now query.now cells.now.tree.nodes) extreme (observed_key seen.now extreme) result }
+{
+    greatest_key(cells.cells.as_slice(), keys, observed_key(seen, extreme))
+}
+
+/// The greatest of a key and those of the chosen cells.
+fn greatest_key(cells: &[Cell], keys: &[i128], observed: Option<i128>) -> Option<i128>
+    requires sized { length keys.now ≡ length cells.now }
+    ensures { IsGreatestKey cells.now keys.now (length cells.now) observed result }
+{
+    let mut greatest = observed;
+    for place in 0..cells.len() {
+        greatest = with_cell(greatest, &cells[place], keys[place]);
+    }
+    greatest
+}
+
+/// The greater of a number and of the cell's key, if the cell is chosen.
+fn with_cell(greatest: Option<i128>, cell: &Cell, key: i128) -> Option<i128>
+    ensures { result ≡ cond cell.now.chosen (greater greatest key) greatest }
+{
+    if !cell.chosen {
+        return greatest;
+    }
+    greater(greatest, key)
+}
+
+fn greater(greatest: Option<i128>, key: i128) -> Option<i128>
+    ensures { result ≡ greater greatest key }
+{
+    match greatest {
+        Some(number) => Some(number.max(key)),
+        None => Some(key),
+    }
+}
+
+/// The outermost number of an observed row, turned at a low end.
+fn observed_key(seen: &Folded, extreme: Extreme) -> Option<i128>
+    ensures key { result ≡ observed_key seen.now extreme }
+    ensures small { IfSome result (λ m. nat_abs m ≤ 2 ^ 63) }
+{
+    match extreme {
+        Extreme::Low => Some(-i128::from(seen.least?)),
+        Extreme::High => Some(i128::from(seen.greatest?)),
+    }
+}

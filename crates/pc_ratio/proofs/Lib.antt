@@ -1,0 +1,14 @@
+pub mod BestSoFar
+pub mod Excess
+pub mod FitNodes
+pub mod FlatAt
+pub mod Limits
+pub mod Magnitudes
+pub mod Outcomes
+pub mod Passed
+pub mod PassedProducts
+pub mod Raising
+pub mod Ratios
+pub mod Reduced
+pub mod StepEnds
+pub mod StepsOn

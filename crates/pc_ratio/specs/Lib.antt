@@ -1,0 +1,4 @@
+pub mod Best
+pub mod Fractional
+pub mod Highest
+pub mod Steps

@@ -1,0 +1,17 @@
+pub mod CellGains
+pub mod CellKeys
+pub mod CellPrograms
+pub mod CellTargets
+pub mod Empty
+pub mod FlatTrees
+pub mod Limits
+pub mod ListedPrograms
+pub mod LoweredCaps
+pub mod ManyCells
+pub mod OneBits
+pub mod Probing
+pub mod ProgramEnds
+pub mod SettledPrograms
+pub mod Shorts
+pub mod Sizes
+pub mod UnseenPrograms

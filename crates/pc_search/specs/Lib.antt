@@ -1,0 +1,9 @@
+pub mod Asked
+pub mod Ends
+pub mod Flat
+pub mod Keys
+pub mod Limits
+pub mod Probing
+pub mod Settings
+pub mod Targets
+pub mod Wants

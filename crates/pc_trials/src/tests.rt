@@ -1,0 +1,206 @@
+use pc_base::{MemShelf, MemSink, Status};
+use pc_run::run;
+use std::alloc::Global;
+use std::test::Fail;
+
+mod averages;
+mod extremes;
+mod overlaps;
+mod refused;
+mod shown;
+mod small_averages;
+mod sums;
+mod words;
+
+const SCHEMA: &str = "item,int,1,9\nweek,int,1,4\n";
+
+const ROWS: &str = "item,week\n3,1\n7,4\n";
+
+const SHOP: &str = "branch,cat,Chicago,NewYork,Trenton\nday,int,1,31\nprice,dec,2,0.00,1000.00\n";
+
+const SALES: &str = "branch,day,price\nChicago,3,100.00\nNewYork,5,50.00\n";
+
+const APART: &str = "a: week in 1..2 => true, 1..3\nb: week = 4 => true, 0..2\n";
+
+const WORDS: [&str; 5] = ["bound", "s", "r", "c", "count"];
+
+const SHOW: [&str; 3] = ["show", "s", "c"];
+
+const USAGE: &str =
+    "usage: pc bound|prove [--nodes N] SCHEMA ROWS CONSTRAINTS QUERY... | pc check SCHEMA ROWS CONSTRAINTS DOCUMENT | pc show SCHEMA CONSTRAINTS | pc gen SEED SIZE\n";
+
+/// A shelf that holds a schema, rows and constraints under the names of `WORDS`.
+fn shelf_of(alloc: Global, schema: &str, rows: &str, constraints: &str) -> Result<MemShelf, Fail> {
+    let mut shelf = MemShelf::new(alloc);
+    shelf.add("s", schema.as_bytes())?;
+    shelf.add("r", rows.as_bytes())?;
+    shelf.add("c", constraints.as_bytes())?;
+    Ok(shelf)
+}
+
+/// Runs the words over the shelf and the sink.
+fn run_words(
+    alloc: Global,
+    words: &[&str],
+    shelf: &mut MemShelf,
+    sink: &mut MemSink,
+) -> Result<Status, Fail> {
+    let mut owned = Vec::new(alloc);
+    for word in words {
+        owned.push(String::from_str(alloc, word)?)?;
+    }
+    Ok(run(alloc, owned.as_slice(), shelf, sink))
+}
+
+#[test]
+fn counts(rt: HostRuntime) -> Result<(), Fail> {
+    let table = [
+        (
+            APART,
+            "query count\nrelation possible\nrun 1: 1, 1\nlow 3 exact\nrun 1: 1, 1\nhigh 7 exact\nrun 3: 1, 1\nrun 2: 1, 4\n",
+        ),
+        (
+            "c: week = 1 => week = 2, 1..2\n",
+            "query count\nrelation impossible\n",
+        ),
+        (
+            "c: week = 1 => week = 2, 0..2\n",
+            "query count\nrelation possible\nlow 2 exact\nhigh 2 exact\n",
+        ),
+        (
+            "",
+            "query count\nrelation possible\nlow 2 exact\nhigh 2 exact\n",
+        ),
+    ];
+    for (constraints, want) in table {
+        let mut shelf = shelf_of(rt.alloc(), SCHEMA, ROWS, constraints)?;
+        let mut sink = MemSink::new(rt.alloc(), 0);
+        let ended = run_words(rt.alloc(), &WORDS, &mut shelf, &mut sink)?;
+        assert_eq!(rt; ended, Status::Done, "at {constraints}");
+        assert_eq!(rt; sink.kept.as_slice(), want.as_bytes(), "at {constraints}");
+        assert_eq!(rt; (shelf.calls, sink.calls), (3, 1));
+    }
+    Ok(())
+}
+
+#[test]
+fn counts_of_a_shop(rt: HostRuntime) -> Result<(), Fail> {
+    let table = [
+        (
+            SHOP,
+            SALES,
+            "",
+            "query count\nrelation possible\nlow 2 exact\nhigh 2 exact\n",
+        ),
+        (
+            SHOP,
+            SALES,
+            "early: day in 1..7 => true, 1..3\nlate: day in 25..31 => day in 28..31, 0..2\n",
+            "query count\nrelation possible\nrun 1: Chicago, 1, 0.00\nlow 3 exact\nrun 1: Chicago, 1, 0.00\nhigh 7 exact\nrun 3: Chicago, 1, 0.00\nrun 2: Chicago, 28, 0.00\n",
+        ),
+        // atoms on names and on prices
+        (
+            SHOP,
+            SALES,
+            "c: branch in {Trenton, NewYork} and price > 500 => day in 4..9, 1..2\nd: branch = Chicago and price <= 0.5 => true, 0..5\n",
+            "query count\nrelation possible\nrun 1: NewYork, 4, 500.01\nlow 3 exact\nrun 1: NewYork, 4, 500.01\nhigh 9 exact\nrun 2: NewYork, 4, 500.01\nrun 5: Chicago, 1, 0.00\n",
+        ),
+        // no row is as it says, so none may be lost
+        (
+            SHOP,
+            SALES,
+            "c: price >= 500.00 => price in 0.00..100.00, 1..2\n",
+            "query count\nrelation impossible\n",
+        ),
+        (
+            SHOP,
+            SALES,
+            "c: price >= 500.00 => price in 0.00..100.00, 0..2\n",
+            "query count\nrelation possible\nlow 2 exact\nhigh 2 exact\n",
+        ),
+        // a byte order mark, CR LF, other columns, another order, and a price without its decimals
+        (
+            SHOP,
+            "\u{feff}price,note,branch,day\r\n100.00,x,Chicago,3\r\n50,,NewYork,5\r\n",
+            "",
+            "query count\nrelation possible\nlow 2 exact\nhigh 2 exact\n",
+        ),
+        // names that are no words, and a last line that does not end
+        (
+            "\"at, or from\",cat,\"New \"\"York\"\"\",and\nday,int,-3,31\nprice,dec,3,-0.5,1",
+            "day,\"at, or from\",price\n 31 ,and, -0.5",
+            "c: day in -3..0 => true, 2..2\n",
+            "query count\nrelation possible\nrun 2: \"New \"\"York\"\"\", -3, -0.500\nlow 3 exact\nrun 2: \"New \"\"York\"\"\", -3, -0.500\nhigh 3 exact\nrun 2: \"New \"\"York\"\"\", -3, -0.500\n",
+        ),
+    ];
+    for (schema, rows, constraints, want) in table {
+        let mut shelf = shelf_of(rt.alloc(), schema, rows, constraints)?;
+        let mut sink = MemSink::new(rt.alloc(), 0);
+        let ended = run_words(rt.alloc(), &WORDS, &mut shelf, &mut sink)?;
+        assert_eq!(rt; sink.kept.as_slice(), want.as_bytes(), "want {want}");
+        assert_eq!(rt; ended, Status::Done);
+    }
+    Ok(())
+}
+
+#[test]
+fn faults(rt: HostRuntime) -> Result<(), Fail> {
+    // a load fails
+    let table: [(&[&str], u64, &str); 5] = [
+        (&WORDS, 0, "read fault: schema\n"),
+        (&WORDS, 1, "read fault: rows\n"),
+        (&WORDS, 2, "read fault: constraints\n"),
+        (&SHOW, 0, "read fault: schema\n"),
+        (&SHOW, 1, "read fault: constraints\n"),
+    ];
+    for (words, call, want) in table {
+        let mut shelf = shelf_of(rt.alloc(), SCHEMA, ROWS, APART)?;
+        shelf.fail(call)?;
+        let mut sink = MemSink::new(rt.alloc(), 0);
+        assert_eq!(rt;
+            run_words(rt.alloc(), words, &mut shelf, &mut sink)?,
+            Status::ReadFault
+        );
+        assert_eq!(rt; sink.kept.as_slice(), want.as_bytes());
+    }
+    // the shelf holds nothing but the schema
+    let table: [(&[&str], &str); 2] = [
+        (&WORDS, "read fault: rows\n"),
+        (&SHOW, "read fault: constraints\n"),
+    ];
+    for (words, want) in table {
+        let mut shelf = MemShelf::new(rt.alloc());
+        shelf.add("s", SCHEMA.as_bytes())?;
+        let mut sink = MemSink::new(rt.alloc(), 0);
+        assert_eq!(rt;
+            run_words(rt.alloc(), words, &mut shelf, &mut sink)?,
+            Status::ReadFault
+        );
+        assert_eq!(rt; sink.kept.as_slice(), want.as_bytes());
+    }
+    Ok(())
+}
+
+#[test]
+fn cut_off_texts(rt: HostRuntime) -> Result<(), Fail> {
+    let table: [(&[&str], &str, u64, &str, Status); 7] = [
+        (&WORDS, APART, 0, "", Status::WriteFault),
+        (&WORDS, APART, 11, "query count", Status::WriteFault),
+        (&WORDS, "x\n", 9, "malformed", Status::Malformed),
+        (&SHOW, APART, 0, "", Status::WriteFault),
+        (&SHOW, APART, 9, "a: week i", Status::WriteFault),
+        (&SHOW, "x\n", 9, "malformed", Status::Malformed),
+        (&["show"], APART, 5, "usage", Status::Usage),
+    ];
+    for (words, constraints, short, want, status) in table {
+        let mut shelf = shelf_of(rt.alloc(), SCHEMA, ROWS, constraints)?;
+        let mut sink = MemSink::new(rt.alloc(), short);
+        sink.fail(0)?;
+        assert_eq!(rt;
+            run_words(rt.alloc(), words, &mut shelf, &mut sink)?,
+            status
+        );
+        assert_eq!(rt; sink.kept.as_slice(), want.as_bytes());
+    }
+    Ok(())
+}

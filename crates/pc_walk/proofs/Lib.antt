@@ -1,0 +1,4 @@
+pub mod Left
+pub mod Parts
+pub mod Shown
+pub mod Steps
