@@ -42,7 +42,7 @@ module _ (agg : Agg) (chosen : Region) (group : Option ℕ) (rows : List Row) wh
   best_in pick (Some column) best is = sym is
 
 module _ (schema : Schema) (constraints : List Constraint) (query : Query) (observed : List Row) (seen : Folded) where
-  comes : IsFold query observed seen → ComesTo (question_as schema constraints query observed query.chosen query.group None) seen
+  comes : IsFold query None observed seen → ComesTo (question_as schema constraints query observed query.chosen query.group None) seen
   comes fold = let rows = kept query None observed in record {
     count = ap pos (sym fold.count);
     sum = sum_in query.agg query.chosen query.group rows query.column seen.sum fold.sum;
@@ -50,7 +50,7 @@ module _ (schema : Schema) (constraints : List Constraint) (query : Query) (obse
     greatest = best_in query.agg query.chosen query.group rows int_max query.column seen.greatest fold.greatest;
   }
 
-pub fold_asks : (schema : Schema) (constraints : List Constraint) (query : Query) (observed : List Row) (seen : Folded) (nodes : List CutNode) → IsQuery schema query → query.group ≡ None → IsFold query observed seen →
+pub fold_asks : (schema : Schema) (constraints : List Constraint) (query : Query) (observed : List Row) (seen : Folded) (nodes : List CutNode) → IsQuery schema query → query.group ≡ None → IsFold query None observed seen →
     (asking : Asking schema constraints query seen) × (setting_for schema constraints query seen nodes asking ≡ setting_of schema observed constraints query nodes)
 fold_asks schema constraints query observed seen nodes well ungrouped fold =
     let asking : Asking schema constraints query seen = record {

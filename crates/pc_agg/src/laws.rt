@@ -12,5 +12,5 @@ ghost use Rattle.pc_search.specs.Settings.{setting_of};
 
 /// A query without a group is asked of whatever observed rows come to its fold.
 pub fn folds_are_asked_of()
-    ensures { (schema : Schema) (constraints : List Constraint) (query : Query) (observed : List Row) (seen : Folded) (nodes : List CutNode) → IsQuery schema query → query.group ≡ None → IsFold query observed seen → (asking : Asking schema constraints query seen) × (setting_for schema constraints query seen nodes asking ≡ setting_of schema observed constraints query nodes) }
+    ensures { (schema : Schema) (constraints : List Constraint) (query : Query) (observed : List Row) (seen : Folded) (nodes : List CutNode) → IsQuery schema query → query.group ≡ None → IsFold query None observed seen → (asking : Asking schema constraints query seen) × (setting_for schema constraints query seen nodes asking ≡ setting_of schema observed constraints query nodes) }
 {}

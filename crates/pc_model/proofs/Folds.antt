@@ -31,16 +31,16 @@ no_best : (pick : ℤ → ℤ → ℤ) (column : Option ℕ) → best_at pick co
 no_best pick None = refl
 no_best pick (Some column) = refl
 
-pub fold_empty : (query : Query) → IsFold query [] (record { count = 0; sum = pos 0; least = None; greatest = None })
-fold_empty query = record {
+pub fold_empty : (query : Query) (name : Option ℕ) → IsFold query name [] (record { count = 0; sum = pos 0; least = None; greatest = None })
+fold_empty query name = record {
   count = refl;
   sum = sym (no_sum query.column);
   least = sym (no_best int_min query.column);
   greatest = sym (no_best int_max query.column);
 }
 
-pub fold_same : (query : Query) (rows others : List Row) (folded : Folded) → kept query None others ≡ kept query None rows → IsFold query rows folded → IsFold query others folded
-fold_same query rows others folded same before = record {
+pub fold_same : (query : Query) (name : Option ℕ) (rows others : List Row) (folded : Folded) → kept query name others ≡ kept query name rows → IsFold query name rows folded → IsFold query name others folded
+fold_same query name rows others folded same before = record {
   count = rw same before.count;
   sum = rw same before.sum;
   least = rw same before.least;

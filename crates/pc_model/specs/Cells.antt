@@ -50,13 +50,24 @@ HasRowOf schema constraints chosen class = (row : Row) × IsRowOf schema constra
 
 -- ---- settled leaves
 
+-- the constraint speaks of all rows of a box, or of none of them
+abbrev pub SpeaksOfAll : Region → Constraint → Type 0
+SpeaksOfAll box c = IsInside box c.when
+
+abbrev pub SpeaksOfNone : Region → Constraint → Type 0
+SpeaksOfNone box c = IsApart box c.when
+
 -- what a class says of a box at one constraint
 pub record IsUnder (box : Region) (c : Constraint) : Type 0 where
-  pub when : IsInside box c.when
+  pub when : SpeaksOfAll box c
   pub values : IsInside box c.values
 
+-- the constraint speaks of all rows of a box, and none of them is in its values
+abbrev pub IsRuledOut : Region → Constraint → Type 0
+IsRuledOut box c = SpeaksOfAll box c × IsApart box c.values
+
 abbrev pub IsSettledAt : Region → ℕ → ℕ → Constraint → Type 0
-IsSettledAt box mask place c = cond (has_bit mask place) (IsUnder box c) (IsApart box c.when)
+IsSettledAt box mask place c = cond (has_bit mask place) (IsUnder box c) (SpeaksOfNone box c)
 
 abbrev pub IsSettledSide : Region → Region → Bool → Type 0
 IsSettledSide box region chosen = cond chosen (IsInside box region) (IsApart box region)
@@ -69,8 +80,7 @@ pub record IsSettledClass (constraints : List Constraint) (region box : Region) 
 
 -- no row of the box can be lost: a constraint speaks of all and none is in its values, or no constraint speaks of any
 abbrev pub IsBarren : List Constraint → Region → Type 0
-IsBarren constraints box =
-    Any (λ (c : Constraint). IsInside box c.when × IsApart box c.values) constraints ⊎ All (λ (c : Constraint). IsApart box c.when) constraints
+IsBarren constraints box = Any (IsRuledOut box) constraints ⊎ All (SpeaksOfNone box) constraints
 
 abbrev pub IsSettledAs : List Constraint → Region → Region → LeafMark → Type 0
 IsSettledAs constraints region box marks.Barren = IsBarren constraints box

@@ -1,4 +1,4 @@
--- What a fold of rows says of the rows that a query chooses.
+-- What a fold of rows says of the rows that a query chooses, of one group or of all.
 use Rattle.std.specs.Prelude.{◌≡◌, ℕ, ℤ, pos, List, length, map, Option, Some, None}
 use Rattle.std.specs.List.{reduce}
 use Rattle.std.specs.Int.{int_min, int_max}
@@ -17,12 +17,12 @@ abbrev pub best_at : (ℤ → ℤ → ℤ) → Option ℕ → List Row → Optio
 best_at pick None rows = None
 best_at pick (Some column) rows = reduce pick (map (λ (row : Row). number_at row column) rows)
 
--- the count, sum, least and greatest of the rows that the query keeps
-pub record IsFold (query : Query) (rows : List Row) (folded : Folded) : Type 0 where
-  pub count : folded.count ≡ length (kept query None rows)
-  pub sum : folded.sum ≡ sum_at query.column (kept query None rows)
-  pub least : folded.least ≡ best_at int_min query.column (kept query None rows)
-  pub greatest : folded.greatest ≡ best_at int_max query.column (kept query None rows)
+-- the count, sum, least and greatest of the rows that the query keeps, where a name is given those of its group
+pub record IsFold (query : Query) (name : Option ℕ) (rows : List Row) (folded : Folded) : Type 0 where
+  pub count : folded.count ≡ length (kept query name rows)
+  pub sum : folded.sum ≡ sum_at query.column (kept query name rows)
+  pub least : folded.least ≡ best_at int_min query.column (kept query name rows)
+  pub greatest : folded.greatest ≡ best_at int_max query.column (kept query name rows)
 
 -- what a number makes of the best of those before it
 abbrev pub better : (ℤ → ℤ → ℤ) → Option ℤ → ℤ → ℤ

@@ -50,7 +50,7 @@ module _ (nodes : ℕ) (schema : Schema) (observed : List Row) (constraints : Li
   }
 
   -- the fold of the observed rows is asked of
-  pub answers_query : (copy : Query) → copy ≡ query → (seen : Folded) → IsFold query observed seen → ((asking : Asking schema constraints query seen) → Owes (setting_for schema constraints query seen tree.nodes asking) nodes answer) →
+  pub answers_query : (copy : Query) → copy ≡ query → (seen : Folded) → IsFold query None observed seen → ((asking : Asking schema constraints query seen) → Owes (setting_for schema constraints query seen tree.nodes asking) nodes answer) →
       AnswersQuery nodes schema observed constraints query (block copy)
   answers_query copy same seen fold owes =
       let asking = fold_asks schema constraints query observed seen tree.nodes asked.query_of asked.ungrouped fold in

@@ -24,7 +24,7 @@ sum_small f (row ∷ rows) each =
 asked_at : (query : Query) (column : ℕ) (row : Row) → query.column ≡ Some column → asked query row ≡ number_at row column
 asked_at query column row is = rw is refl
 
-module _ (schema : Schema) (query : Query) (rows : List Row) (seen : Folded) (formed : IsWellFormed schema) (allowed : AllPass (in_domain schema) rows) (fold : IsFold query rows seen) (few : seen.count ≤ 1_000_000) where
+module _ (schema : Schema) (query : Query) (rows : List Row) (seen : Folded) (formed : IsWellFormed schema) (allowed : AllPass (in_domain schema) rows) (fold : IsFold query None rows seen) (few : seen.count ≤ 1_000_000) where
   kept_small : All (λ row. nat_abs (asked query row) ≤ 10 ^ 15) (kept query None rows)
   kept_small =
       All-filter (λ row. has query.chosen row && is_in_group query.group None row) (λ row. nat_abs (asked query row) ≤ 10 ^ 15) rows

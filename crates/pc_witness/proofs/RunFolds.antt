@@ -94,7 +94,7 @@ max_same b = omega (arith, ints, clamps)
 
 -- ---- the fold with one run more
 
-pub fold_yes : (query : Query) (run : Run) (folded more : Folded) → 0 < run.times → has query.chosen run.row ≡ true → IsWithRun query.column folded run more → (rows : List Row) → IsFold query rows folded → IsFold query (rows ++ replicate run.times run.row) more
+pub fold_yes : (query : Query) (run : Run) (folded more : Folded) → 0 < run.times → has query.chosen run.row ≡ true → IsWithRun query.column folded run more → (rows : List Row) → IsFold query None rows folded → IsFold query None (rows ++ replicate run.times run.row) more
 fold_yes query run folded more some chosen with rows before =
     let old : List Row = kept query None rows in
     let longer : kept query None (rows ++ replicate run.times run.row) ≡ kept query None rows ++ replicate run.times run.row = kept_yes query rows run.times run.row chosen in
@@ -105,9 +105,9 @@ fold_yes query run folded more some chosen with rows before =
       greatest = with.greatest ∙ rw (before.greatest, longer) (sym (best_at-repeats int_max max_again max_same query.column old run some));
     }
 
-pub fold_no : (query : Query) (run : Run) (folded : Folded) → has query.chosen run.row ≡ false → (rows : List Row) → IsFold query rows folded → IsFold query (rows ++ replicate run.times run.row) folded
+pub fold_no : (query : Query) (run : Run) (folded : Folded) → has query.chosen run.row ≡ false → (rows : List Row) → IsFold query None rows folded → IsFold query None (rows ++ replicate run.times run.row) folded
 fold_no query run folded other rows before =
-    fold_same query rows (rows ++ replicate run.times run.row) folded (kept_no query rows run.times run.row other) before
+    fold_same query None rows (rows ++ replicate run.times run.row) folded (kept_no query rows run.times run.row other) before
 
 pub with_some : (column : Option ℕ) (at : ℕ) (folded : Folded) (run : Run) (number sum least greatest : ℤ) → column ≡ Some at → number ≡ number_at run.row at → sum ≡ folded.sum +ℤ (number *ℤ pos run.times) → least ≡ better int_min folded.least number → greatest ≡ better int_max folded.greatest number →
     IsWithRun column folded run (record { count = folded.count + run.times; sum = sum; least = Some least; greatest = Some greatest })
@@ -123,7 +123,7 @@ with_some column at folded run number sum least greatest is number_is sum_is lea
 pub record IsFoldedTo (query : Query) (runs : List Run) (place : ℕ) (folded : Folded) : Type 0 where
   pub few : folded.count ≤ sum_by (λ (run : Run). run.times) (take place runs)
   pub small : nat_abs folded.sum ≤ folded.count * 2 ^ 63
-  pub before : IsFold query (rows_of (take place runs)) folded
+  pub before : IsFold query None (rows_of (take place runs)) folded
 
 rows_of-push : (runs : List Run) (run : Run) → rows_of (runs ++ run ∷ []) ≡ rows_of runs ++ replicate run.times run.row
 unfolding rows_of
@@ -136,10 +136,10 @@ unfolding rows_of
 no_rows = refl
 
 pub fold_none : (query : Query) (runs : List Run) → IsFoldedTo query runs 0 (record { count = 0; sum = pos 0; least = None; greatest = None })
-fold_none query runs = record { few = omega arith; small = omega (arith, ints); before = rw no_rows (fold_empty query) }
+fold_none query runs = record { few = omega arith; small = omega (arith, ints); before = rw no_rows (fold_empty query None) }
 
 pub fold_more : (query : Query) (runs : List Run) (place : ℕ) (run : Run) (folded more : Folded) → place < length runs → run ≡ get_or runs place run → IsFoldedTo query runs place folded →
-    ((rows : List Row) → IsFold query rows folded → IsFold query (rows ++ replicate run.times run.row) more) →
+    ((rows : List Row) → IsFold query None rows folded → IsFold query None (rows ++ replicate run.times run.row) more) →
     more.count ≤ folded.count + run.times → nat_abs more.sum ≤ more.count * 2 ^ 63 → IsFoldedTo query runs (place + 1) more
 fold_more query runs place run folded more below is folded_to step few small =
     let rows : List Row = rows_of (take place runs) in
@@ -148,5 +148,5 @@ fold_more query runs place run folded more below is folded_to step few small =
       few = omega (arith, few, times, folded_to.few, sum_by_more (λ (found : Run). found.times) runs place run below);
       small = small;
       before = rw (take_more runs place run below, rows_of-push (take place runs) (get_or runs place run))
-          (subst (λ found. IsFold query (rows ++ replicate found.times found.row) more) is (step rows folded_to.before));
+          (subst (λ found. IsFold query None (rows ++ replicate found.times found.row) more) is (step rows folded_to.before));
     }

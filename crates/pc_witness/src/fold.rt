@@ -1,4 +1,4 @@
-ghost use Rattle.std.specs.Prelude.{◌≡◌, ◌+◌, ◌*◌, ◌^◌, ◌<◌, ◌≤◌, pos, ◌+ℤ◌, ◌*ℤ◌, List, ◌++◌, replicate, nat_abs, sum_by, SomeIff};
+ghost use Rattle.std.specs.Prelude.{◌≡◌, ◌+◌, ◌*◌, ◌^◌, ◌<◌, ◌≤◌, pos, ◌+ℤ◌, ◌*ℤ◌, List, ◌++◌, replicate, nat_abs, sum_by, SomeIff, None};
 ghost use Rattle.pc_model.specs.declared.row.Row.{Row};
 ghost use Rattle.pc_model.specs.declared.row.Run.{Run};
 ghost use Rattle.pc_model.specs.Aggregate.{number_at as number};
@@ -28,7 +28,7 @@ pub fn total_times(runs: &[Run]) -> Option<u64>
 /// Whether there are too many rows for this, `total_times` tells.
 pub fn fold_runs(query: &Query, runs: &[Run]) -> Folded
     requires few { sum_by (λ (run : Run). run.times) runs.now ≤ 2 ^ 36 }
-    ensures { IsFold query.now (rows_of runs.now) result }
+    ensures { IsFold query.now None (rows_of runs.now) result }
 {
     let mut folded = Folded {
         count: 0,
@@ -46,7 +46,7 @@ pub fn fold_runs(query: &Query, runs: &[Run]) -> Folded
 fn with_run(folded: Folded, query: &Query, run: &Run) -> Folded
     requires few { folded.count + run.now.times ≤ 2 ^ 36 }
     requires small { nat_abs folded.sum ≤ folded.count * 2 ^ 63 }
-    ensures more { (rows : List Row) → IsFold query.now rows folded → IsFold query.now (rows ++ replicate run.now.times run.now.row) result }
+    ensures more { (rows : List Row) → IsFold query.now None rows folded → IsFold query.now None (rows ++ replicate run.now.times run.now.row) result }
     ensures few { result.count ≤ folded.count + run.now.times }
     ensures small { nat_abs result.sum ≤ result.count * 2 ^ 63 }
 {
