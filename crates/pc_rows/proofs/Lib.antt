@@ -1,6 +1,7 @@
 pub mod Cells
 pub mod Finding
 pub mod Folding
+pub mod Grouping
 pub mod InDomain
 pub mod Places
 pub mod PlainCells

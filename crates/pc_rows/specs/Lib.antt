@@ -1,5 +1,6 @@
 pub mod Finding
 pub mod Folds
+pub mod Groups
 pub mod Plain
 pub mod RowFile
 pub mod Stored

@@ -1,9 +1,21 @@
-ghost use Rattle.std.specs.Prelude.{◌<◌, length};
+ghost use Rattle.std.specs.Prelude.{◌≡◌, ◌<◌, length, pos, None};
 ghost use Rattle.pc_rows.specs.Folds.{IsSmall, IsWithRow};
 ghost use Rattle.pc_rows.specs.Stored.{row_at, row_limit};
 
 use crate::rows::Rows;
 use pc_model::{Folded, greatest_of, least_of};
+
+// The fold of no rows.
+pub(crate) fn nothing() -> Folded
+    ensures { result ≡ record { count = 0; sum = pos 0; least = None; greatest = None } }
+{
+    Folded {
+        count: 0,
+        sum: 0,
+        least: None,
+        greatest: None,
+    }
+}
 
 // The fold with the row at a place as well.
 pub(crate) fn with_row(folded: Folded, column: Option<u8>, rows: &Rows, place: usize) -> Folded

@@ -5,6 +5,7 @@ mod case;
 mod cell;
 mod column;
 mod fold;
+mod groups;
 mod header;
 mod numbers;
 mod plain;

@@ -1,10 +1,10 @@
-ghost use Rattle.std.specs.Prelude.{◌≡◌, ◌<◌, ◌≤◌, List, [], ◌∷◌, ◌++◌, length, OnOk, OnErr, All, nat_abs, ◌^◌};
+ghost use Rattle.std.specs.Prelude.{◌≡◌, ◌<◌, ◌≤◌, List, [], ◌∷◌, ◌++◌, length, OnOk, OnErr, All, None, nat_abs, ◌^◌};
 ghost use Rattle.pc_model.specs.Aggregate.{number_at};
 ghost use Rattle.pc_model.specs.Membership.{has, row_from as row};
 ghost use Rattle.pc_model.specs.Folds.{IsFold};
 ghost use Rattle.pc_rows.specs.Stored.{row_at, row_limit};
 
-use crate::fold::with_row;
+use crate::fold::{nothing, with_row};
 use crate::numbers::Numbers;
 use pc_model::{Column, Folded, Kind, Query, Region, Row};
 use pc_num::Memory;
@@ -95,16 +95,11 @@ impl Rows {
 
     /// What the rows in the query's region come to. Where the query has no column, the sum is 0.
     pub fn fold(&self, query: &Query) -> Folded
-        ensures folded { IsFold query.now self.now result }
+        ensures folded { IsFold query.now None self.now result }
         ensures few { result.count ≤ row_limit }
         ensures small { nat_abs result.sum ≤ 2 ^ 83 }
     {
-        let mut folded = Folded {
-            count: 0,
-            sum: 0,
-            least: None,
-            greatest: None,
-        };
+        let mut folded = nothing();
         for place in 0..self.count {
             if self.has_row(&query.chosen, place) {
                 folded = with_row(folded, query.column, self, place);
@@ -134,7 +129,7 @@ impl Rows {
 
     // Whether the region holds the row at a place.
     #[tactic(auto, using(pc_model::proofs::Pairs::steps), unfolding(pc_model::specs::Membership::has))]
-    fn has_row(&self, region: &Region, place: usize) -> bool
+    pub(crate) fn has_row(&self, region: &Region, place: usize) -> bool
         requires { place < length self.now }
         ensures { result ≡ has region.now (row_at self.now place) }
     {

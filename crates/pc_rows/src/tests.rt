@@ -1,6 +1,8 @@
 ghost use Rattle.std.specs.Prelude.{◌≡◌, [], ◌∷◌, length, map, IfOk, All};
 ghost use Rattle.pc_model.specs.WellFormed.{HasFewNames, HaveFewNames};
 
+mod each_group;
+
 use crate::{Case, Rows, read_rows, reads_plain_fields, reads_plain_text};
 use pc_list::{Seq, Text};
 use pc_model::{Agg, Column, Folded, Kind, Query, Reason, Refusal, Region, Row, Schema, Side};
