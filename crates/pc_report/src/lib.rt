@@ -10,3 +10,4 @@ mod value;
 
 pub use report::put_report;
 pub use runs::put_runs;
+pub use value::in_column;

@@ -40,9 +40,9 @@ fn put_average(alloc: Global, out: &mut Vec<u8>, value: &Frac, scale: u8) -> Res
     put_frac(alloc, out, &in_column(value, scale))
 }
 
-// An average in the unit of its column.
+/// An average in the unit of its column, as it is printed: the value over so many powers of ten, in lowest terms.
 #[tactic(auto, using(crate::proofs::Units::quotient_is_in_column, crate::proofs::Units::den_is_not_zero, crate::proofs::Units::den_fits))]
-fn in_column(value: &Frac, scale: u8) -> Frac
+pub fn in_column(value: &Frac, scale: u8) -> Frac
     requires average { IsAverage value.now }
     requires few { scale ≤ 6 }
     ensures value { result ≡ in_column scale value.now }

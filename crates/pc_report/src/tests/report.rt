@@ -3,7 +3,7 @@ ghost use Rattle.pc_model.specs.WellFormed.{IsWellFormed, HaveFewNames};
 ghost use Rattle.pc_report.specs.Units.{AreAverages, IsAverage};
 
 use super::{SCHEMA, run_of};
-use crate::put_report;
+use crate::{in_column, put_report};
 use pc_lang::read_query;
 use pc_list::Seq;
 use pc_model::{Refusal, Run, Schema, Tree};
@@ -295,4 +295,21 @@ fn averages_in_the_unit_of_their_column(rt: HostRuntime) -> Result<(), Fail> {
         assert!(rt; is_written(text, want), "{want}");
     }
     Ok(())
+}
+
+#[test]
+fn values_over_a_power_of_ten(rt: HostRuntime) {
+    let cases = [
+        ((15_000, 7), 2, (150, 7)),
+        ((15_000, 7), 0, (15_000, 7)),
+        ((-125, 1), 3, (-1, 8)),
+        ((0, 9), 6, (0, 1)),
+        ((1, 30_000_000_000_000_000), 1, (1, 300_000_000_000_000_000)),
+    ];
+    for ((num, den), scale, wanted) in cases {
+        let value = Frac { num, den };
+        assert!(rt; scale <= 6 && is_average(&value));
+        let found = in_column(&value, scale);
+        assert!(rt; (found.num, found.den) == wanted);
+    }
 }
