@@ -2,7 +2,7 @@
 """Makes 60 counts and sums over small domains, 40 least and greatest numbers and 40 averages, and finds what is true of each
 by going over every list of lost rows that is possible.
 
-    tools/small_cases.py table 1          the file small.rt of pc_agg's tests: the first 30 counts and sums
+    tools/small_cases.py table 1          the file small.rt of pc_agg_trials: the first 30 counts and sums
     tools/small_cases.py table 2          its file small_more.rt: the others
     tools/small_cases.py table 3          its file small_extremes.rt: the least and greatest numbers
     tools/small_cases.py table 4          the file small_averages.rt of pc_trials: the averages

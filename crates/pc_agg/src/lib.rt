@@ -16,8 +16,6 @@ mod laws;
 mod rungs;
 mod settling;
 mod stand;
-#[cfg(test)]
-mod tests;
 
 pub use bounds::{bound_count, bound_sum};
 pub use deciding::settle;

@@ -6,7 +6,7 @@ ghost use Rattle.pc_model.specs.WellFormed.{IsWellFormed, HaveFewNames};
 ghost use Rattle.pc_search.specs.Asked.{AreAsked, AreCells};
 
 use super::Texts;
-use crate::{Settled, bound_count, bound_max, bound_min, bound_sum, settle};
+use pc_agg::{Settled, bound_count, bound_max, bound_min, bound_sum, settle};
 use pc_cells::{Cells, decompose};
 use pc_lang::{read_constraints, read_query};
 use pc_list::Seq;
