@@ -1,3 +1,5 @@
+use crate::draws::Draws;
+use crate::shops;
 use std::alloc::{AllocError, Global};
 
 /// The greatest number of each generated column; the least is 0.
@@ -10,6 +12,14 @@ pub(crate) enum Family {
     Nested,
     /// A random span of each column.
     Boxes { columns: u32 },
+    /// Random spans of two or three of the columns.
+    Sparse { columns: u32, greatest: u32 },
+    /// A country, one of its regions or one of that region's shops, some days, and prices up to one.
+    Shops,
+    /// Some regions on some days, and prices up to one.
+    Windows,
+    /// Some regions on thirty days that begin fifteen days after those before, and prices up to one.
+    Sliding,
 }
 
 impl Family {
@@ -18,48 +28,70 @@ impl Family {
             "nested" => Some(Family::Nested),
             "three" => Some(Family::Boxes { columns: 3 }),
             "twelve" => Some(Family::Boxes { columns: 12 }),
+            "four-sparse" => Some(sparse(4, GREATEST)),
+            "eight-sparse" => Some(sparse(8, GREATEST)),
+            "twelve-sparse" => Some(sparse(12, GREATEST)),
+            "eight-grid" => Some(sparse(8, 9)),
+            "shops" => Some(Family::Shops),
+            "windows" => Some(Family::Windows),
+            "sliding" => Some(Family::Sliding),
             _ => None,
-        }
-    }
-
-    fn columns(self) -> u32 {
-        match self {
-            Family::Nested => 1,
-            Family::Boxes { columns } => columns,
         }
     }
 
     /// The lines of the schema.
     pub(crate) fn schema_text(self, alloc: Global) -> Result<String, AllocError> {
+        match self {
+            Family::Nested => numbers_text(alloc, 1, GREATEST),
+            Family::Boxes { columns } => numbers_text(alloc, columns, GREATEST),
+            Family::Sparse { columns, greatest } => numbers_text(alloc, columns, greatest),
+            Family::Shops | Family::Windows | Family::Sliding => shops::schema_text(alloc),
+        }
+    }
+
+    /// The lines of so many constraints.
+    pub(crate) fn constraints_text(self, alloc: Global, count: u32) -> Result<String, AllocError> {
+        let mut draws = Draws::new();
         let mut text = String::new(alloc);
-        for column in 0..self.columns() {
-            let line = format!(in alloc; "c{column},int,0,{GREATEST}\n")?;
+        for number in 0..count {
+            let body = self.body(alloc, &mut draws, number)?;
+            let line = format!(in alloc; "n{number}: {body}, 0..1\n")?;
             text.push_str(line.as_str())?;
         }
         Ok(text)
     }
 
-    /// The lines of so many constraints.
-    pub(crate) fn constraints_text(self, alloc: Global, count: u32) -> Result<String, AllocError> {
-        let mut draws = Draws { state: 1 };
-        let mut text = String::new(alloc);
-        for number in 0..count {
-            let predicate = match self {
-                Family::Nested => nested(alloc, number)?,
-                Family::Boxes { columns } => random(alloc, &mut draws, columns)?,
-            };
-            let line = format!(in alloc; "n{number}: {predicate} => true, 0..1\n")?;
-            text.push_str(line.as_str())?;
+    /// The predicate of a constraint, and its values.
+    fn body(self, alloc: Global, draws: &mut Draws, number: u32) -> Result<String, AllocError> {
+        match self {
+            Family::Nested => nested(alloc, number),
+            Family::Boxes { columns } => random(alloc, draws, columns),
+            Family::Sparse { columns, greatest } => some_columns(alloc, draws, columns, greatest),
+            Family::Shops => shops::chain(alloc, draws),
+            Family::Windows => shops::window(alloc, draws),
+            Family::Sliding => shops::sliding(alloc, draws, number),
         }
-        Ok(text)
     }
+}
+
+fn sparse(columns: u32, greatest: u32) -> Family {
+    Family::Sparse { columns, greatest }
+}
+
+fn numbers_text(alloc: Global, columns: u32, greatest: u32) -> Result<String, AllocError> {
+    let mut text = String::new(alloc);
+    for column in 0..columns {
+        let line = format!(in alloc; "c{column},int,0,{greatest}\n")?;
+        text.push_str(line.as_str())?;
+    }
+    Ok(text)
 }
 
 /// A span that leaves out as many numbers at either end as its number says.
 fn nested(alloc: Global, number: u32) -> Result<String, AllocError> {
     let low = number.min(GREATEST / 2);
     let high = GREATEST - low;
-    format!(in alloc; "c0 in {low}..{high}")
+    format!(in alloc; "c0 in {low}..{high} => true")
 }
 
 fn random(alloc: Global, draws: &mut Draws, columns: u32) -> Result<String, AllocError> {
@@ -68,27 +100,35 @@ fn random(alloc: Global, draws: &mut Draws, columns: u32) -> Result<String, Allo
         if column > 0 {
             text.push_str(" and ")?;
         }
-        let (one, other) = (draws.next_number(), draws.next_number());
-        let (low, high) = (one.min(other), one.max(other));
+        let (low, high) = draws.span(GREATEST);
         let atom = format!(in alloc; "c{column} in {low}..{high}")?;
         text.push_str(atom.as_str())?;
     }
+    text.push_str(" => true")?;
     Ok(text)
 }
 
-/// Numbers of a fixed generator, the same in each run.
-#[derive(Drop)]
-struct Draws {
-    state: u64,
-}
-
-impl Draws {
-    /// The next number from 0 to the greatest of a column.
-    fn next_number(&mut self) -> u32 {
-        self.state = self
-            .state
-            .wrapping_mul(6364136223846793005)
-            .wrapping_add(1442695040888963407);
-        ((self.state >> 33) % (GREATEST as u64 + 1)) as u32
+fn some_columns(
+    alloc: Global,
+    draws: &mut Draws,
+    columns: u32,
+    greatest: u32,
+) -> Result<String, AllocError> {
+    // the columns in three groups, so that none is named twice
+    let group = columns / 3;
+    let last_group = group.saturating_add(group);
+    let first = draws.up_to(group.saturating_sub(1));
+    let second = group.saturating_add(draws.up_to(group.saturating_sub(1)));
+    let (low, high) = draws.span(greatest);
+    let (least, most) = draws.span(greatest);
+    let mut text = format!(in alloc; "c{first} in {low}..{high} and c{second} in {least}..{most}")?;
+    if draws.up_to(1) == 1 {
+        let (low, high) = draws.span(greatest);
+        let rest = columns.saturating_sub(last_group).saturating_sub(1);
+        let last = last_group.saturating_add(draws.up_to(rest));
+        let atom = format!(in alloc; " and c{last} in {low}..{high}")?;
+        text.push_str(atom.as_str())?;
     }
+    text.push_str(" => true")?;
+    Ok(text)
 }

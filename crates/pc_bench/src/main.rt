@@ -2,7 +2,9 @@
 //! cells there are. Its words are a family, a number of constraints, and how often the domain is divided.
 #![tactic(auto)]
 
+mod draws;
 mod family;
+mod shops;
 mod trouble;
 
 use family::Family;

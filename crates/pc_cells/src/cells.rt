@@ -11,11 +11,10 @@ ghost use Rattle.pc_model.specs.Cells.{Class, IsRowOf, HasRowOf, IsSettledTree, 
 ghost use Rattle.pc_cells.specs.declared.cells.Cell.{Cell};
 ghost use Rattle.pc_cells.specs.Found.{class_of_cell, cells_of, leaves_at, IsFilled, HasNumbers};
 
-use crate::gather::gather;
+use crate::shared::Shared;
 use pc_list::Seq;
 use pc_model::{Constraint, CutTree, Region, Schema};
 use pc_num::Memory;
-use pc_tree::{Growth, grow};
 use std::alloc::Global;
 
 /// The rows that can be lost of one class: those that the constraints of `mask` speak of, bit j for constraint j,
@@ -44,7 +43,8 @@ impl Cells {
     }
 }
 
-/// Divides the rows of the domain by which constraints speak of them and whether the query chooses them.
+/// Divides the rows of the domain by which constraints speak of them and whether the query chooses them, with a
+/// tree for them alone.
 pub fn decompose(
     alloc: Global,
     schema: &Schema,
@@ -64,10 +64,7 @@ pub fn decompose(
     ensures regions { IfOk result (λ found. All (λ (cell : Cell). All (λ (leaf : Region). is_region_of schema.now leaf ≡ true) cell.leaves) found.cells) }
     ensures numbers { IfOk result (λ found. (column : ℕ) → IsColumnWhere IsNumeric schema.now column → All (HasNumbers column) found.cells) }
 {
-    let Growth { nodes, leaves } = grow(alloc, schema, constraints, chosen)?;
-    let cells = gather(alloc, leaves)?;
-    Ok(Cells {
-        tree: CutTree { nodes },
-        cells,
-    })
+    let mut shared = Shared::new(alloc, schema)?;
+    shared.refine(schema, constraints, chosen)?;
+    shared.cells(schema, constraints, chosen)
 }

@@ -1,7 +1,9 @@
 ghost use Rattle.std.specs.Prelude.{All};
 ghost use Rattle.pc_cells.specs.Found.{IsFilled};
 
+mod drawn;
 mod plain;
+mod shared;
 
 use crate::{Cells, decompose, pairwise_apart};
 use pc_lang::{read_constraints, read_query};

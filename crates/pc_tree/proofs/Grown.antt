@@ -1,9 +1,7 @@
 -- Trees that grow over a box and its parts, and over the whole domain.
-use Rattle.std.proofs.Common.{◌≡◌, ℕ, zero, suc, ◌+◌, ◌<◌, true, List, [], ◌∷◌, ◌++◌, length, set, All, IfOk, Result, refl, sym, ◌∙◌, ap, subst, arith, append_assoc}
-use Rattle.std.proofs.lemmas.Result.{IfOk-weaker}
+use Rattle.std.proofs.Common.{◌≡◌, ℕ, ◌+◌, true, List, [], ◌∷◌, ◌++◌, length, set, All, refl, sym, ap, arith, append_assoc}
 use Rattle.std.proofs.lemmas.List.{length-append, length-set, length-map, set_at}
-use Rattle.std.proofs.lemmas.List.Elements.{All-append}
-use Rattle.pc_num.specs.declared.memory.Memory.{Memory}
+use Rattle.std.proofs.lemmas.List.Elements.{All-nil, All-cons, All-append}
 use Rattle.pc_model.specs.declared.schema.Column.{Column}
 use Rattle.pc_model.specs.declared.schema.Schema.{Schema}
 use Rattle.pc_model.specs.declared.region.Region.{Region}
@@ -23,11 +21,10 @@ use Rattle.pc_box.specs.Cuts.{Divides}
 use Rattle.pc_box.proofs.CutRows.{first_alike, second_alike, IsProper-from_divides}
 use Rattle.pc_box.proofs.Likeness.{as_many_sides, AreAlike-turned, AreAlike-through}
 use Rattle.pc_box.proofs.Schemas.{AreAlike-from_schema}
-use Rattle.pc_tree.specs.declared.decision.Decision.{Decision}
-use Rattle.pc_tree.specs.declared.decision.Decision.TheVariants.{Settled, Divided}
 use Rattle.pc_tree.specs.declared.growth.Growth.{Growth}
-use Rattle.pc_tree.specs.Decisions.{IsComparable, IsDecision}
+use Rattle.pc_tree.specs.Decisions.{IsComparable}
 use Rattle.pc_tree.specs.Growing.{HasGrown, with_leaf, with_place, with_inner}
+use Rattle.pc_tree.specs.Walking.{HasCutsAt}
 use Rattle.pc_class.proofs.Trees.{shape_of-nodes, length-nodes}
 use Rattle.pc_model.proofs.FewNames.{have_few_names}
 use Rattle.pc_model.proofs.WholeDomain.{whole_is_region}
@@ -55,40 +52,22 @@ module _ (constraints : List Constraint) (chosen : Region) where
   pub second_comparable : (area part : Region) (cut : Cut) → IsComparable constraints chosen area → Divides area cut → part ≡ second_part area cut → IsComparable constraints chosen part
   second_comparable area part cut fits divided e = part_comparable area part fits (second_alike area cut divided part (box_comparable area fits) e)
 
-  pub settled_by : (area : Region) (decision : Decision) (mark : LeafMark) → IsDecision constraints chosen area decision → decision ≡ Settled mark → IsSettledAs constraints chosen area mark
-  settled_by area decision mark says e = subst (IsDecision constraints chosen area) e says
-
-  pub divided_by : (area : Region) (decision : Decision) (cut : Cut) → IsDecision constraints chosen area decision → decision ≡ Divided cut → Divides area cut
-  divided_by area decision cut says e = subst (IsDecision constraints chosen area) e says
-
   -- ---- growing
 
-  pub grown-leaf : (area : Region) (before : Growth) (mark : LeafMark) → IsSettledAs constraints chosen area mark → HasGrown constraints chosen area before (with_leaf before area mark)
+  unfoldable pub grown-leaf : (area : Region) (before : Growth) (mark : LeafMark) → IsSettledAs constraints chosen area mark → HasGrown constraints chosen area before (with_leaf before area mark)
   grown-leaf area before mark settled = record {
     shape = leaf mark;
     nodes_are = refl;
     leaves_are = refl;
     proper = tt;
-    settled = only;
+    settled = All-cons (IsSettled constraints chosen) (record { region = area; mark = mark }) [] settled (All-nil (IsSettled constraints chosen));
   }
-    where
-      only : All (IsSettled constraints chosen) (record { region = area; mark = mark } ∷ [])
-      only zero d inside = settled
-      only (suc k) d inside = absurd (omega arith)
-
-  -- the kept place is there
-  pub place_kept : (area : Region) (before pushed middle : Growth) (place : ℕ) → pushed ≡ with_place before → place ≡ length before.nodes → HasGrown constraints chosen area pushed middle →
-      place < length middle.nodes
-  place_kept area before pushed middle place pushed_is place_is grown =
-      let part = nodes_from (length pushed.nodes) grown.shape in
-      let more : length pushed.nodes ≡ length before.nodes + 1 = ap (λ (growth : Growth). length growth.nodes) pushed_is ∙ length-append before.nodes (nodes.Leaf Barren ∷ []) in
-      omega (arith, more, place_is, ap length grown.nodes_are, length-append pushed.nodes part)
 
   set_behind : (before middle part : List CutNode) (x y : CutNode) → middle ≡ (before ++ x ∷ []) ++ part → set middle (length before) y ≡ before ++ y ∷ part
   set_behind before middle part x y e = rw (e, append_assoc before (x ∷ []) part) (set_at before x part y (length before) refl)
 
   -- the nodes of both parts behind the cut are those of the tree
-  spelled : (before middle after : List CutNode) (x : CutNode) (cut : Cut) (t u : CutShape) (pushed patched : ℕ) → pushed ≡ length before + 1 → patched ≡ length middle →
+  pub spelled : (before middle after : List CutNode) (x : CutNode) (cut : Cut) (t u : CutShape) (pushed patched : ℕ) → pushed ≡ length before + 1 → patched ≡ length middle →
       middle ≡ (before ++ x ∷ []) ++ nodes_from pushed t → after ≡ set middle (length before) (nodes.Inner cut (length before + 1) (length middle)) ++ nodes_from patched u →
       after ≡ before ++ nodes_from (length before) (inner cut t u)
   spelled before middle after x cut t u pushed patched pushed_is patched_is middle_is after_is =
@@ -101,7 +80,7 @@ module _ (constraints : List Constraint) (chosen : Region) where
   module _ (area : Region) (cut : Cut) (before middle after : Growth) (filled : IsBox area) (divided : Divides area cut)
       (first : HasGrown constraints chosen (first_part area cut) (with_place before) middle)
       (second : HasGrown constraints chosen (second_part area cut) (with_inner middle (length before.nodes) cut) after) where
-    grown-inner : HasGrown constraints chosen area before after
+    unfoldable pub grown-inner : HasGrown constraints chosen area before after
     grown-inner = record {
       shape = inner cut first.shape second.shape;
       nodes_are =
@@ -112,23 +91,6 @@ module _ (constraints : List Constraint) (chosen : Region) where
       proper = (IsProper-from_divides area cut divided filled, first.proper, second.proper);
       settled = All-append (IsSettled constraints chosen) (leaves_of (first_part area cut) first.shape) (leaves_of (second_part area cut) second.shape) first.settled second.settled;
     }
-
-  -- ---- what is answered
-
-  pub leaf_grown : (area : Region) (decision : Decision) (mark : LeafMark) (before : Growth) (result : Result Growth Memory) → IsDecision constraints chosen area decision → decision ≡ Settled mark →
-      IfOk result (λ after. after ≡ with_leaf before area mark) → IfOk result (HasGrown constraints chosen area before)
-  leaf_grown area decision mark before result says e gives =
-      IfOk-weaker result _ _ (λ after is. subst (HasGrown constraints chosen area before) (sym is) (grown-leaf area before mark (settled_by area decision mark says e))) gives
-
-  pub inner_grown : (area first second : Region) (cut : Cut) (before pushed middle patched : Growth) (place : ℕ) (result : Result Growth Memory) → IsComparable constraints chosen area → Divides area cut →
-      first ≡ first_part area cut → second ≡ second_part area cut → pushed ≡ with_place before → place ≡ length before.nodes → HasGrown constraints chosen first pushed middle →
-      patched ≡ with_inner middle place cut → IfOk result (HasGrown constraints chosen second patched) → IfOk result (HasGrown constraints chosen area before)
-  inner_grown area first second cut before pushed middle patched place result fits divided first_is second_is pushed_is place_is grown patched_is gives =
-      let start = rw (first_is, pushed_is) at grown in
-      let end = rw (second_is, patched_is, place_is) at gives in
-      IfOk-weaker result _ _ (λ after more. grown-inner area cut before middle after (box_comparable area fits) divided start more) end
-
-pub ruleset steps = (divided_by, place_kept, inner_grown)
 
 -- ---- the whole domain
 
@@ -160,7 +122,10 @@ module _ (schema : Schema) (constraints : List Constraint) (chosen whole : Regio
     settled = rw (shape_is, sym is_whole) grown.settled;
   }
 
+  pub same_cuts : (linked : List CutNode) → HasCutsAt linked 0 grown.shape → HasCutsAt linked 0 (shape_of growth.nodes)
+  same_cuts linked cuts = rw shape_is cuts
+
   pub all_leaves : growth.leaves ≡ leaves_in schema growth.nodes
   all_leaves = rw (shape_is, sym is_whole, grown.leaves_are, no_leaves) refl
 
-pub ruleset whole = (have_few_names, all_leaves)
+pub ruleset whole = (have_few_names)

@@ -1,4 +1,4 @@
--- How far a box can still be cut, and that each cut leaves less.
+-- Each cut leaves less room.
 use Rattle.std.proofs.Common.{◌≡◌, ℕ, ◌+◌, ◌<◌, nat_lt, int_le, int_lt, true, ℤ, pos, ◌<ℤ◌, ◌+ℤ◌, ◌-ℤ◌, nat_abs, List, length, get_or, set, refl, sym, true≢false, arith, ltb-true, sum_by}
 use Rattle.std.specs.Int.{int_min, int_max}
 use Rattle.std.specs.Int.Bits.{bit_and, xor_add_and, and_self}
@@ -16,14 +16,8 @@ use Rattle.pc_model.specs.Places.{places_outside}
 use Rattle.pc_model.specs.CutTrees.{column_of, first_side, second_side, side_at, first_part, second_part}
 use Rattle.pc_model.proofs.Between.{le_from_test}
 use Rattle.pc_box.specs.Cuts.{divides_side, Divides}
+use Rattle.pc_tree.specs.Rooms.{room_of, room}
 use Rattle.pc_box.proofs.CutRows.{column_inside, side_divided}
-
-abbrev pub room_of : Side → ℕ
-room_of (Span low high) = nat_abs (high -ℤ low)
-room_of (Names bits) = bits
-
-abbrev pub room : Region → ℕ
-room area = sum_by room_of area.sides
 
 -- ---- one side
 

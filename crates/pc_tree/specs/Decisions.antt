@@ -1,16 +1,17 @@
 -- What constraints say of a box, and what is done with it.
-use Rattle.std.specs.Prelude.{ℕ, ◌+◌, ◌*◌, ◌<◌, ◌≤◌, ◌^◌, ⊤, Bool, cond, List, length, All, Any, slice_index_or}
+use Rattle.std.specs.Prelude.{◌≡◌, ℕ, ◌+◌, ◌*◌, ◌<◌, ◌≤◌, ◌^◌, ⊤, ◌⊎◌, Bool, true, false, cond, List, length, drop, All, Any, slice_index_or}
 use Rattle.pc_model.specs.declared.region.Region.{Region}
 use Rattle.pc_model.specs.declared.constraint.Constraint.{Constraint}
 use Rattle.pc_model.specs.declared.tree.Cut.{Cut}
+use Rattle.pc_model.specs.declared.tree.LeafMark.{LeafMark}
 use Rattle.pc_model.specs.Accepted.{constraint_limit}
-use Rattle.pc_model.specs.CutTrees.{IsInside, IsApart}
-use Rattle.pc_model.specs.Cells.{IsSettledAt, IsSettledAs}
+use Rattle.pc_model.specs.Cells.{SpeaksOfAll, IsRuledOut, IsSettledAt, IsSettledAs}
 use Rattle.pc_box.specs.Boxes.{AreAlike}
 use Rattle.pc_box.specs.Cuts.{Divides}
-use Rattle.pc_tree.specs.Stances.{column_limit}
+use Rattle.pc_tree.specs.Stances.{column_limit, IsAcross, IsCutThrough}
 use Rattle.pc_tree.specs.declared.decision.Decision.{Decision}
 use Rattle.pc_tree.specs.declared.decision.Decision.TheVariants.{Settled, Divided}
+use Rattle.pc_tree.specs.declared.decision.Crossing.{Crossing}
 use Rattle.pc_tree.specs.declared.decision.Finding.{Finding}
 use Rattle.pc_tree.specs.declared.decision.Finding.TheVariants.{Broken, Crossed, Under}
 
@@ -25,38 +26,61 @@ pub record IsComparable (constraints : List Constraint) (chosen area : Region) :
   pub each : All (IsAlikeTo area) constraints
   pub side : AreAlike area chosen
 
+-- ---- what the constraints from a place on say
+
 -- each constraint speaks of all rows of the box or of none, as the mask says
 pub record IsMaskOf (area : Region) (constraints : List Constraint) (mask : ℕ) : Type 0 where
   pub short : mask < 2 ^ length constraints
   pub each : (place : ℕ) (c : Constraint) → place < length constraints → IsSettledAt area mask place (slice_index_or constraints place c)
 
-abbrev pub IsFound : Region → List Constraint → Finding → Type 0
-IsFound area constraints Broken = Any (λ (c : Constraint). IsInside area c.when × IsApart area c.values) constraints
-IsFound area constraints (Crossed cut) = Divides area cut
-IsFound area constraints (Under mask) = IsMaskOf area constraints mask
+-- the constraint leaves open which rows of the box have its values, or which of them it speaks of
+abbrev pub IsCrossedBy : Region → Bool → Constraint → Type 0
+IsCrossedBy area true c = SpeaksOfAll area c × IsAcross area c.values
+IsCrossedBy area false c = IsAcross area c.when
 
--- ---- one constraint more
+pub record IsCrossing (area : Region) (constraints : List Constraint) (crossing : Crossing) : Type 0 where
+  pub there : crossing.place < length constraints
+  pub crossed : (c : Constraint) → IsCrossedBy area crossing.within (slice_index_or constraints crossing.place c)
+
+abbrev pub IsFound : Region → List Constraint → ℕ → Finding → Type 0
+IsFound area constraints from Broken = Any (IsRuledOut area) constraints
+IsFound area constraints from (Crossed crossing) = IsCrossing area constraints crossing × (Any (IsRuledOut area) (drop from constraints) → ⊥)
+IsFound area constraints from (Under mask) = IsMaskOf area (drop from constraints) mask
 
 -- a mask to which a bit can be added
 abbrev pub HasShortMask : Finding → Type 0
 HasShortMask Broken = ⊤
-HasShortMask (Crossed cut) = ⊤
+HasShortMask (Crossed crossing) = ⊤
 HasShortMask (Under mask) = mask < 2 ^ constraint_limit
 
 -- with a constraint before the others that speaks of all rows or of none
 abbrev pub with_bit : Bool → Finding → Finding
 with_bit bit Broken = Broken
-with_bit bit (Crossed cut) = Crossed cut
+with_bit bit (Crossed crossing) = Crossed crossing
 with_bit bit (Under mask) = Under (2 * mask + cond bit 1 0)
 
--- with one before them that divides the box
-abbrev pub with_cut : Cut → Finding → Finding
-with_cut cut Broken = Broken
-with_cut cut (Crossed other) = Crossed cut
-with_cut cut (Under mask) = Crossed cut
+-- with one before them that is crossed: which of two crossed ones is kept is left open
+abbrev pub IsWithCrossing : Crossing → Finding → Finding → Type 0
+IsWithCrossing crossing Broken with_it = with_it ≡ Broken
+IsWithCrossing crossing (Crossed other) with_it = (with_it ≡ Crossed other) ⊎ (with_it ≡ Crossed crossing)
+IsWithCrossing crossing (Under mask) with_it = with_it ≡ Crossed crossing
 
 -- ---- what is done
 
+-- some mark fits the box
+abbrev pub CanBeSettled : List Constraint → Region → Region → Type 0
+CanBeSettled constraints chosen area = (mark : LeafMark) × IsSettledAs constraints chosen area mark
+
+-- the cut goes through the constraint's values, where it speaks of all rows of the box, or through its predicate
+abbrev pub IsCutFor : Region → Cut → Constraint → Type 0
+IsCutFor area cut c = (SpeaksOfAll area c × IsCutThrough area c.values cut) ⊎ IsCutThrough area c.when cut
+
+-- the cut divides a box that no mark fits, along a region that the box crosses
+pub record IsNeeded (constraints : List Constraint) (chosen area : Region) (cut : Cut) : Type 0 where
+  pub divides : Divides area cut
+  pub open_still : CanBeSettled constraints chosen area → ⊥
+  pub through : Any (IsCutFor area cut) constraints ⊎ IsCutThrough area chosen cut
+
 abbrev pub IsDecision : List Constraint → Region → Region → Decision → Type 0
 IsDecision constraints chosen area (Settled mark) = IsSettledAs constraints chosen area mark
-IsDecision constraints chosen area (Divided cut) = Divides area cut
+IsDecision constraints chosen area (Divided cut) = IsNeeded constraints chosen area cut

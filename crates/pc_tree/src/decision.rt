@@ -1,8 +1,10 @@
-ghost use Rattle.std.specs.Prelude.{◌≡◌, ◌+◌, ◌≤◌, ◌<◌, length, drop, All};
+ghost use Rattle.std.specs.Prelude.{◌≡◌, ◌+◌, ◌≤◌, ◌<◌, cond, length, All, slice_index_or};
+ghost use Rattle.pc_model.specs.declared.constraint.Constraint.{Constraint};
 ghost use Rattle.pc_model.specs.Accepted.{constraint_limit};
-ghost use Rattle.pc_tree.specs.Decisions.{IsAlikeTo, IsComparable, HasShortMask, IsFound, IsDecision, with_bit, with_cut};
+ghost use Rattle.pc_tree.specs.Decisions.{IsAlikeTo, IsComparable, HasShortMask, IsMaskOf, IsFound, IsDecision, IsWithCrossing, with_bit};
 ghost use Rattle.pc_tree.specs.Stances.{column_limit};
 
+use crate::choice::cut_through;
 use crate::stance::{Stance, compare};
 use pc_model::{Constraint, Cut, LeafMark, Region};
 
@@ -13,12 +15,21 @@ pub(crate) enum Decision {
     Divided(Cut),
 }
 
-/// What constraints say of a box: one of them, that none of its rows can be lost; else one divides it;
+/// A constraint that a box crosses: the box is within its predicate and crosses its values, or it crosses the
+/// predicate; and along how many open faces.
+#[derive(Clone, Copy, Debug, PartialEq, Eq)]
+pub(crate) struct Crossing {
+    pub place: usize,
+    pub within: bool,
+    pub faces: u32,
+}
+
+/// What constraints say of a box: one of them, that none of its rows can be lost; else one is crossed;
 /// else each speaks of all of its rows or of none, as the mask says.
 #[derive(Clone, Copy, Debug, PartialEq, Eq)]
 pub(crate) enum Finding {
     Broken,
-    Crossed(Cut),
+    Crossed(Crossing),
     Under { mask: u32 },
 }
 
@@ -36,15 +47,24 @@ impl Finding {
         }
     }
 
-    /// With a constraint before the others that divides the box.
-    fn with_cut(self, cut: Cut) -> Finding
-        ensures { result ≡ with_cut cut self }
+    /// With one before them that is crossed. Values come before predicates, since their outer part is
+    /// settled at once; then the one with fewer open faces.
+    fn with_crossing(self, crossing: Crossing) -> Finding
+        ensures { IsWithCrossing crossing self result }
     {
         match self {
             Finding::Broken => self,
-            _ => Finding::Crossed(cut),
+            Finding::Crossed(other) if is_before(other, crossing) => self,
+            _ => Finding::Crossed(crossing),
         }
     }
+}
+
+fn is_before(one: Crossing, other: Crossing) -> bool {
+    if one.within != other.within {
+        return one.within;
+    }
+    one.faces < other.faces
 }
 
 /// Settles a box, or says how to cut it.
@@ -56,29 +76,56 @@ pub(crate) fn decide(area: &Region, constraints: &[Constraint], chosen: &Region)
 {
     match find(area, constraints) {
         Finding::Broken => Decision::Settled(LeafMark::Barren),
-        Finding::Crossed(cut) => Decision::Divided(cut),
+        Finding::Crossed(crossing) => {
+            let region = crossed_region(constraints, crossing);
+            Decision::Divided(cut_through(area, region, constraints))
+        }
         Finding::Under { mask } => {
             if mask == 0 {
                 return Decision::Settled(LeafMark::Barren);
             }
-            match compare(area, chosen) {
-                Stance::Inside => Decision::Settled(LeafMark::Class { mask, chosen: true }),
-                Stance::Apart => Decision::Settled(LeafMark::Class {
-                    mask,
-                    chosen: false,
-                }),
-                Stance::Across(cut) => Decision::Divided(cut),
-            }
+            decide_side(area, constraints, chosen, mask)
         }
     }
 }
 
+// Of a box of which each constraint speaks of all rows or of none: whether its rows are chosen, or how to cut it.
+#[tactic(auto, using(crate::proofs::Decisions::sides))]
+fn decide_side(area: &Region, constraints: &[Constraint], chosen: &Region, mask: u32) -> Decision
+    requires comparable { IsComparable constraints.now chosen.now area.now }
+    requires some { 0 < mask }
+    requires masked { IsMaskOf area.now constraints.now mask }
+    ensures { IsDecision constraints.now chosen.now area.now result }
+{
+    match compare(area, chosen) {
+        Stance::Inside => Decision::Settled(LeafMark::Class { mask, chosen: true }),
+        Stance::Apart => Decision::Settled(LeafMark::Class {
+            mask,
+            chosen: false,
+        }),
+        Stance::Across { .. } => Decision::Divided(cut_through(area, chosen, constraints)),
+    }
+}
+
+// The predicate that is crossed, or the values.
+fn crossed_region(constraints: &[Constraint], crossing: Crossing) -> &Region
+    requires { crossing.place < length constraints.now }
+    ensures { (c : Constraint) → result.now ≡ cond crossing.within (slice_index_or constraints.now crossing.place c).values (slice_index_or constraints.now crossing.place c).when }
+{
+    let constraint = &constraints[crossing.place];
+    if crossing.within {
+        &constraint.values
+    } else {
+        &constraint.when
+    }
+}
+
 #[tactic(auto, using(crate::proofs::Decisions::rounds))]
-fn find(area: &Region, constraints: &[Constraint]) -> Finding
+pub(crate) fn find(area: &Region, constraints: &[Constraint]) -> Finding
     requires few { length constraints.now ≤ constraint_limit }
     requires sides { length area.now.sides ≤ column_limit }
     requires alike { All (IsAlikeTo area.now) constraints.now }
-    ensures { IsFound area.now constraints.now result }
+    ensures { IsFound area.now constraints.now 0 result }
 {
     let mut finding = Finding::Under { mask: 0 };
     for place in (0..constraints.len()).rev() {
@@ -94,16 +141,24 @@ fn find_from(area: &Region, constraints: &[Constraint], place: usize, later: Fin
     requires sides { length area.now.sides ≤ column_limit }
     requires alike { All (IsAlikeTo area.now) constraints.now }
     requires there { place < length constraints.now }
-    requires later { IsFound area.now (drop (place + 1) constraints.now) later }
-    ensures { IsFound area.now (drop place constraints.now) result }
+    requires later { IsFound area.now constraints.now (place + 1) later }
+    ensures { IsFound area.now constraints.now place result }
 {
     let constraint = &constraints[place];
     match compare(area, &constraint.when) {
         Stance::Apart => later.with_bit(false),
-        Stance::Across(cut) => later.with_cut(cut),
+        Stance::Across { faces } => later.with_crossing(Crossing {
+            place,
+            within: false,
+            faces,
+        }),
         Stance::Inside => match compare(area, &constraint.values) {
             Stance::Apart => Finding::Broken,
-            Stance::Across(cut) => later.with_cut(cut),
+            Stance::Across { faces } => later.with_crossing(Crossing {
+                place,
+                within: true,
+                faces,
+            }),
             Stance::Inside => later.with_bit(true),
         },
     }

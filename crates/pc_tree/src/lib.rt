@@ -1,10 +1,19 @@
 //! The settled tree of cuts over a domain.
 #![tactic(auto)]
 
+mod choice;
 mod decision;
 mod growth;
+mod laws;
+mod marks;
+mod refine;
 mod stance;
 #[cfg(test)]
 mod tests;
+mod walk;
 
-pub use growth::{Growth, grow};
+pub use growth::Growth;
+pub use laws::{parts_can_be_settled, refined_trees_stay_divided};
+pub use marks::marked_trees_have_the_same_cuts;
+pub use refine::{Refinement, refined};
+pub use walk::marked;

@@ -1,6 +1,5 @@
-use Rattle.std.proofs.Common.{drop}
 use Rattle.pc_tree.specs.Decisions.{IsFound}
 use Rattle.pc_tree.proofs.decision.find.Given as goal
 
 abbrev pub invariant-loop-place : goal.invariant-loop-place
-invariant-loop-place l = IsFound l.area (drop l.place l.constraints) l.finding
+invariant-loop-place l = IsFound l.area l.constraints l.place l.finding

@@ -1,0 +1,121 @@
+ghost use Rattle.std.specs.Prelude.{◌≡◌, ◌+◌, ◌*◌, ◌≤◌, ◌∷◌, [], ◌↔◌, ℕ, true, length, map, All, Contains, IfOk, OnOk, OnErr, count_by};
+ghost use Rattle.pc_model.specs.declared.row.Row.{Row};
+ghost use Rattle.pc_model.specs.declared.region.Region.{Region};
+ghost use Rattle.pc_model.specs.declared.tree.Leaf.{Leaf};
+ghost use Rattle.pc_model.specs.declared.tree.LeafMark.TheVariants.{Barren};
+ghost use Rattle.pc_model.specs.declared.tree.CutNode.TheVariants as forms;
+ghost use Rattle.pc_model.specs.Accepted.{constraint_limit, IsNumeric, IsColumnWhere};
+ghost use Rattle.pc_model.specs.Boxes.{IsServable};
+ghost use Rattle.pc_model.specs.CutTrees.{shape_of};
+ghost use Rattle.pc_model.specs.Membership.{in_domain, has};
+ghost use Rattle.pc_model.specs.Regions.{is_region_of};
+ghost use Rattle.pc_model.specs.WellFormed.{IsWellFormed};
+ghost use Rattle.pc_model.specs.Cells.{Class, IsRowOf, HasRowOf, IsSettledTree, leaves_in, IsInSome};
+ghost use Rattle.pc_tree.specs.Linked.{IsTree, IsDividedFor, HasKept, HasNeededCuts, IsFrugal};
+ghost use Rattle.pc_tree.specs.Walking.{HasCutsAt};
+ghost use Rattle.pc_cells.specs.declared.cells.Cell.{Cell};
+ghost use Rattle.pc_cells.specs.Found.{class_of_cell, cells_of, IsFilled, HasNumbers};
+
+use crate::cells::Cells;
+use crate::gather::gather;
+use pc_list::Seq;
+use pc_model::{Constraint, CutNode, CutTree, LeafMark, Region, Schema};
+use pc_num::Memory;
+use pc_tree::{Growth, Refinement, marked, refined};
+use std::alloc::Global;
+
+/// A tree of cuts for many regions: it is linked by the numbers of its nodes and grows only at its end, and its
+/// leaves have no marks.
+#[derive(Clone, Debug, PartialEq, Eq, Drop)]
+pub struct Shared {
+    pub nodes: Seq<CutNode>,
+}
+
+impl Shared {
+    /// The tree of one leaf.
+    pub fn new(alloc: Global, schema: &Schema) -> Result<Self, Memory>
+        requires well_formed { IsWellFormed schema.now }
+        ensures tree { IfOk result (λ shared. IsTree schema.now shared.nodes) }
+        ensures one { IfOk result (λ shared. shared.nodes ≡ forms.Leaf Barren ∷ []) }
+    {
+        let _schema = schema;
+        let leaf = CutNode::Leaf {
+            mark: LeafMark::Barren,
+        };
+        Ok(Shared {
+            nodes: Seq::from_vec(vec![in alloc; leaf]?),
+        })
+    }
+
+    /// Cuts the leaves that cannot be marked, and their parts, until each leaf can be marked as settled for the
+    /// constraints and the region; answers how many cuts that took. After `Memory` the tree is as before.
+    pub fn refine(
+        &mut self,
+        schema: &Schema,
+        constraints: &[Constraint],
+        chosen: &Region,
+    ) -> Result<u64, Memory>
+        requires well_formed { IsWellFormed schema.now }
+        requires few { length constraints.now ≤ constraint_limit }
+        requires servable { All (IsServable schema.now) constraints.now }
+        requires chosen { is_region_of schema.now chosen.now ≡ true }
+        requires tree { IsTree schema.now self.old.nodes }
+        ensures tree { OnOk result (IsTree schema.now self.new.nodes) }
+        ensures divided { OnOk result (IsDividedFor schema.now constraints.now chosen.now self.new.nodes) }
+        ensures kept { OnOk result (HasKept schema.now constraints.now chosen.now self.old.nodes self.new.nodes) }
+        ensures needed { OnOk result (HasNeededCuts schema.now constraints.now chosen.now self.old.nodes self.new.nodes) }
+        ensures cuts { IfOk result (λ cuts. length self.new.nodes ≡ length self.old.nodes + 2 * cuts) }
+        ensures frugal { IfOk result (λ cuts. IsFrugal schema.now constraints.now chosen.now self.old.nodes cuts) }
+        ensures memory { OnErr result (self.new ≡ self.old) }
+    {
+        let alloc = self.nodes.allocator();
+        let Refinement { nodes, cuts } = refined(
+            alloc,
+            schema,
+            constraints,
+            chosen,
+            self.nodes.as_slice(),
+        )?;
+        self.nodes = nodes;
+        Ok(cuts)
+    }
+
+    /// The cells of the rows, as `decompose` finds them: the tree with its marks, its nodes numbered anew in
+    /// preorder, and the leaves of each class.
+    pub fn cells(
+        &self,
+        schema: &Schema,
+        constraints: &[Constraint],
+        chosen: &Region,
+    ) -> Result<Cells, Memory>
+        requires well_formed { IsWellFormed schema.now }
+        requires few { length constraints.now ≤ constraint_limit }
+        requires servable { All (IsServable schema.now) constraints.now }
+        requires chosen { is_region_of schema.now chosen.now ≡ true }
+        requires tree { IsTree schema.now self.now.nodes }
+        requires divided { IsDividedFor schema.now constraints.now chosen.now self.now.nodes }
+        ensures settled { IfOk result (λ found. IsSettledTree schema.now constraints.now chosen.now found.tree.nodes) }
+        ensures one_leaf { IfOk result (λ found. (row : Row) → in_domain schema.now row ≡ true → count_by (λ (leaf : Leaf). has leaf.region row) (leaves_in schema.now found.tree.nodes) ≡ 1) }
+        ensures cells { IfOk result (λ found. found.cells ≡ cells_of (leaves_in schema.now found.tree.nodes)) }
+        ensures classes { IfOk result (λ found. (class : Class) → (Contains (map class_of_cell found.cells) class ↔ HasRowOf schema.now constraints.now chosen.now class)) }
+        ensures rows { IfOk result (λ found. All (λ (cell : Cell). (row : Row) → (IsRowOf schema.now constraints.now chosen.now (class_of_cell cell) row ↔ IsInSome cell.leaves row)) found.cells) }
+        ensures filled { IfOk result (λ found. All IsFilled found.cells) }
+        ensures regions { IfOk result (λ found. All (λ (cell : Cell). All (λ (leaf : Region). is_region_of schema.now leaf ≡ true) cell.leaves) found.cells) }
+        ensures numbers { IfOk result (λ found. (column : ℕ) → IsColumnWhere IsNumeric schema.now column → All (HasNumbers column) found.cells) }
+        ensures same { IfOk result (λ found. HasCutsAt self.now.nodes 0 (shape_of found.tree.nodes)) }
+    {
+        let alloc = self.nodes.allocator();
+        let Growth { nodes, leaves } = marked(
+            alloc,
+            schema,
+            constraints,
+            chosen,
+            self.nodes.as_slice(),
+        )?;
+        let cells = gather(alloc, leaves)?;
+        Ok(Cells {
+            tree: CutTree { nodes },
+            cells,
+        })
+    }
+}

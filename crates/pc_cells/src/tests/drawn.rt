@@ -1,0 +1,103 @@
+//! Drawn constraints, the same in each run: taken in one after the other they give the classes that they give at once.
+use super::SHOP;
+use super::shared::{have_same_classes, refine_in_turn};
+use crate::{Shared, decompose};
+use pc_lang::{read_constraints, read_query};
+use pc_schema::read_schema;
+use std::alloc::{AllocError, Global};
+use std::test::Fail;
+
+const CASES: u32 = 200;
+
+static PREDICATES: [&str; 4] = [
+    "day >= 1",
+    "branch = Chicago",
+    "branch in {Chicago, Trenton}",
+    "branch = NewYork",
+];
+
+static QUESTIONS: [&str; 4] = [
+    "count",
+    "count where day <= 12",
+    "count where branch = Chicago and price <= 100",
+    "count where branch in {NewYork, Trenton} and day in 7..20",
+];
+
+/// Numbers of a fixed generator.
+#[derive(Drop)]
+struct Draws {
+    state: u64,
+}
+
+impl Draws {
+    /// A number below this one.
+    fn below(&mut self, end: u64) -> u64 {
+        self.state = self
+            .state
+            .wrapping_mul(6364136223846793005)
+            .wrapping_add(1442695040888963407);
+        if end == 0 {
+            return 0;
+        }
+        (self.state >> 33) % end
+    }
+
+    /// Two days of a month, in order.
+    fn days(&mut self) -> (u64, u64) {
+        let (one, other) = (self.below(31), self.below(31));
+        (
+            one.min(other).saturating_add(1),
+            one.max(other).saturating_add(1),
+        )
+    }
+}
+
+/// The line of a constraint on branches, days and prices.
+fn line(alloc: Global, draws: &mut Draws, number: u32) -> Result<String, AllocError> {
+    let predicate = PREDICATES[(draws.below(4) % 4) as usize];
+    let (first, last) = draws.days();
+    let price = draws.below(1001);
+    format!(in alloc;
+        "c{number}: {predicate} and day in {first}..{last} => price <= {price}, 0..1\n"
+    )
+}
+
+fn lines(alloc: Global, draws: &mut Draws) -> Result<String, AllocError> {
+    let mut text = String::new(alloc);
+    let count = 1 + (draws.below(4) % 4) as u32;
+    for number in 0..count {
+        let one = line(alloc, draws, number)?;
+        text.push_str(one.as_str())?;
+    }
+    Ok(text)
+}
+
+#[test]
+fn drawn_constraints_in_turn_give_the_same_classes(rt: HostRuntime) -> Result<(), Fail> {
+    let alloc = rt.alloc();
+    let Ok(schema) = read_schema(alloc, SHOP) else {
+        assert!(rt; false, "no schema");
+        return Ok(());
+    };
+    let mut draws = Draws { state: 20 };
+    for number in 0..CASES {
+        let text = lines(alloc, &mut draws)?;
+        let question = QUESTIONS[(draws.below(4) % 4) as usize];
+        let Ok(constraints) = read_constraints(alloc, &schema, text.as_bytes()) else {
+            assert!(rt; false, "case {number}");
+            return Ok(());
+        };
+        let Ok(query) = read_query(alloc, &schema, question, 1) else {
+            assert!(rt; false, "case {number}");
+            return Ok(());
+        };
+        let constraints = constraints.as_slice();
+        let mut shared = Shared::new(alloc, &schema)?;
+        refine_in_turn(&mut shared, &schema, constraints, &query.chosen)?;
+        shared.refine(&schema, constraints, &query.chosen)?;
+        let found = shared.cells(&schema, constraints, &query.chosen)?;
+        let at_once = decompose(alloc, &schema, constraints, &query.chosen)?;
+        assert!(rt; have_same_classes(&found, &at_once), "case {number}");
+    }
+    Ok(())
+}

@@ -1,0 +1,166 @@
+ghost use Rattle.std.specs.Prelude.{◌≡◌, ◌≤◌, true, length, All, OnOk};
+ghost use Rattle.pc_model.specs.Accepted.{constraint_limit};
+ghost use Rattle.pc_model.specs.Boxes.{IsServable};
+ghost use Rattle.pc_model.specs.Regions.{is_region_of};
+ghost use Rattle.pc_model.specs.WellFormed.{IsWellFormed};
+ghost use Rattle.pc_tree.specs.Linked.{IsTree};
+
+use super::{SHOP, place_of};
+use crate::{Cells, Shared, decompose};
+use pc_lang::{read_constraints, read_query};
+use pc_model::{Constraint, Region, Schema};
+use pc_num::Memory;
+use pc_schema::read_schema;
+use std::test::Fail;
+
+// Constraints, a query, and how many cuts the tree of one leaf wants for them.
+static CUTS: [(&str, &str, u64); 6] = [
+    (
+        "c: price >= 500.00 => price in 0.00..100.00, 1..2\n",
+        "count",
+        1,
+    ),
+    (
+        "c1: branch = Chicago => price in 0.00..149.99, 0..5\nc2: true => price in 0.00..100.00, 0..3\n",
+        "count",
+        2,
+    ),
+    ("", "count where day <= 5", 0),
+    ("a: day in 1..10 => true, 0..1\n", "count", 1),
+    ("a: day in 1..10 => true, 0..1\n", "count where day <= 5", 2),
+    (
+        "a: day in 10..20 => price <= 100, 0..1\n",
+        "count where branch in {Chicago, Trenton}",
+        4,
+    ),
+];
+
+#[test]
+fn a_second_refinement_makes_no_cut(rt: HostRuntime) -> Result<(), Fail> {
+    let alloc = rt.alloc();
+    let Ok(schema) = read_schema(alloc, SHOP) else {
+        assert!(rt; false, "no schema");
+        return Ok(());
+    };
+    for (number, (text, question, cuts)) in CUTS.into_iter().enumerate() {
+        let Ok(constraints) = read_constraints(alloc, &schema, text.as_bytes()) else {
+            assert!(rt; false, "case {number}");
+            return Ok(());
+        };
+        let Ok(query) = read_query(alloc, &schema, question, 1) else {
+            assert!(rt; false, "case {number}");
+            return Ok(());
+        };
+        let constraints = constraints.as_slice();
+        let mut shared = Shared::new(alloc, &schema)?;
+        let first = shared.refine(&schema, constraints, &query.chosen)?;
+        let nodes = shared.nodes.clone()?;
+        let second = shared.refine(&schema, constraints, &query.chosen)?;
+        assert!(rt; first == cuts && second == 0, "case {number}");
+        assert!(rt; shared.nodes == nodes, "case {number}");
+    }
+    Ok(())
+}
+
+// Constraints that are taken in one after the other, and a query.
+static IN_TURN: [(&str, &str); 10] = [
+    (
+        "a: day in 1..10 => true, 0..1\nb: day in 5..20 => true, 0..1\n",
+        "count",
+    ),
+    (
+        "a: day in 5..20 => true, 0..1\nb: day in 1..10 => true, 0..1\n",
+        "count where day <= 7",
+    ),
+    (
+        "a: branch = Chicago => price <= 149.99, 0..5\nb: true => price <= 100, 0..3\n",
+        "count",
+    ),
+    (
+        "a: true => price <= 100, 0..3\nb: branch = Chicago => price <= 149.99, 0..5\n",
+        "sum(price) where branch = Chicago",
+    ),
+    (
+        "a: price >= 500 => price <= 100, 0..1\nb: day in 3..4 => true, 0..1\n",
+        "count",
+    ),
+    (
+        "a: branch in {Chicago, Trenton} => day in 3..4, 0..1\nb: branch = NewYork => day >= 30, 0..1\nc: branch = Trenton and day = 2 => true, 0..1\n",
+        "count where price > 1",
+    ),
+    (
+        "a: day in 10..20 => true, 0..1\nb: day in 5..31 and branch = Trenton => price = 2, 0..1\nc: price <= 3 => day >= 7, 0..1\n",
+        "count",
+    ),
+    (
+        "a: day = 1 => true, 0..1\nb: day = 2 => true, 0..1\nc: day = 3 => true, 0..1\nd: day <= 3 => true, 0..1\n",
+        "count where day = 2",
+    ),
+    (
+        "a: true => true, 0..1\nb: true => day = 1, 0..1\nc: day = 1 => branch = Chicago, 0..1\n",
+        "count",
+    ),
+    (
+        "a: day in 1..10 => price <= 1, 0..1\n",
+        "count where price > 1",
+    ),
+];
+
+// Takes in one constraint after the other, but for the last one.
+pub(super) fn refine_in_turn(
+    shared: &mut Shared,
+    schema: &Schema,
+    constraints: &[Constraint],
+    chosen: &Region,
+) -> Result<(), Memory>
+    requires well_formed { IsWellFormed schema.now }
+    requires few { length constraints.now ≤ constraint_limit }
+    requires servable { All (IsServable schema.now) constraints.now }
+    requires chosen { is_region_of schema.now chosen.now ≡ true }
+    requires tree { IsTree schema.now shared.old.nodes }
+    ensures { OnOk result (IsTree schema.now shared.new.nodes) }
+{
+    for end in 0..constraints.len() {
+        shared.refine(schema, &constraints[..end], chosen)?;
+    }
+    Ok(())
+}
+
+pub(super) fn have_same_classes(found: &Cells, other: &Cells) -> bool {
+    found.cells.len() == other.cells.len() && has_classes_of(found, other)
+}
+
+fn has_classes_of(found: &Cells, other: &Cells) -> bool {
+    other
+        .cells
+        .as_slice()
+        .iter()
+        .all(|cell| place_of(found, cell.mask, cell.chosen).is_some())
+}
+
+#[test]
+fn constraints_in_turn_give_the_same_classes(rt: HostRuntime) -> Result<(), Fail> {
+    let alloc = rt.alloc();
+    let Ok(schema) = read_schema(alloc, SHOP) else {
+        assert!(rt; false, "no schema");
+        return Ok(());
+    };
+    for (number, (text, question)) in IN_TURN.into_iter().enumerate() {
+        let Ok(constraints) = read_constraints(alloc, &schema, text.as_bytes()) else {
+            assert!(rt; false, "case {number}");
+            return Ok(());
+        };
+        let Ok(query) = read_query(alloc, &schema, question, 1) else {
+            assert!(rt; false, "case {number}");
+            return Ok(());
+        };
+        let constraints = constraints.as_slice();
+        let mut shared = Shared::new(alloc, &schema)?;
+        refine_in_turn(&mut shared, &schema, constraints, &query.chosen)?;
+        shared.refine(&schema, constraints, &query.chosen)?;
+        let found = shared.cells(&schema, constraints, &query.chosen)?;
+        let at_once = decompose(alloc, &schema, constraints, &query.chosen)?;
+        assert!(rt; have_same_classes(&found, &at_once), "case {number}");
+    }
+    Ok(())
+}

@@ -1,0 +1,98 @@
+-- A walk over a tree that marks its leaves and numbers its nodes in preorder.
+use Rattle.std.specs.Prelude.{◌≡◌, ℕ, ◌*◌, ◌^◌, ◌<◌, ⊤, List, [], ◌∷◌, ◌++◌, length, All, sum_by}
+use Rattle.pc_model.specs.declared.region.Region.{Region}
+use Rattle.pc_model.specs.declared.constraint.Constraint.{Constraint}
+use Rattle.pc_model.specs.declared.tree.Cut.{Cut}
+use Rattle.pc_model.specs.declared.tree.LeafMark.TheVariants.{Barren}
+use Rattle.pc_model.specs.declared.tree.CutNode.{CutNode}
+use Rattle.pc_model.specs.declared.tree.CutNode.TheVariants as forms
+use Rattle.pc_model.specs.CutTrees.{CutShape, leaf, inner, first_part, second_part}
+use Rattle.pc_tree.specs.declared.growth.Growth.{Growth}
+use Rattle.pc_tree.specs.declared.walk.Task.{Task}
+use Rattle.pc_tree.specs.declared.walk.Task.TheVariants.{Visit, Close}
+use Rattle.pc_tree.specs.declared.walk.Walk.{Walk}
+use Rattle.pc_tree.specs.Decisions.{IsComparable}
+use Rattle.pc_tree.specs.Growing.{HasGrown, with_place, with_inner}
+use Rattle.pc_tree.specs.Linked.{node_at, box_at, AreBoxesOf, AreDoneBelow}
+use Rattle.pc_tree.specs.Rooms.{room}
+
+abbrev pub IsLeafNode : CutNode → Type 0
+IsLeafNode (forms.Leaf mark) = ⊤
+IsLeafNode (forms.Inner cut first second) = ⊥
+
+-- a tree has the cuts of the nodes that are linked to that number
+abbrev pub HasCutsAt : List CutNode → ℕ → CutShape → Type 0
+HasCutsAt nodes k (leaf mark) = IsLeafNode (node_at nodes k)
+HasCutsAt nodes k (inner cut t u) = (first : ℕ) × (second : ℕ) × (node_at nodes k ≡ forms.Inner cut first second) × HasCutsAt nodes first t × HasCutsAt nodes second u
+
+-- a tree without its marks
+abbrev pub bare : CutShape → CutShape
+bare (leaf mark) = leaf Barren
+bare (inner cut t u) = inner cut (bare t) (bare u)
+
+-- ---- what is done
+
+-- what grew is the tree at a number, with marks
+pub record HasWalked (nodes : List CutNode) (constraints : List Constraint) (chosen : Region) (k : ℕ) (area : Region) (before after : Growth) : Type 0 where
+  pub grown : HasGrown constraints chosen area before after
+  pub same : HasCutsAt nodes k grown.shape
+
+-- ---- what is still to be done
+
+abbrev pub Does : List CutNode → List Constraint → Region → Task → Growth → Growth → Type 0
+Does nodes constraints chosen (Visit number area) before after = HasWalked nodes constraints chosen number area before after
+Does nodes constraints chosen (Close place cut) before after = after ≡ with_inner before place cut
+
+-- the tasks lead from one to the other, the last of them first
+abbrev pub Leads : List CutNode → List Constraint → Region → List Task → Growth → Growth → Type 0
+Leads nodes constraints chosen [] before after = before ≡ after
+Leads nodes constraints chosen (task ∷ tasks) before after = (middle : Growth) × Leads nodes constraints chosen tasks before middle × Does nodes constraints chosen task middle after
+
+-- a number of a tree whose leaves can be marked, and its box
+pub record IsVisit (nodes : List CutNode) (constraints : List Constraint) (chosen : Region) (number : ℕ) (area : Region) : Type 0 where
+  pub whole : Region
+  pub boxes : List Region
+  pub boxes_are : AreBoxesOf whole nodes boxes
+  pub done : AreDoneBelow constraints chosen nodes boxes (length nodes)
+  pub there : number < length nodes
+  pub area_is : area ≡ box_at boxes number
+  pub comparable : IsComparable constraints chosen area
+
+-- a task where so many nodes have grown
+abbrev pub IsTask : List CutNode → List Constraint → Region → ℕ → Task → Type 0
+IsTask nodes constraints chosen grown (Visit number area) = IsVisit nodes constraints chosen number area
+IsTask nodes constraints chosen grown (Close place cut) = place < grown
+
+abbrev pub AreTasks : List CutNode → List Constraint → Region → Walk → Type 0
+AreTasks nodes constraints chosen walk = All (IsTask nodes constraints chosen (length walk.growth.nodes)) walk.tasks.items
+
+-- the two parts of a box have less room than the box
+abbrev pub effort : Task → ℕ
+effort (Visit number area) = 2 ^ (2 * room area)
+effort (Close place cut) = 1
+
+abbrev pub efforts : List Task → ℕ
+efforts tasks = sum_by effort tasks
+
+-- ---- one task, which is the next one
+
+-- the task is done, or others stand in its place that do it with less effort
+pub record IsStep (nodes : List CutNode) (constraints : List Constraint) (chosen : Region) (task : Task) (before after : Walk) : Type 0 where
+  pub tasks : AreTasks nodes constraints chosen before → AreTasks nodes constraints chosen after
+  pub leads : (end : Growth) → Leads nodes constraints chosen after.tasks.items after.growth end → Leads nodes constraints chosen (before.tasks.items ++ task ∷ []) before.growth end
+  pub less : efforts after.tasks.items < efforts (before.tasks.items ++ task ∷ [])
+
+-- a place is kept for a cut, which comes between its parts
+pub record IsOpened (at : Cut) (area : Region) (first second : ℕ) (before after : Walk) : Type 0 where
+  pub growth : after.growth ≡ with_place before.growth
+  pub tasks : after.tasks.items ≡ ((before.tasks.items ++ Visit second (second_part area at) ∷ []) ++ Close (length before.growth.nodes) at ∷ []) ++ Visit first (first_part area at) ∷ []
+
+-- ---- a walk over a whole tree
+
+abbrev pub nothing : Growth
+nothing = record { nodes = []; leaves = [] }
+
+-- the tasks that are left end with the whole tree
+pub record IsUnderWay (nodes : List CutNode) (constraints : List Constraint) (chosen whole : Region) (walk : Walk) : Type 0 where
+  pub tasks : AreTasks nodes constraints chosen walk
+  pub leads : (end : Growth) → Leads nodes constraints chosen walk.tasks.items walk.growth end → HasWalked nodes constraints chosen 0 whole nothing end
