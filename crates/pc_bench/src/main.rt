@@ -1,5 +1,6 @@
 //! What `bench/cells.sh` measures: it divides the domain of generated constraints, and prints how many leaves and
-//! cells there are. Its words are a family, a number of constraints, and how often the domain is divided.
+//! cells there are. Its words are a family, a number of constraints, and how often the domain is divided. Where that
+//! is 0, it takes in the last constraint after all others, and prints the cuts that it takes and the leaves before.
 #![tactic(auto)]
 
 mod draws;
@@ -8,7 +9,7 @@ mod shops;
 mod trouble;
 
 use family::Family;
-use pc_cells::{Cells, decompose};
+use pc_cells::{Cells, Shared, decompose};
 use pc_lang::read_constraints;
 use pc_schema::read_schema;
 use std::alloc::Global;
@@ -34,6 +35,14 @@ fn main(rt: HostRuntime) -> ExitCode {
 
 fn report<R: Env + Print + AllocGlobal>(rt: &R) -> Result<(), Trouble> {
     let plan = plan_of(rt)?;
+    if plan.times == 0 {
+        let last = last_constraint(rt.alloc(), &plan)?;
+        println!(rt;
+            "cuts {} leaves {} columns {}",
+            last.cuts, last.leaves, last.columns
+        )?;
+        return Ok(());
+    }
     let found = divide(rt.alloc(), &plan)?;
     let leaves = found.tree.nodes.len() / 2 + 1;
     let cells = found.cells.len();
@@ -69,4 +78,31 @@ fn divide(alloc: Global, plan: &Plan) -> Result<Cells, Trouble> {
         found = decompose(alloc, &schema, constraints.as_slice(), &chosen)?;
     }
     Ok(found)
+}
+
+/// How many cuts the last constraint takes, and of how many leaves that are settled for the others.
+#[derive(Clone, Copy)]
+struct LastConstraint {
+    cuts: u64,
+    leaves: usize,
+    columns: usize,
+}
+
+#[tactic(auto, using(pc_model::proofs::WholeDomain::whole_is_region))]
+fn last_constraint(alloc: Global, plan: &Plan) -> Result<LastConstraint, Trouble> {
+    let schema = read_schema(alloc, plan.family.schema_text(alloc)?.as_bytes())?;
+    let text = plan.family.constraints_text(alloc, plan.constraints)?;
+    let constraints = read_constraints(alloc, &schema, text.as_bytes())?;
+    let constraints = constraints.as_slice();
+    let others = &constraints[..constraints.len().saturating_sub(1)];
+    let whole = schema.whole(alloc)?;
+    let mut shared = Shared::new(alloc, &schema)?;
+    shared.refine(&schema, others, &whole)?;
+    let leaves = shared.nodes.len() / 2 + 1;
+    let cuts = shared.refine(&schema, constraints, &whole)?;
+    Ok(LastConstraint {
+        cuts,
+        leaves,
+        columns: schema.columns.len(),
+    })
 }

@@ -1,8 +1,6 @@
 //! Drawn constraints, the same in each run: taken in one after the other they give the classes that they give at once.
 use super::SHOP;
-use super::shared::{have_same_classes, refine_in_turn};
-use crate::{Shared, decompose};
-use pc_lang::{read_constraints, read_query};
+use super::shared::are_alike_in_turn;
 use pc_schema::read_schema;
 use std::alloc::{AllocError, Global};
 use std::test::Fail;
@@ -83,21 +81,8 @@ fn drawn_constraints_in_turn_give_the_same_classes(rt: HostRuntime) -> Result<()
     for number in 0..CASES {
         let text = lines(alloc, &mut draws)?;
         let question = QUESTIONS[(draws.below(4) % 4) as usize];
-        let Ok(constraints) = read_constraints(alloc, &schema, text.as_bytes()) else {
-            assert!(rt; false, "case {number}");
-            return Ok(());
-        };
-        let Ok(query) = read_query(alloc, &schema, question, 1) else {
-            assert!(rt; false, "case {number}");
-            return Ok(());
-        };
-        let constraints = constraints.as_slice();
-        let mut shared = Shared::new(alloc, &schema)?;
-        refine_in_turn(&mut shared, &schema, constraints, &query.chosen)?;
-        shared.refine(&schema, constraints, &query.chosen)?;
-        let found = shared.cells(&schema, constraints, &query.chosen)?;
-        let at_once = decompose(alloc, &schema, constraints, &query.chosen)?;
-        assert!(rt; have_same_classes(&found, &at_once), "case {number}");
+        let alike = are_alike_in_turn(alloc, &schema, text.as_str(), question)?;
+        assert!(rt; alike, "case {number}");
     }
     Ok(())
 }

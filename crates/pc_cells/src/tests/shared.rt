@@ -2,7 +2,7 @@ ghost use Rattle.std.specs.Prelude.{◌≡◌, ◌≤◌, true, length, All, OnO
 ghost use Rattle.pc_model.specs.Accepted.{constraint_limit};
 ghost use Rattle.pc_model.specs.Boxes.{IsServable};
 ghost use Rattle.pc_model.specs.Regions.{is_region_of};
-ghost use Rattle.pc_model.specs.WellFormed.{IsWellFormed};
+ghost use Rattle.pc_model.specs.WellFormed.{IsWellFormed, HaveFewNames};
 ghost use Rattle.pc_tree.specs.Linked.{IsTree};
 
 use super::{SHOP, place_of};
@@ -11,6 +11,7 @@ use pc_lang::{read_constraints, read_query};
 use pc_model::{Constraint, Region, Schema};
 use pc_num::Memory;
 use pc_schema::read_schema;
+use std::alloc::Global;
 use std::test::Fail;
 
 // Constraints, a query, and how many cuts the tree of one leaf wants for them.
@@ -107,7 +108,7 @@ static IN_TURN: [(&str, &str); 10] = [
 ];
 
 // Takes in one constraint after the other, but for the last one.
-pub(super) fn refine_in_turn(
+fn refine_in_turn(
     shared: &mut Shared,
     schema: &Schema,
     constraints: &[Constraint],
@@ -126,7 +127,7 @@ pub(super) fn refine_in_turn(
     Ok(())
 }
 
-pub(super) fn have_same_classes(found: &Cells, other: &Cells) -> bool {
+fn have_same_classes(found: &Cells, other: &Cells) -> bool {
     found.cells.len() == other.cells.len() && has_classes_of(found, other)
 }
 
@@ -138,6 +139,31 @@ fn has_classes_of(found: &Cells, other: &Cells) -> bool {
         .all(|cell| place_of(found, cell.mask, cell.chosen).is_some())
 }
 
+/// Whether the constraints give the same cells one after the other as at once; false where a text is refused.
+pub(super) fn are_alike_in_turn(
+    alloc: Global,
+    schema: &Schema,
+    text: &str,
+    question: &str,
+) -> Result<bool, Memory>
+    requires well_formed { IsWellFormed schema.now }
+    requires few_names { HaveFewNames schema.now.columns }
+{
+    let Ok(constraints) = read_constraints(alloc, schema, text.as_bytes()) else {
+        return Ok(false);
+    };
+    let Ok(query) = read_query(alloc, schema, question, 1) else {
+        return Ok(false);
+    };
+    let constraints = constraints.as_slice();
+    let mut shared = Shared::new(alloc, schema)?;
+    refine_in_turn(&mut shared, schema, constraints, &query.chosen)?;
+    shared.refine(schema, constraints, &query.chosen)?;
+    let found = shared.cells(schema, constraints, &query.chosen)?;
+    let at_once = decompose(alloc, schema, constraints, &query.chosen)?;
+    Ok(have_same_classes(&found, &at_once))
+}
+
 #[test]
 fn constraints_in_turn_give_the_same_classes(rt: HostRuntime) -> Result<(), Fail> {
     let alloc = rt.alloc();
@@ -146,21 +172,8 @@ fn constraints_in_turn_give_the_same_classes(rt: HostRuntime) -> Result<(), Fail
         return Ok(());
     };
     for (number, (text, question)) in IN_TURN.into_iter().enumerate() {
-        let Ok(constraints) = read_constraints(alloc, &schema, text.as_bytes()) else {
-            assert!(rt; false, "case {number}");
-            return Ok(());
-        };
-        let Ok(query) = read_query(alloc, &schema, question, 1) else {
-            assert!(rt; false, "case {number}");
-            return Ok(());
-        };
-        let constraints = constraints.as_slice();
-        let mut shared = Shared::new(alloc, &schema)?;
-        refine_in_turn(&mut shared, &schema, constraints, &query.chosen)?;
-        shared.refine(&schema, constraints, &query.chosen)?;
-        let found = shared.cells(&schema, constraints, &query.chosen)?;
-        let at_once = decompose(alloc, &schema, constraints, &query.chosen)?;
-        assert!(rt; have_same_classes(&found, &at_once), "case {number}");
+        let alike = are_alike_in_turn(alloc, &schema, text, question)?;
+        assert!(rt; alike, "case {number}");
     }
     Ok(())
 }
