@@ -28,9 +28,9 @@ use Rattle.pc_tree.specs.declared.walk.Task.TheVariants.{Visit, Close}
 use Rattle.pc_tree.specs.declared.walk.Walk.{Walk}
 use Rattle.pc_tree.specs.Decisions.{CanBeSettled}
 use Rattle.pc_tree.specs.Growing.{with_leaf, with_place, with_inner}
-use Rattle.pc_tree.specs.Linked.{node_at, box_at, IsNodeAt, IsCutInto, IsTree, IsDone, IsDividedFor}
+use Rattle.pc_tree.specs.Linked.{node_at, is_leaf_node, box_at, IsNodeAt, IsCutInto, IsTree, IsDone, IsDividedFor}
 use Rattle.pc_tree.specs.Rooms.{room}
-use Rattle.pc_tree.specs.Walking.{IsLeafNode, HasWalked, Does, Leads, IsVisit, IsTask, effort, efforts, IsStep, IsOpened, nothing, IsUnderWay}
+use Rattle.pc_tree.specs.Walking.{HasWalked, Does, Leads, IsVisit, IsTask, effort, efforts, IsStep, IsOpened, nothing, IsUnderWay}
 use Rattle.pc_tree.proofs.Grown.{box_comparable, first_comparable, second_comparable, grown-leaf, grown-inner, whole_comparable}
 use Rattle.pc_tree.proofs.Rooms.{first_smaller, second_smaller}
 
@@ -103,10 +103,10 @@ module _ (nodes : List CutNode) (constraints : List Constraint) (chosen : Region
 
   -- ---- at a leaf
 
-  leaf_node : (number : ℕ) (mark : LeafMark) → node_at nodes number ≡ forms.Leaf mark → IsLeafNode (node_at nodes number)
-  leaf_node number mark e = rw e tt
+  leaf_node : (number : ℕ) (mark : LeafMark) → node_at nodes number ≡ forms.Leaf mark → is_leaf_node (node_at nodes number) ≡ true
+  leaf_node number mark e = rw e refl
 
-  walked-leaf : (number : ℕ) (area : Region) (before : Growth) (mark : LeafMark) → IsLeafNode (node_at nodes number) → IsSettledAs constraints chosen area mark →
+  walked-leaf : (number : ℕ) (area : Region) (before : Growth) (mark : LeafMark) → is_leaf_node (node_at nodes number) ≡ true → IsSettledAs constraints chosen area mark →
       HasWalked nodes constraints chosen number area before (with_leaf before area mark)
   unfolding grown-leaf
   walked-leaf number area before mark leaf settled = record { grown = grown-leaf constraints chosen area before mark settled; same = leaf }

@@ -1,5 +1,5 @@
 -- A walk over a tree that marks its leaves and numbers its nodes in preorder.
-use Rattle.std.specs.Prelude.{◌≡◌, ℕ, ◌*◌, ◌^◌, ◌<◌, ⊤, List, [], ◌∷◌, ◌++◌, length, All, sum_by}
+use Rattle.std.specs.Prelude.{◌≡◌, ℕ, ◌*◌, ◌^◌, ◌<◌, true, List, [], ◌∷◌, ◌++◌, length, All, sum_by}
 use Rattle.pc_model.specs.declared.region.Region.{Region}
 use Rattle.pc_model.specs.declared.constraint.Constraint.{Constraint}
 use Rattle.pc_model.specs.declared.tree.Cut.{Cut}
@@ -13,16 +13,12 @@ use Rattle.pc_tree.specs.declared.walk.Task.TheVariants.{Visit, Close}
 use Rattle.pc_tree.specs.declared.walk.Walk.{Walk}
 use Rattle.pc_tree.specs.Decisions.{IsComparable}
 use Rattle.pc_tree.specs.Growing.{HasGrown, with_place, with_inner}
-use Rattle.pc_tree.specs.Linked.{node_at, box_at, AreBoxesOf, AreDoneBelow}
+use Rattle.pc_tree.specs.Linked.{node_at, is_leaf_node, box_at, AreBoxesOf, AreDoneBelow}
 use Rattle.pc_tree.specs.Rooms.{room}
-
-abbrev pub IsLeafNode : CutNode → Type 0
-IsLeafNode (forms.Leaf mark) = ⊤
-IsLeafNode (forms.Inner cut first second) = ⊥
 
 -- a tree has the cuts of the nodes that are linked to that number
 abbrev pub HasCutsAt : List CutNode → ℕ → CutShape → Type 0
-HasCutsAt nodes k (leaf mark) = IsLeafNode (node_at nodes k)
+HasCutsAt nodes k (leaf mark) = is_leaf_node (node_at nodes k) ≡ true
 HasCutsAt nodes k (inner cut t u) = (first : ℕ) × (second : ℕ) × (node_at nodes k ≡ forms.Inner cut first second) × HasCutsAt nodes first t × HasCutsAt nodes second u
 
 -- a tree without its marks

@@ -1,4 +1,4 @@
-ghost use Rattle.std.specs.Prelude.{◌≡◌, ◌+◌, ◌*◌, ◌≤◌, ◌<◌, ◌^◌, true, length, All, IfOk, OnOk};
+ghost use Rattle.std.specs.Prelude.{◌≡◌, ◌+◌, ◌*◌, ◌≤◌, ◌<◌, true, length, All, IfOk};
 ghost use Rattle.pc_model.specs.Accepted.{constraint_limit};
 ghost use Rattle.pc_model.specs.Boxes.{IsServable};
 ghost use Rattle.pc_model.specs.Regions.{whole_region, is_region_of};
@@ -10,6 +10,7 @@ ghost use Rattle.pc_tree.specs.Linked.{IsTree, IsDividedFor, HasKept, HasNeededC
 ghost use Rattle.pc_tree.specs.Refining.{IsCuttable, IsRefining, IsStep, boxes_with, nodes_cut, boxes_cut};
 
 use crate::decision::{Decision, decide};
+use crate::growth::number;
 use pc_box::{Halves, cut};
 use pc_list::Seq;
 use pc_model::{Constraint, Cut, CutNode, LeafMark, Region, Schema};
@@ -222,12 +223,4 @@ fn nodes_cut(nodes: Seq<CutNode>, place: usize, cut: Cut) -> Result<Seq<CutNode>
     nodes.push(CutNode::Leaf { mark })?;
     nodes.push(CutNode::Leaf { mark })?;
     Ok(nodes)
-}
-
-// A count as a node's number. A list with more nodes than there are numbers is too long for memory.
-fn number(count: usize) -> Result<u32, Memory>
-    ensures same { IfOk result (λ number. number ≡ count) }
-    ensures small { OnOk result (count < 2 ^ 32) }
-{
-    u32::try_from(count).map_err(|_| Memory)
 }
