@@ -1,0 +1,3 @@
+pub mod Draws
+pub mod Folded
+pub mod Generated
