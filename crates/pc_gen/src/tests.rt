@@ -146,55 +146,45 @@ fn first_draw(rt: HostRuntime) {
 }
 
 #[test]
-fn seed_zero(rt: HostRuntime) -> Result<(), Fail> {
-    let wanted = Wanted {
-        seed: 0,
-        size: 1,
-        count: 100,
-        first: [3, 30, 8938],
-        last: [3, 1, 76_774],
-        constraints: &OF_SEED_ZERO,
-    };
-    is_generated(&rt, rt.alloc(), &wanted)
-}
-
-#[test]
-fn seed_seven(rt: HostRuntime) -> Result<(), Fail> {
-    let wanted = Wanted {
-        seed: 7,
-        size: 1,
-        count: 100,
-        first: [2, 23, 37_285],
-        last: [3, 22, 97_814],
-        constraints: &OF_SEED_SEVEN,
-    };
-    is_generated(&rt, rt.alloc(), &wanted)
-}
-
-#[test]
-fn last_seed(rt: HostRuntime) -> Result<(), Fail> {
-    let wanted = Wanted {
-        seed: 4_294_967_295,
-        size: 1,
-        count: 100,
-        first: [3, 27, 68_912],
-        last: [3, 5, 31_147],
-        constraints: &OF_THE_LAST_SEED,
-    };
-    is_generated(&rt, rt.alloc(), &wanted)
-}
-
-#[test]
-fn size_two(rt: HostRuntime) -> Result<(), Fail> {
-    let wanted = Wanted {
-        seed: 7,
-        size: 2,
-        count: 200,
-        first: [2, 23, 37_285],
-        last: [2, 1, 72_080],
-        constraints: &OF_SEED_SEVEN_OF_SIZE_TWO,
-    };
-    is_generated(&rt, rt.alloc(), &wanted)
+fn cases_of_another_program(rt: HostRuntime) -> Result<(), Fail> {
+    let cases = [
+        Wanted {
+            seed: 0,
+            size: 1,
+            count: 100,
+            first: [3, 30, 8938],
+            last: [3, 1, 76_774],
+            constraints: &OF_SEED_ZERO,
+        },
+        Wanted {
+            seed: 7,
+            size: 1,
+            count: 100,
+            first: [2, 23, 37_285],
+            last: [3, 22, 97_814],
+            constraints: &OF_SEED_SEVEN,
+        },
+        Wanted {
+            seed: 4_294_967_295,
+            size: 1,
+            count: 100,
+            first: [3, 27, 68_912],
+            last: [3, 5, 31_147],
+            constraints: &OF_THE_LAST_SEED,
+        },
+        Wanted {
+            seed: 7,
+            size: 2,
+            count: 200,
+            first: [2, 23, 37_285],
+            last: [2, 1, 72_080],
+            constraints: &OF_SEED_SEVEN_OF_SIZE_TWO,
+        },
+    ];
+    for wanted in &cases {
+        is_generated(&rt, rt.alloc(), wanted)?;
+    }
+    Ok(())
 }
 
 fn is_of_all(query: &Query, agg: Agg, column: Option<u8>) -> bool {
