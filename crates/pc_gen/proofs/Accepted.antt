@@ -25,7 +25,7 @@ use Rattle.pc_gen.specs.Draws.{after, draw}
 use Rattle.pc_gen.specs.Generated.{after_rows, branch_kind, day_kind, drawn_branches, drawn_constraint, drawn_constraints, drawn_prices, drawn_span, drawn_when, generated_constraints, generated_schema, hidden_rows, is_odd, price_kind, price_of, region_of, span_over, values_over, when_draws}
 use Rattle.pc_gen.proofs.DrawnConstraints.{each_drawn, length_constraints}
 use Rattle.pc_gen.proofs.DrawnRows.{length_rows, rows_allowed}
-use Rattle.pc_gen.proofs.PlainNames.{is_plain, plain_name}
+use Rattle.pc_model.proofs.PlainNames.{is_plain, plain_name}
 use Rattle.pc_gen.proofs.Possible.{IsOfDomain, sale_of, priced}
 use Rattle.pc_gen.proofs.Stepping.{draw_below}
 use Rattle.pc_gen.proofs.Tables.{schema_formed}

@@ -2,7 +2,6 @@ pub mod Accepted
 pub mod DrawnConstraints
 pub mod DrawnRows
 pub mod Lists
-pub mod PlainNames
 pub mod Possible
 pub mod Stepping
 pub mod Tables

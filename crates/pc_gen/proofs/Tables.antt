@@ -13,7 +13,7 @@ use Rattle.pc_model.specs.Texts.{IsName}
 use Rattle.pc_model.specs.WellFormed.{IsColumn, IsSpan, AreValues, IsWellFormed}
 use Rattle.pc_model.proofs.WholeDomain.{whole_is_region}
 use Rattle.pc_gen.specs.Generated.{branch_kind, column_named, day_kind, generated_queries, generated_schema, price_column, price_kind, query_of_all}
-use Rattle.pc_gen.proofs.PlainNames.{apart, are_apart, is_plain, plain_name}
+use Rattle.pc_model.proofs.PlainNames.{apart, are_apart, is_plain, plain_name}
 
 abbrev branches : List (List ℕ)
 branches = codes "A" ∷ codes "B" ∷ codes "C" ∷ codes "D" ∷ []

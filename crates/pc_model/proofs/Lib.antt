@@ -8,6 +8,7 @@ pub mod NumberTexts
 pub mod Pairs
 pub mod PastBits
 pub mod Pieces
+pub mod PlainNames
 pub mod Regions
 pub mod SharedPlaces
 pub mod Tallies

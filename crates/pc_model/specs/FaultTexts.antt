@@ -26,8 +26,6 @@ number_of reasons.EmptySpan = 17
 number_of reasons.LeastOverMost = 18
 number_of reasons.WrongKind = 19
 number_of reasons.TooLong = 20
-number_of reasons.NotBuilt = 21
-number_of reasons.Overlap = 22
 
 abbrev pub name_of : Reason → List ℕ
 name_of reasons.NotUtf8 = codes "NotUtf8"
@@ -50,8 +48,6 @@ name_of reasons.EmptySpan = codes "EmptySpan"
 name_of reasons.LeastOverMost = codes "LeastOverMost"
 name_of reasons.WrongKind = codes "WrongKind"
 name_of reasons.TooLong = codes "TooLong"
-name_of reasons.NotBuilt = codes "NotBuilt"
-name_of reasons.Overlap = codes "Overlap"
 
 abbrev pub file_name_of : FileKind → List ℕ
 file_name_of kinds.Schema = codes "schema"

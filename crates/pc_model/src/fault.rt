@@ -38,8 +38,6 @@ pub enum Reason {
     LeastOverMost,
     WrongKind,
     TooLong,
-    NotBuilt,
-    Overlap,
 }
 
 /// The first fault of what is read. The place is a number of a record, line or query, and 0 for a file as
@@ -174,8 +172,6 @@ impl Reason {
             Reason::LeastOverMost => 18,
             Reason::WrongKind => 19,
             Reason::TooLong => 20,
-            Reason::NotBuilt => 21,
-            Reason::Overlap => 22,
         }
     }
 
@@ -204,8 +200,6 @@ impl Reason {
             Reason::LeastOverMost => "LeastOverMost",
             Reason::WrongKind => "WrongKind",
             Reason::TooLong => "TooLong",
-            Reason::NotBuilt => "NotBuilt",
-            Reason::Overlap => "Overlap",
         }
     }
 }

@@ -108,8 +108,6 @@ fn printed_names(rt: HostRuntime) {
     let reasons = [
         (Reason::NotUtf8, 1, "NotUtf8"),
         (Reason::TooLong, 20, "TooLong"),
-        (Reason::NotBuilt, 21, "NotBuilt"),
-        (Reason::Overlap, 22, "Overlap"),
     ];
     for (reason, number, name) in reasons {
         assert_eq!(rt; reason.number(), number);
