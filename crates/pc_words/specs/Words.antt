@@ -1,0 +1,167 @@
+-- Which words are a command.
+use Rattle.std.specs.Prelude.{ℕ, ◌≤◌, nat_lt, nat_le, ◌==◌, ◌&&◌, ◌||◌, not, Bool, true, false, ⊤, List, [], ◌∷◌, codes, drop, length, bytes_eq, Option, Some, None, is_some, option_map, option_and_then, unwrap_or, if◌then◌else◌}
+use Rattle.std.specs.Char.{is_ascii_digit}
+use Rattle.std.specs.List.{list_all}
+use Rattle.std.specs.Str.{starts_with}
+use Rattle.std.specs.Str.Parse.{digits_value}
+
+-- of `bound`: how many nodes each search may have, the names of its three files, and the texts of its queries
+pub record BoundNames : Type 0 where
+  pub nodes : ℕ
+  pub schema : List ℕ
+  pub rows : List ℕ
+  pub constraints : List ℕ
+  pub queries : List (List ℕ)
+
+-- of `show`: the names of its two files
+pub record ShowNames : Type 0 where
+  pub schema : List ℕ
+  pub constraints : List ℕ
+
+-- of `gen`: what its draws begin with, and how large its case is
+pub record GenNumbers : Type 0 where
+  pub seed : ℕ
+  pub size : ℕ
+
+-- a command with its values
+pub data Asked : Type 0 where
+  bound : BoundNames → Asked
+  show : ShowNames → Asked
+  gen : GenNumbers → Asked
+
+-- ---- the words after the command
+
+-- the value of `--nodes`, where it is given, and the plain words
+pub record Given : Type 0 where
+  pub value : Option (List ℕ)
+  pub plain : List (List ℕ)
+
+-- begins with `-`, and is longer than that
+abbrev pub is_option : List ℕ → Bool
+is_option [] = false
+is_option (byte ∷ []) = false
+is_option (byte ∷ next ∷ rest) = byte == 45
+
+-- the value in a word `--nodes=VALUE`
+abbrev pub value_in : List ℕ → Option (List ℕ)
+value_in word = if starts_with (codes "--nodes=") word then Some (drop 8 word) else None
+
+abbrev pub with_plain : List ℕ → Given → Given
+with_plain word given = record given { plain = word ∷ given.plain }
+
+-- a word that begins like an option is `--nodes`, if the command has it, and only once
+abbrev pub after_option : Bool → List ℕ → Option (List ℕ) → (Bool → Option (List ℕ) → Option Given) → Option Given
+after_option has_nodes word value next =
+    if not has_nodes || is_some value then None
+    else (if bytes_eq word (codes "--nodes") then next true None
+    else option_and_then (value_in word) (λ found. next false (Some found)))
+
+-- a word where none waits for its value: after `--` all words are plain
+abbrev pub after_word : Bool → List ℕ → List (List ℕ) → Option (List ℕ) → (Bool → Option (List ℕ) → Option Given) → Option Given
+after_word has_nodes word rest value next =
+    if bytes_eq word (codes "--") then Some (record { value = value; plain = rest })
+    else (if is_option word then after_option has_nodes word value next
+    else option_map (with_plain word) (next false value))
+
+-- the words from one place on, where the word before is `--nodes` and waits for its value, or what value was given
+unfoldable pub given_in : Bool → List (List ℕ) → Bool → Option (List ℕ) → Option Given
+given_in has_nodes [] waits value = if waits then None else Some (record { value = value; plain = [] })
+given_in has_nodes (word ∷ rest) waits value =
+    if waits then given_in has_nodes rest false (Some word)
+    else after_word has_nodes word rest value (given_in has_nodes rest)
+
+abbrev pub given : Bool → List (List ℕ) → Option Given
+given has_nodes words = given_in has_nodes words false None
+
+-- ---- numbers
+
+-- the number that a word of digits alone spells, from a least one to a greatest one
+unfoldable pub number_of : ℕ → ℕ → List ℕ → Option ℕ
+number_of least most word =
+    if nat_lt 0 (length word) && list_all is_ascii_digit word && nat_le least (digits_value 10 word) && nat_le (digits_value 10 word) most
+    then Some (digits_value 10 word)
+    else None
+
+-- the most nodes of one search that words may ask for, and how many there are without `--nodes`
+abbrev pub most_nodes : ℕ
+most_nodes = 100_000
+
+abbrev pub usual_nodes : ℕ
+usual_nodes = 10_000
+
+abbrev pub budget_of : Option (List ℕ) → Option ℕ
+budget_of None = Some usual_nodes
+budget_of (Some word) = number_of 1 most_nodes word
+
+abbrev pub most_seed : ℕ
+most_seed = 4_294_967_295
+
+abbrev pub most_size : ℕ
+most_size = 1_000
+
+abbrev pub query_limit : ℕ
+query_limit = 16
+
+-- ---- commands
+
+-- three files, and one query or more
+abbrev pub bound_at : List (List ℕ) → ℕ → Option Asked
+bound_at (schema ∷ rows ∷ constraints ∷ query ∷ queries) nodes =
+    if nat_lt (length queries) query_limit
+    then Some (bound (record { nodes = nodes; schema = schema; rows = rows; constraints = constraints; queries = query ∷ queries }))
+    else None
+bound_at words nodes = None
+
+abbrev pub bound_of : Given → Option Asked
+bound_of words = option_and_then (budget_of words.value) (bound_at words.plain)
+
+-- two files
+abbrev pub show_at : List (List ℕ) → Option Asked
+show_at (schema ∷ constraints ∷ []) = Some (show (record { schema = schema; constraints = constraints }))
+show_at words = None
+
+abbrev pub show_of : Given → Option Asked
+show_of words = show_at words.plain
+
+-- two numbers
+abbrev pub gen_with : List ℕ → List ℕ → Option Asked
+gen_with seed size =
+    option_and_then (number_of 0 most_seed seed) (λ from. option_map (λ much. gen (record { seed = from; size = much })) (number_of 1 most_size size))
+
+abbrev pub gen_at : List (List ℕ) → Option Asked
+gen_at (seed ∷ size ∷ []) = gen_with seed size
+gen_at words = None
+
+abbrev pub gen_of : Given → Option Asked
+gen_of words = gen_at words.plain
+
+-- the first word says which command it is
+abbrev pub command_with : List ℕ → List (List ℕ) → Option Asked
+command_with name words =
+    if bytes_eq name (codes "bound") then option_and_then (given true words) bound_of
+    else (if bytes_eq name (codes "show") then option_and_then (given false words) show_of
+    else (if bytes_eq name (codes "gen") then option_and_then (given false words) gen_of
+    else None))
+
+abbrev pub command_of : List (List ℕ) → Option Asked
+command_of [] = None
+command_of (name ∷ words) = command_with name words
+
+-- ---- what holds of the numbers of a command
+
+-- a number of nodes that words may ask for
+pub record IsBudget (nodes : ℕ) : Type 0 where
+  pub some : 1 ≤ nodes
+  pub few : nodes ≤ most_nodes
+
+-- a size that words may ask for
+pub record IsSize (size : ℕ) : Type 0 where
+  pub some : 1 ≤ size
+  pub small : size ≤ most_size
+
+-- how many files a command has
+abbrev pub file_count : Option Asked → ℕ
+file_count None = 0
+file_count (Some (bound names)) = 3
+file_count (Some (show names)) = 2
+file_count (Some (gen numbers)) = 0
