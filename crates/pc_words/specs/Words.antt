@@ -1,8 +1,7 @@
 -- Which words are a command.
-use Rattle.std.specs.Prelude.{ℕ, ◌≤◌, nat_lt, nat_le, ◌==◌, ◌&&◌, ◌||◌, not, Bool, true, false, ⊤, List, [], ◌∷◌, codes, drop, length, bytes_eq, Option, Some, None, is_some, option_map, option_and_then, unwrap_or, if◌then◌else◌}
+use Rattle.std.specs.Prelude.{ℕ, ◌≤◌, nat_lt, nat_le, ◌==◌, ◌&&◌, ◌||◌, not, Bool, true, false, List, [], ◌∷◌, codes, take, drop, length, bytes_eq, Option, Some, None, is_some, option_map, option_and_then, if◌then◌else◌}
 use Rattle.std.specs.Char.{is_ascii_digit}
 use Rattle.std.specs.List.{list_all}
-use Rattle.std.specs.Str.{starts_with}
 use Rattle.std.specs.Str.Parse.{digits_value}
 
 -- of `bound`: how many nodes each search may have, the names of its three files, and the texts of its queries
@@ -44,7 +43,7 @@ is_option (byte ∷ next ∷ rest) = byte == 45
 
 -- the value in a word `--nodes=VALUE`
 abbrev pub value_in : List ℕ → Option (List ℕ)
-value_in word = if starts_with (codes "--nodes=") word then Some (drop 8 word) else None
+value_in word = if bytes_eq (take 8 word) (codes "--nodes=") then Some (drop 8 word) else None
 
 abbrev pub with_plain : List ℕ → Given → Given
 with_plain word given = record given { plain = word ∷ given.plain }
@@ -54,7 +53,7 @@ abbrev pub after_option : Bool → List ℕ → Option (List ℕ) → (Bool → 
 after_option has_nodes word value next =
     if not has_nodes || is_some value then None
     else (if bytes_eq word (codes "--nodes") then next true None
-    else option_and_then (value_in word) (λ found. next false (Some found)))
+    else option_and_then (λ found. next false (Some found)) (value_in word))
 
 -- a word where none waits for its value: after `--` all words are plain
 abbrev pub after_word : Bool → List ℕ → List (List ℕ) → Option (List ℕ) → (Bool → Option (List ℕ) → Option Given) → Option Given
@@ -113,7 +112,7 @@ bound_at (schema ∷ rows ∷ constraints ∷ query ∷ queries) nodes =
 bound_at words nodes = None
 
 abbrev pub bound_of : Given → Option Asked
-bound_of words = option_and_then (budget_of words.value) (bound_at words.plain)
+bound_of words = option_and_then (bound_at words.plain) (budget_of words.value)
 
 -- two files
 abbrev pub show_at : List (List ℕ) → Option Asked
@@ -126,7 +125,7 @@ show_of words = show_at words.plain
 -- two numbers
 abbrev pub gen_with : List ℕ → List ℕ → Option Asked
 gen_with seed size =
-    option_and_then (number_of 0 most_seed seed) (λ from. option_map (λ much. gen (record { seed = from; size = much })) (number_of 1 most_size size))
+    option_and_then (λ from. option_map (λ much. gen (record { seed = from; size = much })) (number_of 1 most_size size)) (number_of 0 most_seed seed)
 
 abbrev pub gen_at : List (List ℕ) → Option Asked
 gen_at (seed ∷ size ∷ []) = gen_with seed size
@@ -138,9 +137,9 @@ gen_of words = gen_at words.plain
 -- the first word says which command it is
 abbrev pub command_with : List ℕ → List (List ℕ) → Option Asked
 command_with name words =
-    if bytes_eq name (codes "bound") then option_and_then (given true words) bound_of
-    else (if bytes_eq name (codes "show") then option_and_then (given false words) show_of
-    else (if bytes_eq name (codes "gen") then option_and_then (given false words) gen_of
+    if bytes_eq name (codes "bound") then option_and_then bound_of (given true words)
+    else (if bytes_eq name (codes "show") then option_and_then show_of (given false words)
+    else (if bytes_eq name (codes "gen") then option_and_then gen_of (given false words)
     else None))
 
 abbrev pub command_of : List (List ℕ) → Option Asked

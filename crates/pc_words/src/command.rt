@@ -42,6 +42,7 @@ pub fn read_command<'a>(alloc: Global, words: &'a [String]) -> Result<Option<Com
     ensures reads { IfOk result (λ found. MatchOption found (command_of (map string_bytes words.now) ≡ None) (λ command. command_of (map string_bytes words.now) ≡ Some (asked_in command))) }
     ensures numbers { IfOk result (λ found. IfSome found HasNumbers) }
 {
-    let _given = (alloc, words);
+    let _alloc = alloc;
+    let _words = words;
     Err(Memory)
 }
