@@ -1,4 +1,4 @@
--- A query without a group is asked of whatever observed rows come to its fold.
+-- A query, of a name where it is grouped, is asked of whatever observed rows come to its fold.
 use Rattle.std.proofs.Common.{◌≡◌, ℕ, ℤ, pos, List, map, Option, Some, None, IfSome, refl, sym, ap}
 use Rattle.std.specs.Prelude.{is_none}
 use Rattle.std.specs.List.{reduce}
@@ -14,19 +14,9 @@ use Rattle.pc_model.specs.declared.tree.CutNode.{CutNode}
 use Rattle.pc_model.specs.Accepted.{IsQuery}
 use Rattle.pc_model.specs.Aggregate.{asked, int_sum, kept}
 use Rattle.pc_model.specs.Folds.{IsFold, sum_at, best_at}
-use Rattle.pc_proof.specs.Setting.{narrowed}
 use Rattle.pc_proof.specs.Unbroken.{AllowsName}
-use Rattle.pc_search.specs.Asked.{question_as, ComesTo, Asking, setting_for}
-use Rattle.pc_search.specs.Settings.{setting_of}
-
--- without a name a region keeps all of it
-whole_part : (chosen : Region) (group : Option ℕ) → narrowed chosen group None ≡ chosen
-whole_part chosen (Some column) = refl
-whole_part chosen None = refl
-
-allows_none : (chosen : Region) (group : Option ℕ) → AllowsName chosen group None
-allows_none chosen (Some column) = tt
-allows_none chosen None = tt
+use Rattle.pc_search.specs.Asked.{question_as, ComesTo, Asking, setting_for, query_for}
+use Rattle.pc_search.specs.Settings.{setting_in}
 
 -- the numbers of the query's column, as a fold and as a question have them
 module _ (agg : Agg) (chosen : Region) (group : Option ℕ) (rows : List Row) where
@@ -41,27 +31,28 @@ module _ (agg : Agg) (chosen : Region) (group : Option ℕ) (rows : List Row) wh
   best_in pick None best is = tt
   best_in pick (Some column) best is = sym is
 
-module _ (schema : Schema) (constraints : List Constraint) (query : Query) (observed : List Row) (seen : Folded) where
-  comes : IsFold query None observed seen → ComesTo (question_as schema constraints query observed query.chosen query.group None) seen
-  comes fold = let rows = kept query None observed in record {
+module _ (schema : Schema) (constraints : List Constraint) (query : Query) (name : Option ℕ) (observed : List Row) (seen : Folded) where
+  comes : IsFold query name observed seen → ComesTo (question_as schema constraints (query_for query name) observed query.chosen query.group name) seen
+  comes fold = let rows = kept query name observed in record {
     count = ap pos (sym fold.count);
     sum = sum_in query.agg query.chosen query.group rows query.column seen.sum fold.sum;
     least = best_in query.agg query.chosen query.group rows int_min query.column seen.least fold.least;
     greatest = best_in query.agg query.chosen query.group rows int_max query.column seen.greatest fold.greatest;
   }
 
-pub fold_asks : (schema : Schema) (constraints : List Constraint) (query : Query) (observed : List Row) (seen : Folded) (nodes : List CutNode) → IsQuery schema query → query.group ≡ None → IsFold query None observed seen →
-    (asking : Asking schema constraints query seen) × (setting_for schema constraints query seen nodes asking ≡ setting_of schema observed constraints query nodes)
-fold_asks schema constraints query observed seen nodes well ungrouped fold =
-    let asking : Asking schema constraints query seen = record {
+pub fold_asks : (schema : Schema) (constraints : List Constraint) (query : Query) (name : Option ℕ) (observed : List Row) (seen : Folded) (nodes : List CutNode) →
+    IsQuery schema query → is_none name ≡ is_none query.group → AllowsName query.chosen query.group name → IsFold query name observed seen →
+    (asking : Asking schema constraints (query_for query name) seen) × (setting_for schema constraints (query_for query name) seen nodes asking ≡ setting_in schema observed constraints query name nodes)
+fold_asks schema constraints query name observed seen nodes well named allowed fold =
+    let asking : Asking schema constraints (query_for query name) seen = record {
       observed = observed;
       wide = query.chosen;
       group = query.group;
-      name = None;
-      region = whole_part query.chosen query.group;
-      named = sym (ap is_none ungrouped);
-      allowed = allows_none query.chosen query.group;
+      name = name;
+      region = refl;
+      named = named;
+      allowed = allowed;
       well = well;
-      comes_to = comes schema constraints query observed seen fold;
+      comes_to = comes schema constraints query name observed seen fold;
     } in
     (asking, refl)

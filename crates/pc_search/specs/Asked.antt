@@ -25,6 +25,10 @@ abbrev pub question_as : Schema → List Constraint → Query → List Row → R
 question_as schema constraints query observed wide group name =
     record { schema = schema; observed = observed; constraints = constraints; query = asked_as query wide group; name = name }
 
+-- a query of a name, where it is grouped, as one without a group over the region that the name narrows
+abbrev pub query_for : Query → Option ℕ → Query
+query_for query name = record { agg = query.agg; column = query.column; chosen = narrowed query.chosen query.group name; group = None }
+
 -- the observed rows come to these numbers; without a column they have none but their count
 pub record ComesTo (q : Question) (seen : Folded) : Type 0 where
   pub count : seen_count q ≡ pos seen.count

@@ -1,5 +1,5 @@
 -- What the answers of one case are judged by.
-use Rattle.std.specs.Prelude.{List, [], None}
+use Rattle.std.specs.Prelude.{ℕ, List, [], Option, None}
 use Rattle.pc_model.specs.declared.schema.Schema.{Schema}
 use Rattle.pc_model.specs.declared.row.Row.{Row}
 use Rattle.pc_model.specs.declared.constraint.Constraint.{Constraint}
@@ -8,12 +8,16 @@ use Rattle.pc_model.specs.declared.tree.CutNode.{CutNode}
 use Rattle.pc_model.specs.Right.{Question}
 use Rattle.pc_proof.specs.Setting.{Setting}
 
--- a query that is not grouped
-abbrev pub question_of : Schema → List Row → List Constraint → Query → Question
-question_of schema observed constraints query = record { schema = schema; observed = observed; constraints = constraints; query = query; name = None }
+-- a query over observed rows, of a name where it is grouped
+abbrev pub question_in : Schema → List Row → List Constraint → Query → Option ℕ → Question
+question_in schema observed constraints query name = record { schema = schema; observed = observed; constraints = constraints; query = query; name = name }
 
+abbrev pub setting_in : Schema → List Row → List Constraint → Query → Option ℕ → List CutNode → Setting
+setting_in schema observed constraints query name nodes = record { question = question_in schema observed constraints query name; nodes = nodes }
+
+-- a query that is not grouped
 abbrev pub setting_of : Schema → List Row → List Constraint → Query → List CutNode → Setting
-setting_of schema observed constraints query nodes = record { question = question_of schema observed constraints query; nodes = nodes }
+setting_of schema observed constraints query nodes = setting_in schema observed constraints query None nodes
 
 -- as if no rows were observed: what the cells alone say
 abbrev pub unseen : Schema → List Constraint → Query → List CutNode → Setting

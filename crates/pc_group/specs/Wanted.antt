@@ -1,0 +1,57 @@
+-- Which blocks queries want.
+use Rattle.std.specs.Prelude.{ℕ, zero, suc, pos, Bool, List, [], ◌∷◌, ◌++◌, length, map, filter, flat_map, Option, Some, None, slice_get}
+use Rattle.pc_model.specs.declared.schema.Kind.{Kind}
+use Rattle.pc_model.specs.declared.schema.Kind.TheVariants.{Int, Dec, Cat}
+use Rattle.pc_model.specs.declared.schema.Column.{Column}
+use Rattle.pc_model.specs.declared.schema.Schema.{Schema}
+use Rattle.pc_model.specs.declared.region.Region.{Region}
+use Rattle.pc_model.specs.declared.query.Query.{Query}
+use Rattle.pc_model.specs.Membership.{holds}
+use Rattle.pc_model.specs.CutTrees.{side_at}
+use Rattle.pc_proof.specs.Setting.{narrowed}
+
+-- a query, and the place of a name of its group column where it is grouped
+pub record Wanted : Type 0 where
+  pub query : Query
+  pub name : Option ℕ
+
+abbrev pub names_in : Kind → ℕ
+names_in (Int low high) = 0
+names_in (Dec scale low high) = 0
+names_in (Cat names) = length names
+
+abbrev pub names_at : Option Column → ℕ
+names_at None = 0
+names_at (Some column) = names_in column.kind
+
+-- the places below a number, in their order
+unfoldable pub places_below : ℕ → List ℕ
+places_below zero = []
+places_below (suc n) = places_below n ++ n ∷ []
+
+-- the region allows the name at a place of a column
+abbrev pub is_allowed : Region → ℕ → ℕ → Bool
+is_allowed region column place = holds (side_at region column) (pos place)
+
+-- the names of the group column that the query's region allows, in the order of the schema
+unfoldable pub allowed_names : Schema → Query → ℕ → List ℕ
+allowed_names schema query column = filter (is_allowed query.chosen column) (places_below (names_at (slice_get schema.columns column)))
+
+abbrev pub wanted_of : Query → ℕ → Wanted
+wanted_of query place = record { query = query; name = Some place }
+
+-- one block, or one for each such name
+abbrev pub wanted_in : Schema → Query → Option ℕ → List Wanted
+wanted_in schema query None = record { query = query; name = None } ∷ []
+wanted_in schema query (Some column) = map (wanted_of query) (allowed_names schema query column)
+
+abbrev pub wanted_by : Schema → Query → List Wanted
+wanted_by schema query = wanted_in schema query query.group
+
+-- the blocks of the queries, one query after the other
+unfoldable pub wanted : Schema → List Query → List Wanted
+wanted schema queries = flat_map (wanted_by schema) queries
+
+-- the region of a block: the query's, of which a name of the group column keeps its part
+abbrev pub region_of : Wanted → Region
+region_of w = narrowed w.query.chosen w.query.group w.name

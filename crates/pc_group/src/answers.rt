@@ -1,0 +1,70 @@
+ghost use Rattle.std.specs.Prelude.{◌≡◌, ◌≤◌, ℕ, List, All, AllPairs, IfOk, OnOk};
+ghost use Rattle.std.specs.List.{AllPass, AllZip};
+ghost use Rattle.pc_model.specs.declared.tree.CutNode.{CutNode};
+ghost use Rattle.pc_model.specs.Accepted.{AreConstraints, IsQuery};
+ghost use Rattle.pc_model.specs.CutTrees.{shape_of};
+ghost use Rattle.pc_model.specs.Membership.{in_domain};
+ghost use Rattle.pc_model.specs.WellFormed.{IsWellFormed};
+ghost use Rattle.pc_tree.specs.Linked.{IsTree};
+ghost use Rattle.pc_tree.specs.Walking.{bare};
+ghost use Rattle.pc_group.specs.Answers.{AnswersWanted};
+ghost use Rattle.pc_group.specs.Trees.{Told, KeepsInner, AreDividedFor, AreOfTree, AreWritten, told};
+ghost use Rattle.pc_group.specs.Wanted.{wanted};
+
+use pc_cells::Shared;
+use pc_model::{Constraint, Query, Schema};
+use pc_num::Memory;
+use pc_proof::Document;
+use pc_rows::{Case, Rows};
+use std::alloc::Global;
+
+/// The blocks of the queries, by searches of at most so many nodes each, over one tree of cuts that is cut on for
+/// all of them before the first is answered.
+pub fn answer_with(
+    alloc: Global,
+    schema: &Schema,
+    rows: &Rows,
+    constraints: &[Constraint],
+    queries: &[Query],
+    shared: &mut Shared,
+    nodes: u32,
+) -> Result<Document, Memory>
+    requires well_formed { IsWellFormed schema.now }
+    requires seen { AllPass (in_domain schema.now) rows.now }
+    requires accepted { AreConstraints schema.now constraints.now }
+    requires asked { All (IsQuery schema.now) queries.now }
+    requires budget { (1 ≤ nodes) × (nodes ≤ 100_000) }
+    requires tree { IsTree schema.now shared.old.nodes }
+    ensures tree { IsTree schema.now shared.new.nodes }
+    ensures kept { KeepsInner shared.old.nodes shared.new.nodes }
+    ensures divided { OnOk result (AreDividedFor schema.now constraints.now shared.new.nodes (wanted schema.now queries.now)) }
+    ensures answers { IfOk result (λ document. AllZip (AnswersWanted nodes schema.now rows.now constraints.now) (wanted schema.now queries.now) (told document.blocks)) }
+    ensures shared { IfOk result (λ document. AreOfTree shared.new.nodes (told document.blocks)) }
+    ensures written { IfOk result (λ document. AreWritten document.blocks) }
+{
+    let _given = (alloc, schema, rows, constraints, queries, shared, nodes);
+    Err(Memory)
+}
+
+/// The blocks of a case's queries, by searches of at most so many nodes each, over one tree of cuts.
+pub fn answer_all(alloc: Global, case: &Case, nodes: u32) -> Result<Document, Memory>
+    requires well_formed { IsWellFormed case.now.schema }
+    requires seen { AllPass (in_domain case.now.schema) case.now.rows }
+    requires accepted { AreConstraints case.now.schema case.now.constraints }
+    requires asked { All (IsQuery case.now.schema) case.now.queries }
+    requires budget { (1 ≤ nodes) × (nodes ≤ 100_000) }
+    ensures answers { IfOk result (λ document. AllZip (AnswersWanted nodes case.now.schema case.now.rows case.now.constraints) (wanted case.now.schema case.now.queries) (told document.blocks)) }
+    ensures same_cuts { IfOk result (λ document. AllPairs (λ (a b : Told). bare (shape_of a.nodes) ≡ bare (shape_of b.nodes)) (told document.blocks)) }
+    ensures written { IfOk result (λ document. AreWritten document.blocks) }
+{
+    let mut shared = Shared::new(alloc, &case.schema)?;
+    answer_with(
+        alloc,
+        &case.schema,
+        &case.rows,
+        case.constraints.as_slice(),
+        case.queries.as_slice(),
+        &mut shared,
+        nodes,
+    )
+}
