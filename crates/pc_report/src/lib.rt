@@ -1,13 +1,15 @@
-//! The texts of answers: the report of a document, and the lines of runs.
+//! The texts of answers: the report of a document, its summary, and the lines of runs.
 #![tactic(auto)]
 
 mod answer;
 mod report;
 mod runs;
+mod summary;
 #[cfg(test)]
 mod tests;
 mod value;
 
 pub use report::put_report;
 pub use runs::put_runs;
+pub use summary::put_summary;
 pub use value::in_column;
