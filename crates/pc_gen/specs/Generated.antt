@@ -16,6 +16,7 @@ use Rattle.pc_model.specs.declared.query.Query.{Query}
 use Rattle.pc_model.specs.Aggregate.{number_at}
 use Rattle.pc_model.specs.Membership.{has, row_from as row}
 use Rattle.pc_model.specs.Regions.{whole_side, whole_region}
+use Rattle.pc_rows.specs.declared.case.Case.{Case}
 use Rattle.pc_gen.specs.Draws.{after, draw}
 
 -- ---- the schema: branch,cat,A,B,C,D and day,int,1,31 and price,dec,2,0.00,1000.00
@@ -143,3 +144,13 @@ query_of_all agg column = record { agg = agg; column = column; chosen = whole_re
 abbrev pub generated_queries : List Query
 generated_queries =
     query_of_all Count None ∷ query_of_all Sum (Some price_column) ∷ query_of_all Min (Some price_column) ∷ query_of_all Max (Some price_column) ∷ query_of_all Avg (Some price_column) ∷ []
+
+-- ---- the case
+
+abbrev pub generated_case : ℕ → ℕ → Case
+generated_case seed size = record {
+  schema = generated_schema;
+  rows = observed_rows seed size;
+  constraints = generated_constraints seed size;
+  queries = generated_queries;
+}

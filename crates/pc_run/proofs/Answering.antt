@@ -6,10 +6,12 @@ use Rattle.pc_model.specs.declared.fault.FileKind.{FileKind}
 use Rattle.pc_model.specs.declared.fault.FileKind.TheVariants as kinds
 use Rattle.pc_base.specs.declared.status.Status.{Status}
 use Rattle.pc_base.specs.declared.status.Status.TheVariants as ended
-use Rattle.pc_base.specs.Files.{Files, file_of}
+use Rattle.pc_base.specs.Files.{Files, IsAbsent, file_of}
+use Rattle.pc_model.specs.declared.fault.Fault.{Fault}
 use Rattle.pc_rows.specs.declared.case.Case.{Case}
-use Rattle.pc_run.specs.Words.{BoundNames, ShowNames, Asked, bound, show, name_of, command_of}
-use Rattle.pc_run.specs.Outcome.{Obstacle, absent, and_then, Input, asking, showing, bytes_under, schema_under, rows_under, constraints_under, case_under, listing_under, accepted_under}
+use Rattle.pc_words.specs.Words.{BoundNames, ShowNames, Asked, bound, show, gen, command_of}
+use Rattle.pc_run.specs.Outcome.{Obstacle, refused, absent, and_then, Input, asking, showing, bytes_under, schema_under, rows_under, constraints_under, case_under, listing_under, accepted_under, ComesTo, AreAccepted}
+use Rattle.pc_run.specs.Loading.{name_of}
 use Rattle.pc_run.specs.declared.listing.Listing.{Listing}
 use Rattle.std.proofs.lemmas.Bool.{false≢true}
 use Rattle.pc_run.specs.Replies.{IsReached}
@@ -42,13 +44,13 @@ unfolding constraints_under
 absent_constraints schema name files none = rw (absent_bytes kinds.Constraints name files none) refl
 
 -- what comes of a case or a listing
-asked_from : (nodes : ℕ) (read : Result Case Obstacle) (input : Input) → asking nodes read ≡ Ok input → IsOk read
-asked_from nodes (Ok case) input is = refl
-asked_from nodes (Err obstacle) input is = let no : ⊥ = cc in absurd no
+asked_from : (nodes : ℕ) (read : Result Case Obstacle) → IsOk (asking nodes read) → IsOk read
+asked_from nodes (Ok case) is = refl
+asked_from nodes (Err obstacle) is = absurd (false≢true is)
 
-shown_from : (read : Result Listing Obstacle) (input : Input) → showing read ≡ Ok input → IsOk read
-shown_from (Ok listing) input is = refl
-shown_from (Err obstacle) input is = let no : ⊥ = cc in absurd no
+shown_from : (read : Result Listing Obstacle) → IsOk (showing read) → IsOk read
+shown_from (Ok listing) is = refl
+shown_from (Err obstacle) is = absurd (false≢true is)
 
 is_ok_value : {X : Type 0} (read : Result X Obstacle) → IsOk read → (x : X) × (read ≡ Ok x)
 is_ok_value (Ok x) is = (x, refl)
@@ -98,39 +100,50 @@ show_file names files held told is kinds.Constraints reached none = let h = rw (
 show_file names files held told is kinds.Query reached none = absurd reached
 show_file names files held told is kinds.Document reached none = absurd reached
 
-held_file : (asked : Asked) (files : Files) (input : Input) → accepted_under asked files ≡ Ok input → (told : Option Files) → told ≡ Some files → (file : FileKind) → IsReached told asked file → file_of files (name_of asked file) ≡ None → ⊥
-held_file (bound names) files input accepted told is file reached none =
-    let case = is_ok_value (case_under names files) (asked_from names.nodes (case_under names files) input accepted) in
-    bound_file names files (bound_held names files case.0 case.1) told is file reached none
-held_file (show names) files input accepted told is file reached none =
-    let listing = is_ok_value (listing_under names files) (shown_from (listing_under names files) input accepted) in
-    show_file names files (show_held names files listing.0 listing.1) told is file reached none
+held_file : (asked : Asked) (told : Option Files) → AreAccepted told asked → (file : FileKind) → IsReached told asked file → IsAbsent told (name_of asked file) → ⊥
+held_file (bound names) None accepted file reached none = absurd accepted
+held_file (bound names) (Some files) accepted file reached none =
+    let case = is_ok_value (case_under names files) (asked_from names.nodes (case_under names files) accepted) in
+    bound_file names files (bound_held names files case.0 case.1) (Some files) refl file reached none
+held_file (show names) None accepted file reached none = absurd accepted
+held_file (show names) (Some files) accepted file reached none =
+    let listing = is_ok_value (listing_under names files) (shown_from (listing_under names files) accepted) in
+    show_file names files (show_held names files listing.0 listing.1) (Some files) refl file reached none
+held_file (gen numbers) told accepted file reached none = absurd reached
 
 same_names : (words : List (List ℕ)) (a b : Asked) → command_of words ≡ Some a → command_of words ≡ Some b → a ≡ b
 same_names words a b is_a is_b = let both : Some a ≡ Some b = sym is_a ∙ is_b in cc
 
-refused_no : (call : Call) → IsAnswerable call → IsRefused call → ⊥
-refused_no call can refused' =
-    let names = same_names call.words refused'.asked can.asked refused'.command can.command in
-    let agrees = rw (can.told, names) at refused'.agrees in
-    let both = sym can.is_accepted ∙ agrees in
-    cc
+-- files that are accepted are not refused
+not_refused : (read : Result Input Obstacle) (fault : Fault) → IsOk read → read ≡ Err (refused fault) → ⊥
+not_refused (Ok input) fault is refuses = let no : ⊥ = cc in absurd no
+not_refused (Err obstacle) fault is refuses = absurd (false≢true is)
 
-unread_no : (call : Call) → IsAnswerable call → HasReadFault call → ⊥
-unread_no call can fault =
+refused_no : (asked : Asked) (told : Option Files) (fault : Fault) → AreAccepted told asked → ComesTo told asked (Err (refused fault)) → ⊥
+refused_no (bound names) None fault accepted comes = absurd accepted
+refused_no (bound names) (Some files) fault accepted comes = not_refused (accepted_under (bound names) files) fault accepted comes
+refused_no (show names) None fault accepted comes = absurd accepted
+refused_no (show names) (Some files) fault accepted comes = not_refused (accepted_under (show names) files) fault accepted comes
+refused_no (gen numbers) told fault accepted comes = let no : ⊥ = cc in absurd no
+
+no_refusal : (call : Call) → IsAnswerable call → IsRefused call → ⊥
+no_refusal call can refused' =
+    let names = same_names call.words refused'.asked can.asked refused'.command can.command in
+    refused_no can.asked call.files refused'.fault can.accepted (rw names at refused'.agrees)
+
+no_read_fault : (call : Call) → IsAnswerable call → HasReadFault call → ⊥
+no_read_fault call can fault =
     ⊎_elim (λ rose. can.loads rose)
     (λ is_absent.
     let names = same_names call.words fault.asked can.asked fault.command can.command in
-    let none = rw (can.told, names) at is_absent in
-    let reached = rw names at fault.unread.reached in
-    held_file can.asked can.files can.input can.is_accepted call.files can.told fault.file reached none)
+    held_file can.asked call.files can.accepted fault.file (rw names at fault.unread.reached) (rw names at is_absent))
     fault.unread.cause
 
 pub answers : (call : Call) (status : Status) → Means call status → IsAnswerable call → IsDoneUnlessMemory status
 answers call ended.Done means can = inl refl
 answers call ended.SaidNo means can = absurd means
 answers call ended.Usage means can = let both = sym can.command ∙ means.no_command in let no : ⊥ = cc in absurd no
-answers call ended.Malformed means can = absurd (refused_no call can means)
-answers call ended.ReadFault means can = absurd (unread_no call can means)
+answers call ended.Malformed means can = absurd (no_refusal call can means)
+answers call ended.ReadFault means can = absurd (no_read_fault call can means)
 answers call ended.WriteFault means can = absurd (can.puts means.cut_off.rose)
 answers call ended.Memory means can = inr refl

@@ -1,5 +1,5 @@
 -- What reading the files of a command answers, exit by exit.
-use Rattle.std.proofs.Common.{◌≡◌, ℕ, ◌≤◌, ◌⊎◌, ⊎_elim, inl, inr, subst, refl, List, [], ◌∷◌, Option, Some, None, Result, Ok, Err, IfSome, arith}
+use Rattle.std.proofs.Common.{◌≡◌, ℕ, ◌≤◌, ◌⊎◌, ⊎_elim, inl, inr, subst, refl, List, Option, Some, None, Result, Ok, Err, IfSome, arith}
 use Rattle.pc_model.specs.declared.schema.Schema.{Schema}
 use Rattle.pc_model.specs.declared.row.Row.{Row}
 use Rattle.pc_model.specs.declared.constraint.Constraint.{Constraint}
@@ -11,13 +11,13 @@ use Rattle.pc_base.specs.Files.{Files, IsAbsent}
 use Rattle.pc_model.specs.declared.query.Query.{Query}
 use Rattle.pc_run.specs.declared.stop.Stop.{Stop}
 use Rattle.pc_run.specs.declared.stop.Stop.TheVariants as stops
-use Rattle.pc_run.specs.Words.{BoundNames, Asked, bound, name_of}
-use Rattle.pc_run.specs.Outcome.{Obstacle, refused, asks, built_query, schema_under, rows_under, constraints_under, case_under, accepted_under}
+use Rattle.pc_words.specs.Words.{BoundNames, Asked, bound, show, gen}
+use Rattle.pc_run.specs.Outcome.{Obstacle, refused, asks, queries_of, ComesTo, schema_under, rows_under, constraints_under, case_under, accepted_under}
 use Rattle.pc_model.specs.declared.fault.Refusal.{Refusal}
 use Rattle.pc_model.specs.declared.fault.Refusal.TheVariants as refusals
 use Rattle.pc_model.specs.Refusals.{RefusesAs}
 use Rattle.pc_run.specs.Stops.{stop_of}
-use Rattle.pc_run.specs.Loading.{Agrees, HasCause}
+use Rattle.pc_run.specs.Loading.{Agrees, HasCause, name_of}
 use Rattle.pc_run.specs.Replies.{StopAgrees, IsReached, IsUnread}
 
 rises : (before middle now : ℕ) → before ≤ middle → Rose middle now → Rose before now
@@ -90,17 +90,17 @@ pub record HasFiles (told : Option Files) (names : BoundNames) (schema : Schema)
   pub rows_read : HasRows told names schema rows
   pub has_constraints : IfSome told (λ files. constraints_under schema names.constraints files ≡ Ok constraints)
 
-query_refused : (told : Option Files) (names : BoundNames) (schema : Schema) (rows : List Row) (constraints : List Constraint) (fault : Fault) → HasFiles told names schema rows constraints → built_query schema names.query ≡ Err fault → IfSome told (λ files. accepted_under (bound names) files ≡ Err (refused fault))
+queries_refused : (told : Option Files) (names : BoundNames) (schema : Schema) (rows : List Row) (constraints : List Constraint) (fault : Fault) → HasFiles told names schema rows constraints → queries_of schema names.queries ≡ Err fault → IfSome told (λ files. accepted_under (bound names) files ≡ Err (refused fault))
 unfolding case_under
-query_refused None names schema rows constraints fault read refuses = tt
-query_refused (Some files) names schema rows constraints fault read refuses = rw (read.rows_read.has_schema, read.rows_read.has_rows, read.has_constraints, refuses) refl
+queries_refused None names schema rows constraints fault read refuses = tt
+queries_refused (Some files) names schema rows constraints fault read refuses = rw (read.rows_read.has_schema, read.rows_read.has_rows, read.has_constraints, refuses) refl
 
-pub at_query : (told : Option Files) (names : BoundNames) (before now : ℕ) (schema : Schema) (rows : List Row) (constraints : List Constraint) → HasFiles told names schema rows constraints → (refusal : Refusal) → RefusesAs refusal (built_query schema names.query) → StopAgrees told (bound names) before now (stop_of refusal)
-at_query told names before now schema rows constraints read refusals.Memory refuses = tt
-at_query told names before now schema rows constraints read (refusals.Fault fault) refuses = query_refused told names schema rows constraints fault read refuses
+pub at_queries : (told : Option Files) (names : BoundNames) (before now : ℕ) (schema : Schema) (rows : List Row) (constraints : List Constraint) → HasFiles told names schema rows constraints → (refusal : Refusal) → RefusesAs refusal (queries_of schema names.queries) → StopAgrees told (bound names) before now (stop_of refusal)
+at_queries told names before now schema rows constraints read refusals.Memory refuses = tt
+at_queries told names before now schema rows constraints read (refusals.Fault fault) refuses = queries_refused told names schema rows constraints fault read refuses
 
--- and the query is accepted
-pub at_end : (told : Option Files) (names : BoundNames) (schema : Schema) (rows : List Row) (constraints : List Constraint) (query : Query) → HasFiles told names schema rows constraints → built_query schema names.query ≡ Ok query → IfSome told (λ files. accepted_under (bound names) files ≡ Ok (asks names.nodes (record { schema = schema; rows = rows; constraints = constraints; queries = query ∷ [] })))
+-- and the queries are accepted
+pub at_end : (told : Option Files) (names : BoundNames) (schema : Schema) (rows : List Row) (constraints : List Constraint) (queries : List Query) → HasFiles told names schema rows constraints → queries_of schema names.queries ≡ Ok queries → IfSome told (λ files. accepted_under (bound names) files ≡ Ok (asks names.nodes (record { schema = schema; rows = rows; constraints = constraints; queries = queries })))
 unfolding case_under
-at_end None names schema rows constraints query read accepts = tt
-at_end (Some files) names schema rows constraints query read accepts = rw (read.rows_read.has_schema, read.rows_read.has_rows, read.has_constraints, accepts) refl
+at_end None names schema rows constraints queries read accepts = tt
+at_end (Some files) names schema rows constraints queries read accepts = rw (read.rows_read.has_schema, read.rows_read.has_rows, read.has_constraints, accepts) refl

@@ -1,11 +1,9 @@
 pub mod Answering
-pub mod Blocks
-pub mod Budgets
+pub mod Asked
 pub mod Cases
+pub mod Documents
 pub mod Files
 pub mod Listings
+pub mod Making
 pub mod Meanings
-pub mod Owing
-pub mod Queries
-pub mod SeenSums
 pub mod StopReplies

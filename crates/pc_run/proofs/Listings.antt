@@ -8,7 +8,7 @@ use Rattle.pc_base.specs.Files.{Files}
 use Rattle.pc_run.specs.declared.listing.Listing.{Listing}
 use Rattle.pc_run.specs.declared.stop.Stop.{Stop}
 use Rattle.pc_run.specs.declared.stop.Stop.TheVariants as stops
-use Rattle.pc_run.specs.Words.{ShowNames, show}
+use Rattle.pc_words.specs.Words.{ShowNames, show}
 use Rattle.pc_run.specs.Outcome.{refused, shows, schema_under, constraints_under, listing_under, accepted_under}
 use Rattle.pc_run.specs.Loading.{Agrees, HasCause}
 use Rattle.pc_run.specs.Replies.{StopAgrees, IsReached}

@@ -4,8 +4,8 @@ use Rattle.pc_base.specs.declared.status.Status.{Status}
 use Rattle.pc_base.specs.declared.status.Status.TheVariants as ended
 use Rattle.pc_base.specs.declared.outside.Put.TheVariants.{All, Failed}
 use Rattle.pc_base.specs.Puts.{Leaves}
-use Rattle.pc_run.specs.Words.{Asked, command_of}
-use Rattle.pc_run.specs.Outcome.{Obstacle, Input, refused, absent, accepted_under}
+use Rattle.pc_words.specs.Words.{Asked, command_of}
+use Rattle.pc_run.specs.Outcome.{Obstacle, Input, refused, absent, ComesTo}
 use Rattle.pc_model.specs.declared.fault.Fault.{Fault}
 use Rattle.pc_run.specs.Reports.{usage_line, malformed_line}
 use Rattle.pc_run.specs.Replies.{SaysInput, Says, SaysOutcome, SaysFault, RepliesToCommand, Responds}
@@ -40,10 +40,10 @@ told_fault call asked status text command says told = record {
   told = subst (λ (t : List ℕ). IsTold call t) says.line told;
 }
 
-answered : (call : Call) (asked : Asked) (text : List ℕ) (input : Input) → command_of call.words ≡ Some asked → IfSome call.files (λ files. accepted_under asked files ≡ Ok input) → SaysInput input text → IsAnswered call text
+answered : (call : Call) (asked : Asked) (text : List ℕ) (input : Input) → command_of call.words ≡ Some asked → ComesTo call.files asked (Ok input) → SaysInput input text → IsAnswered call text
 answered call asked text input command agrees says = record { asked = asked; command = command; input = input; agrees = agrees; says = says }
 
-told_refusal : (call : Call) (asked : Asked) (text : List ℕ) (fault : Fault) → command_of call.words ≡ Some asked → IfSome call.files (λ files. accepted_under asked files ≡ Err (refused fault)) → text ≡ malformed_line fault → IsTold call text → IsRefused call
+told_refusal : (call : Call) (asked : Asked) (text : List ℕ) (fault : Fault) → command_of call.words ≡ Some asked → ComesTo call.files asked (Err (refused fault)) → text ≡ malformed_line fault → IsTold call text → IsRefused call
 told_refusal call asked text fault command agrees is told = record {
   asked = asked;
   command = command;
@@ -53,7 +53,7 @@ told_refusal call asked text fault command agrees is told = record {
 }
 
 -- the whole text was put
-outcome_whole : (call : Call) (asked : Asked) (status : Status) (text : List ℕ) → command_of call.words ≡ Some asked → (outcome : Result Input Obstacle) → Says outcome status text → IfSome call.files (λ files. accepted_under asked files ≡ outcome) → IsWritten call text → Means call status
+outcome_whole : (call : Call) (asked : Asked) (status : Status) (text : List ℕ) → command_of call.words ≡ Some asked → (outcome : Result Input Obstacle) → Says outcome status text → ComesTo call.files asked outcome → IsWritten call text → Means call status
 outcome_whole call asked status text command (Ok input) says agrees written =
     rw says.0 (let done : IsDone call = record { text = text; answered = answered call asked text input command agrees says.1; written = written } in done)
 outcome_whole call asked status text command (Err (refused fault)) says agrees written =
@@ -75,7 +75,7 @@ means_whole call status text responds written =
     responds
 
 -- a front of it was put
-outcome_cut_off : (call : Call) (asked : Asked) (status : Status) (text : List ℕ) → command_of call.words ≡ Some asked → (outcome : Result Input Obstacle) → Says outcome status text → IfSome call.files (λ files. accepted_under asked files ≡ outcome) → IsCutOff call text → Means call (after_failed_put status)
+outcome_cut_off : (call : Call) (asked : Asked) (status : Status) (text : List ℕ) → command_of call.words ≡ Some asked → (outcome : Result Input Obstacle) → Says outcome status text → ComesTo call.files asked outcome → IsCutOff call text → Means call (after_failed_put status)
 outcome_cut_off call asked status text command (Ok input) says agrees cut =
     rw says.0 (let fault : HasWriteFault call = record { text = text; answered = answered call asked text input command agrees says.1; cut_off = cut } in fault)
 outcome_cut_off call asked status text command (Err (refused fault)) says agrees cut =

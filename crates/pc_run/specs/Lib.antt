@@ -1,10 +1,7 @@
 pub mod Answers
-pub mod Commands
 pub mod Loading
 pub mod Meaning
 pub mod Outcome
 pub mod Reports
 pub mod Replies
 pub mod Stops
-pub mod Words
-pub mod Queries

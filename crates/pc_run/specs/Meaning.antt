@@ -6,8 +6,8 @@ use Rattle.pc_base.specs.declared.status.Status.{Status}
 use Rattle.pc_base.specs.declared.status.Status.TheVariants as ended
 use Rattle.pc_base.specs.Counts.{Rose}
 use Rattle.pc_base.specs.Files.{Files}
-use Rattle.pc_run.specs.Words.{Asked, command_of}
-use Rattle.pc_run.specs.Outcome.{Input, refused, accepted_under}
+use Rattle.pc_words.specs.Words.{Asked, command_of}
+use Rattle.pc_run.specs.Outcome.{Input, refused, ComesTo, AreAccepted}
 use Rattle.pc_run.specs.Replies.{SaysInput, IsUnread}
 use Rattle.pc_run.specs.Reports.{usage_line, fault_line, malformed_line}
 
@@ -53,7 +53,7 @@ pub record IsAnswered (call : Call) (text : List ℕ) : Type 0 where
   pub asked : Asked
   pub command : command_of call.words ≡ Some asked
   pub input : Input
-  pub agrees : IfSome call.files (λ files. accepted_under asked files ≡ Ok input)
+  pub agrees : ComesTo call.files asked (Ok input)
   pub says : SaysInput input text
 
 pub record IsDone (call : Call) : Type 0 where
@@ -75,7 +75,7 @@ pub record IsRefused (call : Call) : Type 0 where
   pub asked : Asked
   pub command : command_of call.words ≡ Some asked
   pub fault : Fault
-  pub agrees : IfSome call.files (λ files. accepted_under asked files ≡ Err (refused fault))
+  pub agrees : ComesTo call.files asked (Err (refused fault))
   pub told : IsTold call (malformed_line fault)
 
 -- a load failed
@@ -99,10 +99,7 @@ Means call ended.Memory = call.left ≡ call.kept
 pub record IsAnswerable (call : Call) : Type 0 where
   pub asked : Asked
   pub command : command_of call.words ≡ Some asked
-  pub files : Files
-  pub told : call.files ≡ Some files
-  pub input : Input
-  pub is_accepted : accepted_under asked files ≡ Ok input
+  pub accepted : AreAccepted call.files asked
   pub loads : ¬ Rose call.loads_before call.loads_after
   pub puts : ¬ Rose call.puts_before call.puts_after
 

@@ -1,5 +1,5 @@
 -- What the files under the names of a command stand for, or what stands in the way.
-use Rattle.std.specs.Prelude.{ℕ, nat_lt, if◌then◌else◌, List, [], ◌∷◌, length, Option, Some, None, Result, Ok, Err}
+use Rattle.std.specs.Prelude.{◌≡◌, ◌+◌, ℕ, ⊤, nat_lt, if◌then◌else◌, List, [], ◌∷◌, length, Option, Some, None, Result, Ok, Err, IfSome, IsSomeAnd, IsOk}
 use Rattle.pc_model.specs.declared.schema.Schema.{Schema}
 use Rattle.pc_model.specs.declared.row.Row.{Row}
 use Rattle.pc_model.specs.declared.constraint.Constraint.{Constraint}
@@ -16,8 +16,7 @@ use Rattle.pc_schema.specs.SchemaFile.{schema_of}
 use Rattle.pc_rows.specs.RowFile.{rows_of}
 use Rattle.pc_lang.specs.Files.{constraints_of, query_at}
 use Rattle.pc_run.specs.declared.listing.Listing.{Listing}
-use Rattle.pc_run.specs.Words.{BoundNames, ShowNames, Asked, bound, show}
-use Rattle.pc_run.specs.Queries.{built}
+use Rattle.pc_words.specs.Words.{BoundNames, ShowNames, GenNumbers, Asked, bound, show, gen}
 
 -- a file or query that is refused, or a file that is not held
 pub data Obstacle : Type 0 where
@@ -49,18 +48,23 @@ rows_under schema name files = and_then (bytes_under kinds.Rows name files) (λ 
 unfoldable pub constraints_under : Schema → List ℕ → Files → Result (List Constraint) Obstacle
 constraints_under schema name files = and_then (bytes_under kinds.Constraints name files) (λ bytes. or_refused (constraints_of schema bytes))
 
--- the query of a text, which is one that is built
-unfoldable pub built_query : Schema → List ℕ → Result Query Fault
-built_query schema text = query_at schema 1 text >>= built
+-- the queries of texts, the first of which has this place among them
+unfoldable pub queries_from : Schema → ℕ → List (List ℕ) → Result (List Query) Fault
+queries_from schema place [] = Ok []
+queries_from schema place (text ∷ texts) =
+    query_at schema place text >>= λ query. (queries_from schema (place + 1) texts >>= λ queries. Ok (query ∷ queries))
 
--- of `bound`: the files in their order, then the query
+abbrev pub queries_of : Schema → List (List ℕ) → Result (List Query) Fault
+queries_of schema texts = queries_from schema 1 texts
+
+-- of `bound`: the files in their order, then the queries
 unfoldable pub case_under : BoundNames → Files → Result Case Obstacle
 case_under names files =
     and_then (schema_under names.schema files) (λ schema.
     and_then (rows_under schema names.rows files) (λ rows.
     and_then (constraints_under schema names.constraints files) (λ constraints.
-    and_then (or_refused (built_query schema names.query)) (λ query.
-    Ok (record { schema = schema; rows = rows; constraints = constraints; queries = query ∷ [] })))))
+    and_then (or_refused (queries_of schema names.queries)) (λ queries.
+    Ok (record { schema = schema; rows = rows; constraints = constraints; queries = queries })))))
 
 -- of `show`: the files in their order
 unfoldable pub listing_under : ShowNames → Files → Result Listing Obstacle
@@ -69,11 +73,12 @@ listing_under names files =
     and_then (constraints_under schema names.constraints files) (λ constraints.
     Ok (record { schema = schema; constraints = constraints })))
 
--- what a command comes to with its files: a case that is asked about, by searches of at most so many nodes each, or
--- constraints that are shown
+-- what a command comes to with its files: a case that is asked about, by searches of at most so many nodes each,
+-- constraints that are shown, or a case that is made
 pub data Input : Type 0 where
   asks : (nodes : ℕ) → Case → Input
   shows : Listing → Input
+  makes : GenNumbers → Input
 
 abbrev pub asking : ℕ → Result Case Obstacle → Result Input Obstacle
 asking nodes (Ok case) = Ok (asks nodes case)
@@ -86,3 +91,16 @@ showing (Err obstacle) = Err obstacle
 abbrev pub accepted_under : Asked → Files → Result Input Obstacle
 accepted_under (bound names) files = asking names.nodes (case_under names files)
 accepted_under (show names) files = showing (listing_under names files)
+accepted_under (gen numbers) files = Ok (makes numbers)
+
+-- where the shelf tells its files, the command comes to this with them; a case that is made needs none
+abbrev pub ComesTo : Option Files → Asked → Result Input Obstacle → Type 0
+ComesTo told (bound names) outcome = IfSome told (λ files. accepted_under (bound names) files ≡ outcome)
+ComesTo told (show names) outcome = IfSome told (λ files. accepted_under (show names) files ≡ outcome)
+ComesTo told (gen numbers) outcome = Ok (makes numbers) ≡ outcome
+
+-- the shelf tells files that are held and accepted; a case that is made needs none
+abbrev pub AreAccepted : Option Files → Asked → Type 0
+AreAccepted told (bound names) = IsSomeAnd told (λ files. IsOk (accepted_under (bound names) files))
+AreAccepted told (show names) = IsSomeAnd told (λ files. IsOk (accepted_under (show names) files))
+AreAccepted told (gen numbers) = ⊤

@@ -1,25 +1,30 @@
 -- With which status and text a run replies to the files of a command.
-use Rattle.std.specs.Prelude.{◌≡◌, ◌↔◌, ℕ, ◌⊎◌, ⊤, Bool, IsTrue, List, All, Option, Some, None, Result, Ok, Err, IsOk, IsOkAnd, IfSome}
+use Rattle.std.specs.Prelude.{◌≡◌, ◌↔◌, ℕ, ◌⊎◌, ⊤, Bool, false, IsTrue, List, length, All, Option, Some, None, Result, Ok, Err, IsOk, IsOkAnd, IfSome}
 use Rattle.std.specs.List.{AllPass, AllZip}
 use Rattle.pc_model.specs.declared.fault.FileKind.{FileKind}
 use Rattle.pc_model.specs.declared.fault.FileKind.TheVariants as kinds
 use Rattle.pc_model.specs.Membership.{in_domain, AreDisjoint}
-use Rattle.pc_model.specs.Accepted.{AreConstraints}
+use Rattle.pc_model.specs.Accepted.{AreConstraints, IsQuery}
+use Rattle.pc_model.specs.Right.{is_impossible}
 use Rattle.pc_model.specs.WellFormed.{IsWellFormed}
 use Rattle.pc_base.specs.declared.status.Status.{Status}
 use Rattle.pc_base.specs.declared.status.Status.TheVariants as ended
 use Rattle.pc_base.specs.Counts.{Rose}
 use Rattle.pc_base.specs.Files.{Files, IsAbsent}
 use Rattle.pc_proof.specs.declared.document.Document.{Document}
+use Rattle.pc_proof.specs.declared.document.Block.{Block}
+use Rattle.pc_proof.specs.Unbroken.{plain_relation}
 use Rattle.pc_report.specs.Report.{report_text}
+use Rattle.pc_report.specs.Summary.{summary_text}
+use Rattle.pc_gen.specs.Generated.{generated_case}
 use Rattle.pc_rows.specs.declared.case.Case.{Case}
 use Rattle.pc_run.specs.declared.stop.Stop.{Stop}
 use Rattle.pc_run.specs.declared.stop.Stop.TheVariants as stops
-use Rattle.pc_run.specs.Words.{Asked, bound, show, name_of, command_of}
-use Rattle.pc_run.specs.Outcome.{Obstacle, refused, absent, Input, asks, shows, schema_under, rows_under, accepted_under}
+use Rattle.pc_words.specs.Words.{Asked, bound, show, gen, command_of, usual_nodes}
+use Rattle.pc_run.specs.Outcome.{Obstacle, refused, absent, Input, asks, shows, makes, schema_under, rows_under, ComesTo}
+use Rattle.pc_run.specs.Loading.{name_of}
 use Rattle.pc_run.specs.Reports.{usage_line, fault_line, malformed_line, listing_of}
-use Rattle.pc_run.specs.Answers.{AnswersQuery}
-use Rattle.pc_run.specs.Queries.{IsAsked}
+use Rattle.pc_run.specs.Answers.{AnswersCase}
 use Rattle.pc_run.specs.declared.listing.Listing.{Listing}
 
 -- what the answer and its report need of what was read
@@ -27,7 +32,7 @@ pub record IsSound (case : Case) : Type 0 where
   pub well_formed : IsWellFormed case.schema
   pub seen : AllPass (in_domain case.schema) case.rows
   pub accepted : AreConstraints case.schema case.constraints
-  pub asked : All (IsAsked case.schema) case.queries
+  pub asked : All (IsQuery case.schema) case.queries
 
 -- what the text of constraints needs of what was read
 pub record IsShowable (listing : Listing) : Type 0 where
@@ -36,6 +41,7 @@ pub record IsShowable (listing : Listing) : Type 0 where
 
 -- this is a file of the command, and those before it are accepted where the shelf tells its files
 abbrev pub IsReached : Option Files → Asked → FileKind → Type 0
+IsReached told (gen numbers) file = ⊥
 IsReached told asked kinds.Schema = ⊤
 IsReached told (bound names) kinds.Rows = IfSome told (λ files. IsOk (schema_under names.schema files))
 IsReached told (bound names) kinds.Constraints = IfSome told (λ files. IsOkAnd (schema_under names.schema files) (λ schema. IsOk (rows_under schema names.rows files)))
@@ -49,7 +55,7 @@ pub record IsUnread (told : Option Files) (asked : Asked) (before now : ℕ) (fi
 
 -- why the files of a command give nothing
 abbrev pub StopAgrees : Option Files → Asked → ℕ → ℕ → Stop → Type 0
-StopAgrees told asked before now (stops.Refused fault) = IfSome told (λ files. accepted_under asked files ≡ Err (refused fault))
+StopAgrees told asked before now (stops.Refused fault) = ComesTo told asked (Err (refused fault))
 StopAgrees told asked before now (stops.Unread file) = IsUnread told asked before now file
 StopAgrees told asked before now stops.Memory = ⊤
 
@@ -61,14 +67,25 @@ RepliesToStop stops.Memory status text = ⊥
 
 -- what reading the files of a command answers, as the input that it stands for
 abbrev pub InputAgrees : {X : Type 0} → (X → Input) → Option Files → Asked → ℕ → ℕ → Result X Stop → Type 0
-InputAgrees input told asked before now (Ok x) = IfSome told (λ files. accepted_under asked files ≡ Ok (input x))
+InputAgrees input told asked before now (Ok x) = ComesTo told asked (Ok (input x))
 InputAgrees input told asked before now (Err stop) = StopAgrees told asked before now stop
 
--- the text is the report of a document that answers each query, by searches of at most so many nodes each
+-- the text is the report of a document that answers the case, by searches of at most so many nodes each
 pub record SaysReport (nodes : ℕ) (case : Case) (text : List ℕ) : Type 0 where
   pub document : Document
-  pub answers : AllZip (AnswersQuery nodes case.schema case.rows case.constraints) case.queries document.blocks
+  pub answers : AnswersCase nodes case document
   pub reported : text ≡ report_text case.schema document
+
+-- a block that does not say that no relation is possible
+abbrev pub IsPossibleBlock : Block → Type 0
+IsPossibleBlock block = is_impossible (plain_relation block.answer.relation) ≡ false
+
+-- the text is the summary of a document that answers the case, and says of no query that no relation is possible
+pub record SaysSummary (case : Case) (text : List ℕ) : Type 0 where
+  pub document : Document
+  pub answers : AnswersCase usual_nodes case document
+  pub possible : All IsPossibleBlock document.blocks
+  pub summed : text ≡ summary_text case.schema (length case.rows) (length case.constraints) document
 
 -- the text is that of the constraints, and then it says whether no two of them speak of one row
 pub record SaysListing (listing : Listing) (text : List ℕ) : Type 0 where
@@ -79,6 +96,7 @@ pub record SaysListing (listing : Listing) (text : List ℕ) : Type 0 where
 abbrev pub SaysInput : Input → List ℕ → Type 0
 SaysInput (asks nodes case) text = SaysReport nodes case text
 SaysInput (shows listing) text = SaysListing listing text
+SaysInput (makes numbers) text = SaysSummary (generated_case numbers.seed numbers.size) text
 
 -- the reply to files that are accepted, or refused
 abbrev pub Says : Result Input Obstacle → Status → List ℕ → Type 0
@@ -90,7 +108,7 @@ Says (Err (absent file)) status text = ⊥
 pub record SaysOutcome (told : Option Files) (asked : Asked) (status : Status) (text : List ℕ) : Type 0 where
   pub outcome : Result Input Obstacle
   pub says : Says outcome status text
-  pub agrees : IfSome told (λ files. accepted_under asked files ≡ outcome)
+  pub agrees : ComesTo told asked outcome
 
 -- the reply to a load that failed
 pub record SaysFault (told : Option Files) (asked : Asked) (before now : ℕ) (status : Status) (text : List ℕ) : Type 0 where

@@ -1,20 +1,23 @@
-ghost use Rattle.std.specs.Prelude.{◌≡◌, ◌≤◌, ◌+◌, ◌∷◌, [], IfOk};
-ghost use Rattle.pc_run.specs.Commands.{bound_names};
-ghost use Rattle.pc_run.specs.Outcome.{asks};
+ghost use Rattle.std.specs.Prelude.{◌≡◌, ◌≤◌, ◌+◌, map, All, IfOk};
+ghost use Rattle.pc_model.specs.Accepted.{IsQuery};
+ghost use Rattle.pc_model.specs.Refusals.{Gives};
+ghost use Rattle.pc_model.specs.WellFormed.{IsWellFormed, HaveFewNames};
+ghost use Rattle.pc_words.specs.Commands.{bound_names};
+ghost use Rattle.pc_words.specs.Words.{bound};
+ghost use Rattle.pc_run.specs.Outcome.{asks, queries_of};
 ghost use Rattle.pc_run.specs.Replies.{InputAgrees, IsSound};
-ghost use Rattle.pc_run.specs.Words.{bound};
 
-use crate::command::Bound;
 use crate::loading::{load_constraints, load_rows, load_schema};
-use crate::query::read_built;
 use crate::stop::Stop;
 use pc_base::Shelf;
+use pc_lang::read_query;
 use pc_list::Seq;
-use pc_model::Query;
+use pc_model::{Query, Refusal, Schema};
 use pc_rows::Case;
-use std::alloc::{AllocError, Global};
+use pc_words::Bound;
+use std::alloc::Global;
 
-/// Reads the files of `bound` in their order, and then its query.
+/// Reads the files of `bound` in their order, and then its queries.
 pub(crate) fn read_case<F: Shelf>(
     alloc: Global,
     files: &mut F,
@@ -29,8 +32,7 @@ pub(crate) fn read_case<F: Shelf>(
     let schema = load_schema(alloc, files, command.schema)?;
     let rows = load_rows(alloc, files, command.rows, &schema)?;
     let constraints = load_constraints(alloc, files, command.constraints, &schema)?;
-    let query = read_built(alloc, &schema, command.query)?;
-    let queries = only(alloc, query)?;
+    let queries = read_queries(alloc, &schema, command.queries.as_slice())?;
     Ok(Case {
         schema,
         rows,
@@ -39,10 +41,16 @@ pub(crate) fn read_case<F: Shelf>(
     })
 }
 
-fn only(alloc: Global, query: Query) -> Result<Seq<Query>, AllocError>
-    ensures { IfOk result (λ queries. queries ≡ query ∷ []) }
+/// Reads the queries in their order. The place of a fault is that of the query among them.
+fn read_queries(alloc: Global, schema: &Schema, texts: &[&str]) -> Result<Seq<Query>, Refusal>
+    requires well_formed { IsWellFormed schema.now }
+    requires few_names { HaveFewNames schema.now.columns }
+    ensures gives { Gives result (queries_of schema.now (map (λ text. text.now) texts.now)) }
+    ensures asked { IfOk result (All (IsQuery schema.now)) }
 {
     let mut queries = Seq::new(alloc);
-    queries.push(query)?;
+    for (place, text) in texts.iter().enumerate() {
+        queries.push(read_query(alloc, schema, text, place as u64 + 1)?)?;
+    }
     Ok(queries)
 }

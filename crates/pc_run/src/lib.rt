@@ -2,16 +2,14 @@
 #![tactic(auto)]
 
 ghost use Rattle.std.specs.Prelude.{◌≡◌, ◌≤◌, ◌+◌, map, string_bytes};
-ghost use Rattle.pc_run.specs.Words.{command_of, file_count};
+ghost use Rattle.pc_words.specs.Words.{command_of, file_count};
 ghost use Rattle.pc_run.specs.Meaning.{Call, Means, IsAnswerable, IsDoneUnlessMemory, call_of, after_failed_put};
 
-mod answers;
 mod case;
-mod command;
 mod line;
 mod listing;
 mod loading;
-mod query;
+mod making;
 mod reply;
 mod show;
 mod stop;

@@ -1,19 +1,22 @@
 ghost use Rattle.std.specs.Prelude.{◌≡◌, ◌≤◌, ◌+◌, map, IfOk, string_bytes};
-ghost use Rattle.pc_run.specs.Commands.{bound_names, show_names};
-ghost use Rattle.pc_run.specs.Replies.{IsSound, RepliesTo, RepliesToStop, Responds, SaysReport};
-ghost use Rattle.pc_run.specs.Words.{bound, show, command_of, file_count, IsBudget};
+ghost use Rattle.pc_words.specs.Commands.{bound_names, show_names};
+ghost use Rattle.pc_run.specs.Replies.{IsSound, RepliesTo, RepliesToStop, Responds, SaysReport, SaysSummary};
+ghost use Rattle.pc_base.specs.declared.status.Status.TheVariants as ended;
+ghost use Rattle.pc_gen.specs.Generated.{generated_case};
+ghost use Rattle.pc_words.specs.Words.{bound, show, command_of, file_count, IsBudget, IsSize};
 
-use crate::answers::answer_case;
 use crate::case::read_case;
-use crate::command::{Bound, Command, Show, read_command};
 use crate::line::{fault_line, malformed_line, usage_line};
 use crate::listing::read_listing;
+use crate::making::summarize;
 use crate::show::report_listing;
 use crate::stop::Stop;
 use pc_base::{Shelf, Status};
+use pc_group::answer_all;
 use pc_num::Memory;
 use pc_report::put_report;
 use pc_rows::Case;
+use pc_words::{Bound, Command, Gen, Show, read_command};
 use std::alloc::Global;
 
 /// The status with which a run ends, and the text that it writes.
@@ -34,9 +37,10 @@ pub(crate) fn respond<F: Shelf>(
     ensures faults_stay { F.faults files.old ≤ F.faults files.new }
     ensures calls { F.calls files.new ≤ F.calls files.old + file_count (command_of (map string_bytes words.now)) }
 {
-    match read_command(words) {
+    match read_command(alloc, words)? {
         Some(Command::Bound(command)) => reply_to_bound(alloc, files, &command),
         Some(Command::Show(command)) => reply_to_show(alloc, files, &command),
+        Some(Command::Gen(command)) => reply_to_gen(alloc, &command),
         None => Ok(Reply {
             status: Status::Usage,
             text: usage_line(alloc)?.into_bytes(),
@@ -77,6 +81,17 @@ fn reply_to_show<F: Shelf>(alloc: Global, files: &mut F, command: &Show) -> Resu
     }
 }
 
+/// The reply to `gen`, which has no files.
+fn reply_to_gen(alloc: Global, command: &Gen) -> Result<Reply, Memory>
+    requires { IsSize command.now.size }
+    ensures { IfOk result (λ reply. (reply.status ≡ ended.Done) × SaysSummary (generated_case command.now.seed command.now.size) reply.text.items) }
+{
+    Ok(Reply {
+        status: Status::Done,
+        text: summarize(alloc, command)?,
+    })
+}
+
 /// The reply where files give nothing.
 fn reply_to_stop(alloc: Global, stop: Stop) -> Result<Reply, Memory>
     ensures { IfOk result (λ reply. RepliesToStop stop reply.status reply.text.items) }
@@ -100,7 +115,7 @@ fn report_case(alloc: Global, case: &Case, nodes: u32) -> Result<Vec<u8>, Memory
     requires budget { IsBudget nodes }
     ensures { IfOk result (λ text. SaysReport nodes case.now text.items) }
 {
-    let document = answer_case(alloc, case, nodes)?;
+    let document = answer_all(alloc, case, nodes)?;
     let mut text = Vec::new(alloc);
     put_report(alloc, &case.schema, &mut text, &document)?;
     Ok(text)

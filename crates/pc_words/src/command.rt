@@ -5,6 +5,9 @@ ghost use Rattle.pc_words.specs.Commands.{asked_in, HasNumbers};
 use pc_num::Memory;
 use std::alloc::Global;
 
+/// How many nodes a search may have where the words do not say it.
+pub const USUAL_NODES: u32 = 10_000;
+
 /// The command `bound`: how many nodes each search may have, the names of its files, and its queries.
 #[derive(Debug, Drop)]
 pub struct Bound<'a> {

@@ -3,4 +3,4 @@
 
 mod command;
 
-pub use command::{Bound, Command, Gen, Show, read_command};
+pub use command::{Bound, Command, Gen, Show, USUAL_NODES, read_command};

@@ -3,10 +3,9 @@ use Rattle.std.proofs.lemmas.Result.{err_from_is_err_and}
 use Rattle.pc_model.specs.declared.row.Row.{Row}
 use Rattle.pc_model.specs.declared.constraint.Constraint.{Constraint}
 use Rattle.pc_model.specs.declared.fault.FileKind.TheVariants as kinds
-use Rattle.pc_run.specs.Commands.{bound_names}
+use Rattle.pc_words.specs.Commands.{bound_names}
 use Rattle.pc_run.specs.Outcome.{rows_under, constraints_under}
-use Rattle.pc_run.proofs.Cases.{moved, moved_cause, HasRows, HasFiles, at_schema, at_rows, at_constraints, at_query, at_end}
-use Rattle.pc_run.proofs.Queries.{one_asked}
+use Rattle.pc_run.proofs.Cases.{moved, moved_cause, HasRows, HasFiles, at_schema, at_rows, at_constraints, at_queries, at_end}
 use Rattle.pc_run.proofs.case.read_case.Goals as goal
 
 pub returns-in_err-schema-clause-agrees : goal.returns-in_err-schema-clause-agrees
@@ -32,14 +31,14 @@ returns-in_err-constraints-clause-agrees g c =
     let earlier : g.F.Shelf.faults c.args.files.now ≤ g.F.Shelf.faults c.load_rows.new.files = omega (arith, c.in_ok-schema.ensures.faults_stay, c.in_ok-rows.ensures.faults_stay) in
     rw (p.1, p.2) (at_constraints (g.F.Shelf.files c.args.files.now) (bound_names c.args.command.now) (g.F.Shelf.faults c.args.files.now) (g.F.Shelf.faults c.load_rows.new.files) (g.F.Shelf.faults c.load_constraints.new.files) c.in_ok-schema.schema c.in_ok-rows.rows read earlier c.in_err-constraints.field-0.0 agrees cause)
 
-pub returns-in_err-query-clause-agrees : goal.returns-in_err-query-clause-agrees
-returns-in_err-query-clause-agrees g c =
-    let p = err_from_is_err_and c.from_residual-in_err-query.result c.from_residual-in_err-query.ensures.1 in
+pub returns-in_err-queries-clause-agrees : goal.returns-in_err-queries-clause-agrees
+returns-in_err-queries-clause-agrees g c =
+    let p = err_from_is_err_and c.from_residual-in_err-queries.result c.from_residual-in_err-queries.ensures.1 in
     let has_rows = rw c.in_ok-schema.ensures.files_stay at c.in_ok-rows.ensures.agrees in
     let agrees = rw (c.in_ok-rows.ensures.files_stay, c.in_ok-schema.ensures.files_stay) at c.in_ok-constraints.ensures.agrees in
     let read : HasFiles (g.F.Shelf.files c.args.files.now) (bound_names c.args.command.now) c.in_ok-schema.schema c.in_ok-rows.rows c.in_ok-constraints.constraints =
     record { rows_read = record { has_schema = c.in_ok-schema.ensures.agrees; has_rows = has_rows }; has_constraints = agrees } in
-    rw (p.1, p.2) (at_query (g.F.Shelf.files c.args.files.now) (bound_names c.args.command.now) (g.F.Shelf.faults c.args.files.now) (g.F.Shelf.faults c.load_constraints.new.files) c.in_ok-schema.schema c.in_ok-rows.rows c.in_ok-constraints.constraints read c.in_err-query.field-0.0 c.in_err-query.ensures.gives)
+    rw (p.1, p.2) (at_queries (g.F.Shelf.files c.args.files.now) (bound_names c.args.command.now) (g.F.Shelf.faults c.args.files.now) (g.F.Shelf.faults c.load_constraints.new.files) c.in_ok-schema.schema c.in_ok-rows.rows c.in_ok-constraints.constraints read c.in_err-queries.field-0.0 c.in_err-queries.ensures.gives)
 
 pub returns-clause-agrees : goal.returns-clause-agrees
 returns-clause-agrees g c =
@@ -47,12 +46,12 @@ returns-clause-agrees g c =
     let agrees = rw (c.in_ok-rows.ensures.files_stay, c.in_ok-schema.ensures.files_stay) at c.in_ok-constraints.ensures.agrees in
     let read : HasFiles (g.F.Shelf.files c.args.files.now) (bound_names c.args.command.now) c.in_ok-schema.schema c.in_ok-rows.rows c.in_ok-constraints.constraints =
     record { rows_read = record { has_schema = c.in_ok-schema.ensures.agrees; has_rows = has_rows }; has_constraints = agrees } in
-    rw c.in_ok-queries.ensures (at_end (g.F.Shelf.files c.args.files.now) (bound_names c.args.command.now) c.in_ok-schema.schema c.in_ok-rows.rows c.in_ok-constraints.constraints c.in_ok-query.query read c.in_ok-query.ensures.gives)
+    at_end (g.F.Shelf.files c.args.files.now) (bound_names c.args.command.now) c.in_ok-schema.schema c.in_ok-rows.rows c.in_ok-constraints.constraints c.in_ok-queries.queries read c.in_ok-queries.ensures.gives
 
 pub returns-clause-sound : goal.returns-clause-sound
 returns-clause-sound g c = record {
   well_formed = c.in_ok-schema.ensures.well_formed;
   seen = c.in_ok-rows.ensures.seen;
   accepted = c.in_ok-constraints.ensures.accepted;
-  asked = rw c.in_ok-queries.ensures (one_asked c.in_ok-schema.schema c.in_ok-query.query c.in_ok-query.ensures.asked);
+  asked = c.in_ok-queries.ensures.asked;
 }

@@ -2,7 +2,7 @@ use Rattle.std.proofs.Common.{List}
 use Rattle.std.proofs.lemmas.Result.{err_from_is_err_and}
 use Rattle.pc_model.specs.declared.constraint.Constraint.{Constraint}
 use Rattle.pc_model.specs.declared.fault.FileKind.TheVariants as kinds
-use Rattle.pc_run.specs.Commands.{show_names}
+use Rattle.pc_words.specs.Commands.{show_names}
 use Rattle.pc_run.specs.Outcome.{constraints_under}
 use Rattle.pc_run.proofs.Cases.{moved, moved_cause}
 use Rattle.pc_run.proofs.Listings.{at_schema, at_constraints, at_end}

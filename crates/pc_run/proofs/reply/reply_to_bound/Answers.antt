@@ -1,9 +1,9 @@
 use Rattle.std.proofs.Common.{Ok, refl, inr}
 use Rattle.std.proofs.lemmas.Result.{IfOk-weaker}
-use Rattle.pc_run.specs.Commands.{bound_names}
+use Rattle.pc_words.specs.Commands.{bound_names}
 use Rattle.pc_run.specs.Outcome.{asks}
 use Rattle.pc_run.specs.Replies.{RepliesTo, RepliesToStop}
-use Rattle.pc_run.specs.Words.{bound}
+use Rattle.pc_words.specs.Words.{bound}
 use Rattle.pc_run.proofs.StopReplies.{stop_replies}
 use Rattle.pc_run.proofs.reply.reply_to_bound.Goals as goal
 

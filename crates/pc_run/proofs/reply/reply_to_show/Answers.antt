@@ -1,9 +1,9 @@
 use Rattle.std.proofs.Common.{Ok, refl, inr}
 use Rattle.std.proofs.lemmas.Result.{IfOk-weaker}
-use Rattle.pc_run.specs.Commands.{show_names}
+use Rattle.pc_words.specs.Commands.{show_names}
 use Rattle.pc_run.specs.Outcome.{shows}
 use Rattle.pc_run.specs.Replies.{RepliesTo, RepliesToStop}
-use Rattle.pc_run.specs.Words.{show}
+use Rattle.pc_words.specs.Words.{show}
 use Rattle.pc_run.proofs.StopReplies.{stop_replies}
 use Rattle.pc_run.proofs.reply.reply_to_show.Goals as goal
 
