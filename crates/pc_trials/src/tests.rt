@@ -5,6 +5,7 @@ use std::test::Fail;
 
 mod averages;
 mod extremes;
+mod groups;
 mod overlaps;
 mod refused;
 mod shown;

@@ -281,27 +281,6 @@ fn queries(rt: HostRuntime) -> Result<(), Fail> {
             "malformed query at 1: reason 4 UnknownColumn\n",
             Status::Malformed,
         ),
-        // what is accepted, and grouped
-        (
-            "count group by branch",
-            "malformed query at 1: reason 21 NotBuilt\n",
-            Status::Malformed,
-        ),
-        (
-            "sum(price) group by branch",
-            "malformed query at 1: reason 21 NotBuilt\n",
-            Status::Malformed,
-        ),
-        (
-            "max(price) group by branch",
-            "malformed query at 1: reason 21 NotBuilt\n",
-            Status::Malformed,
-        ),
-        (
-            "avg(price) where day = 3 group by branch",
-            "malformed query at 1: reason 21 NotBuilt\n",
-            Status::Malformed,
-        ),
         ("count", COUNTED, Status::Done),
         ("count(*)", COUNTED, Status::Done),
         (" count ( * )\t", COUNTED, Status::Done),

@@ -18,11 +18,10 @@ fn are_no_command(alloc: Global, words: &[&str]) -> Result<bool, Fail> {
 
 #[test]
 fn words(rt: HostRuntime) -> Result<(), Fail> {
-    let table: [&[&str]; 13] = [
+    let table: [&[&str]; 12] = [
         &["bound"],
         &[],
         &["show"],
-        &["bound", "s", "r", "c", "count", "count"],
         &["bound", "s", "-r", "c", "count"],
         &["prove", "s", "r", "c", "count"],
         &["show", "s", "r", "c", "count"],
@@ -41,35 +40,46 @@ fn words(rt: HostRuntime) -> Result<(), Fail> {
 
 #[test]
 fn words_with_options(rt: HostRuntime) -> Result<(), Fail> {
-    let table: [&[&str]; 20] = [
-        // twice, in another place, and without its value or a word after it
-        &[
-            "bound", "--nodes", "5", "--nodes", "5", "s", "r", "c", "count",
-        ],
-        &["bound", "s", "r", "c", "count", "--nodes", "5"],
-        &["bound", "s", "--nodes", "5", "r", "c", "count"],
+    let table: [&[&str]; 10] = [
+        &["bound", "--nodes", "5", "--nodes", "5", "s", "r", "c", "count"],
         &["--nodes", "5", "bound", "s", "r", "c", "count"],
-        &["bound", "5", "--nodes", "s", "r", "c", "count"],
         &["bound", "--nodes", "s", "r", "c", "count"],
-        &["bound", "--nodes", "5", "s", "r", "c"],
-        &["bound", "--nodes", "5", "s", "r", "c", "count", "count"],
+        &["bound", "s", "r", "c", "count", "--nodes"],
         &["show", "--nodes", "5", "s", "c"],
         &["prove", "--nodes", "5", "s", "r", "c", "count"],
-        // in other words
-        &["bound", "--nodes=5", "s", "r", "c", "count"],
         &["bound", "--node", "5", "s", "r", "c", "count"],
         &["bound", "-nodes", "5", "s", "r", "c", "count"],
-        &["bound", "nodes", "5", "s", "r", "c", "count"],
-        &["bound", "--", "s", "r", "c", "count"],
-        // a word that begins with `-`
-        &["bound", "-", "r", "c", "count"],
         &["bound", "s", "r", "c", "-count"],
-        &["bound", "--nodes", "5", "s", "r", "-", "count"],
-        &["bound", "--nodes", "5", "-s", "r", "c", "count"],
-        &["bound", "--nodes", "5", "s", "r", "c", "--nodes"],
+        &["bound", "--help"],
     ];
     for words in table {
         assert!(rt; are_no_command(rt.alloc(), words)?);
+    }
+    Ok(())
+}
+
+/// Do the words say that nothing is lost, where no constraint is given?
+fn lose_nothing(alloc: Global, words: &[&str]) -> Result<bool, Fail> {
+    let mut shelf = shelf_of(alloc, SCHEMA, ROWS, "")?;
+    shelf.add("-", "".as_bytes())?;
+    let mut sink = MemSink::new(alloc, 0);
+    let ended = run_words(alloc, words, &mut shelf, &mut sink)?;
+    Ok(ended == Status::Done && sink.kept.as_slice() == NOTHING_LOST.as_bytes())
+}
+
+#[test]
+fn words_in_other_places(rt: HostRuntime) -> Result<(), Fail> {
+    let table: [&[&str]; 7] = [
+        &["bound", "--nodes=5", "s", "r", "c", "count"],
+        &["bound", "s", "--nodes", "5", "r", "c", "count"],
+        &["bound", "s", "r", "c", "count", "--nodes", "5"],
+        &["bound", "--", "s", "r", "c", "count"],
+        &["bound", "s", "r", "--nodes=7", "--", "c", "count"],
+        &["bound", "s", "r", "c", "--", "count"],
+        &["bound", "s", "r", "-", "count"],
+    ];
+    for (number, words) in table.into_iter().enumerate() {
+        assert!(rt; lose_nothing(rt.alloc(), words)?, "list {number}");
     }
     Ok(())
 }

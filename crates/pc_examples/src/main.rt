@@ -1,0 +1,78 @@
+//! The examples of the guide: it runs each, and says whether its report is the one that stands beside it.
+#![tactic(auto)]
+
+mod trouble;
+
+use pc_base::{MemShelf, MemSink};
+use pc_run::run;
+use std::alloc::Global;
+use std::fs;
+use std::process::ExitCode;
+use std::rt::Files;
+use trouble::Trouble;
+
+/// The folders of the examples.
+const EXAMPLES: [&str; 10] = [
+    "week",
+    "covered",
+    "uncovered",
+    "observed",
+    "overlap",
+    "groups",
+    "always",
+    "impossible",
+    "outer",
+    "undecided",
+];
+
+/// What an example's command loads.
+const FILES: [&str; 3] = ["schema.csv", "rows.csv", "constraints.txt"];
+
+fn main(rt: HostRuntime) -> ExitCode {
+    match run_all(&rt) {
+        Ok(()) => ExitCode::from(0),
+        Err(_) => ExitCode::from(1),
+    }
+}
+
+fn run_all<R: Files + Print + AllocGlobal>(rt: &R) -> Result<(), Trouble> {
+    for folder in EXAMPLES {
+        let text = report_of(rt, folder)?;
+        let wanted = fs::read(rt, path(rt.alloc(), folder, "report.txt")?.as_str())?;
+        if text.kept.as_slice() == wanted.as_slice() {
+            println!(rt; "{folder}: its report is report.txt")?;
+        } else {
+            println!(rt; "{folder}: its report is not report.txt")?;
+        }
+    }
+    Ok(())
+}
+
+/// What the words of an example write over its files.
+fn report_of<R: Files + AllocGlobal>(rt: &R, folder: &str) -> Result<MemSink, Trouble> {
+    let alloc = rt.alloc();
+    let mut shelf = MemShelf::new(alloc);
+    for file in FILES {
+        let bytes = fs::read(rt, path(alloc, folder, file)?.as_str())?;
+        shelf.add(file, bytes.as_slice())?;
+    }
+    let words = words_of(rt, folder)?;
+    let mut sink = MemSink::new(alloc, 0);
+    run(alloc, words.as_slice(), &mut shelf, &mut sink);
+    Ok(sink)
+}
+
+/// The words of an example, one a line.
+fn words_of<R: Files + AllocGlobal>(rt: &R, folder: &str) -> Result<Vec<String>, Trouble> {
+    let alloc = rt.alloc();
+    let text = fs::read_to_string(rt, path(alloc, folder, "words.txt")?.as_str())?;
+    let mut words = Vec::new(alloc);
+    for word in text.lines() {
+        words.push(String::from_str(alloc, word)?)?;
+    }
+    Ok(words)
+}
+
+fn path(alloc: Global, folder: &str, file: &str) -> Result<String, Trouble> {
+    Ok(format!(in alloc; "{folder}/{file}")?)
+}
