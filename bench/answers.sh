@@ -12,6 +12,8 @@
 #   the whole call and of the call less reading;
 # - of an average, the steps that each end takes there, by the method that is ours too;
 # - whether both say the same ends.
+# At the end it prints what sixteen questions over the million rows take in one call, as a ratio to one of them, and what a
+# generated case takes.
 # Both sides are measured in the same run, each with the start of its processes. A time is the median of the runs, each of
 # several calls where a call is short; what takes a second or more is run once. Run ./build first.
 # Usage: bench/answers.sh [RUNS]
@@ -175,3 +177,15 @@ draw million.schema 1000000 > million.rows
   echo 'x5: a in 2500..7499 and c in 2500..7499 => true, 100..400'
 } > million.constraints
 answer "a million rows" million.schema million.rows million.constraints c
+
+# sixteen questions in one call, against one of them
+queries=(count)
+for column in a b c d e; do queries+=("sum($column)" "min($column)" "max($column)"); done
+measure "$pc" bound million.schema million.rows million.constraints count
+one=$took
+measure "$pc" bound million.schema million.rows million.constraints "${queries[@]}"
+awk -v one="$one" -v many="$took" 'BEGIN { printf "a million rows, %d questions in one call: %.2f s; one: %.2f s; ratio %.2f\n", 16, many / 1000000, one / 1000000, many / one }'
+
+# a generated case of 100,000 rows, and five questions about it
+measure "$pc" gen 7 1000
+awk -v took="$took" 'BEGIN { printf "gen 7 1000: %.2f s\n", took / 1000000 }'

@@ -3,12 +3,10 @@
 # what they can have cost on average.
 # Run ./build first.
 set -eu
-here=$(cd "$(dirname "$0")" && pwd)
-pc=$here/../../pc
+here=$(cd "$(dirname "$0")" && pwd -P)
+pc=$here/../../../../pc
 [ -x "$pc" ] || { echo "examples/month/run.sh: run ./build first" >&2; exit 1; }
 work=$(mktemp -d)
 trap 'rm -rf "$work"' EXIT
 "$here/rows.sh" > "$work/rows.csv"
-for query in count 'sum(price)' 'min(price)' 'max(price)' 'avg(price)'; do
-  "$pc" bound "$here/schema.csv" "$work/rows.csv" "$here/constraints.txt" "$query"
-done
+"$pc" bound "$here/schema.csv" "$work/rows.csv" "$here/constraints.txt" count 'sum(price)' 'min(price)' 'max(price)' 'avg(price)'
