@@ -1,9 +1,8 @@
-ghost use Rattle.std.specs.Prelude.{◌≡◌, ◌≤◌, ◌+◌, map, IfOk, string_bytes};
-ghost use Rattle.pc_words.specs.Commands.{bound_names, show_names};
-ghost use Rattle.pc_run.specs.Replies.{IsSound, RepliesTo, RepliesToStop, Responds, SaysReport, SaysSummary};
-ghost use Rattle.pc_base.specs.declared.status.Status.TheVariants as ended;
-ghost use Rattle.pc_gen.specs.Generated.{generated_case};
-ghost use Rattle.pc_words.specs.Words.{bound, show, command_of, file_count, IsBudget, IsSize};
+ghost use Rattle.std.specs.Prelude.{◌≡◌, ◌≤◌, ◌+◌, ℕ, map, Option, IfOk, string_bytes};
+ghost use Rattle.pc_base.specs.Files.{Files};
+ghost use Rattle.pc_words.specs.Commands.{bound_names, gen_numbers, show_names};
+ghost use Rattle.pc_run.specs.Replies.{IsSound, RepliesTo, RepliesToStop, Responds, SaysReport};
+ghost use Rattle.pc_words.specs.Words.{bound, gen, show, command_of, file_count, IsBudget, IsSize};
 
 use crate::case::read_case;
 use crate::line::{fault_line, malformed_line, usage_line};
@@ -84,7 +83,7 @@ fn reply_to_show<F: Shelf>(alloc: Global, files: &mut F, command: &Show) -> Resu
 /// The reply to `gen`, which has no files.
 fn reply_to_gen(alloc: Global, command: &Gen) -> Result<Reply, Memory>
     requires { IsSize command.now.size }
-    ensures { IfOk result (λ reply. (reply.status ≡ ended.Done) × SaysSummary (generated_case command.now.seed command.now.size) reply.text.items) }
+    ensures { IfOk result (λ reply. (told : Option Files) (before now : ℕ) → RepliesTo told (gen (gen_numbers command.now)) before now reply.status reply.text.items) }
 {
     Ok(Reply {
         status: Status::Done,

@@ -4,6 +4,7 @@ use std::alloc::Global;
 use std::test::Fail;
 
 mod averages;
+mod blocks;
 mod extremes;
 mod groups;
 mod overlaps;
