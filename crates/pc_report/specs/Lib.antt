@@ -1,3 +1,4 @@
 pub mod Report
 pub mod RunLines
+pub mod Shown
 pub mod Units

@@ -2,12 +2,14 @@
 #![tactic(auto)]
 
 mod answer;
+mod laws;
 mod report;
 mod runs;
 #[cfg(test)]
 mod tests;
 mod value;
 
+pub use laws::reports_tell_their_blocks;
 pub use report::put_report;
 pub use runs::put_runs;
 pub use value::in_column;
