@@ -1,3 +1,12 @@
+pub mod AnswersBack
+pub mod AveragesBack
+pub mod BlocksBack
+pub mod EndsBack
 pub mod Fields
+pub mod NamesBack
+pub mod NumbersBack
+pub mod PartsBack
+pub mod RunsBack
 pub mod Scales
+pub mod Stops
 pub mod Units

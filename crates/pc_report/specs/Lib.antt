@@ -1,4 +1,5 @@
 pub mod Report
 pub mod RunLines
+pub mod Shown
 pub mod Summary
 pub mod Units

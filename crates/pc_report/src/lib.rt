@@ -2,6 +2,7 @@
 #![tactic(auto)]
 
 mod answer;
+mod laws;
 mod report;
 mod runs;
 mod summary;
@@ -9,6 +10,7 @@ mod summary;
 mod tests;
 mod value;
 
+pub use laws::reports_tell_their_blocks;
 pub use report::put_report;
 pub use runs::put_runs;
 pub use summary::put_summary;

@@ -1,0 +1,111 @@
+-- Blocks that a report tells apart, and what it tells of them.
+use Rattle.std.specs.Prelude.{◌≡◌, ℕ, ◌<◌, ◌^◌, ℤ, pos, true, ◌||◌, ⊤, List, length, All, Option, Some, None, IfSome, IsSomeAnd, is_none, slice_get}
+use Rattle.std.specs.List.{AllZip}
+use Rattle.pc_num.specs.Fractions.{IsFrac}
+use Rattle.pc_num.specs.Signs.{Fits}
+use Rattle.pc_num.specs.declared.fraction.Frac.{Frac}
+use Rattle.pc_model.specs.declared.schema.Kind.{Kind}
+use Rattle.pc_model.specs.declared.schema.Kind.TheVariants.{Int, Dec, Cat}
+use Rattle.pc_model.specs.declared.schema.Column.{Column}
+use Rattle.pc_model.specs.declared.schema.Schema.{Schema}
+use Rattle.pc_model.specs.declared.row.Run.{Run}
+use Rattle.pc_model.specs.declared.query.Agg.{Agg}
+use Rattle.pc_model.specs.declared.query.Agg.TheVariants as aggs
+use Rattle.pc_model.specs.Accepted.{IsQuery}
+use Rattle.pc_model.specs.Places.{is_below}
+use Rattle.pc_model.specs.Right.{always_has_value, is_always, is_impossible, is_silent}
+use Rattle.pc_proof.specs.declared.answer.Relation.{Relation}
+use Rattle.pc_proof.specs.declared.answer.Relation.TheVariants as relations
+use Rattle.pc_proof.specs.declared.answer.Lack.{Lack}
+use Rattle.pc_proof.specs.declared.answer.Lack.TheVariants as lacks
+use Rattle.pc_proof.specs.declared.answer.Mark.{Mark}
+use Rattle.pc_proof.specs.declared.answer.Mark.TheVariants as marks
+use Rattle.pc_proof.specs.declared.answer.End.{End}
+use Rattle.pc_proof.specs.declared.document.Block.{Block}
+use Rattle.pc_proof.specs.Unbroken.{plain_answer, plain_lack, plain_relation}
+
+-- ---- runs
+
+-- a number that fits, and of a column of names the place of one of them
+abbrev pub IsCell : Kind → ℤ → Type 0
+IsCell (Int low high) cell = Fits cell
+IsCell (Dec scale low high) cell = Fits cell
+IsCell (Cat names) cell = is_below (length names) cell ≡ true
+
+abbrev pub IsCellOf : Column → ℤ → Type 0
+IsCellOf column cell = IsCell column.kind cell
+
+-- one number per column
+pub record IsShownRun (schema : Schema) (run : Run) : Type 0 where
+  pub few : run.times < 2 ^ 64
+  pub cells : AllZip IsCellOf schema.columns run.row.cells
+
+abbrev pub AreShownRuns : Schema → List Run → Type 0
+AreShownRuns schema runs = All (IsShownRun schema) runs
+
+-- ---- parts of answers
+
+abbrev pub IsShownRelation : Schema → Relation → Type 0
+IsShownRelation schema (relations.Possible runs) = AreShownRuns schema runs
+IsShownRelation schema (relations.Impossible why) = ⊤
+IsShownRelation schema relations.Undecided = ⊤
+
+abbrev pub IsShownLack : Schema → Lack → Type 0
+IsShownLack schema lacks.Silent = ⊤
+IsShownLack schema (lacks.Never by') = ⊤
+IsShownLack schema (lacks.Sometimes without with') = AreShownRuns schema without × AreShownRuns schema with'
+IsShownLack schema (lacks.Always by') = ⊤
+IsShownLack schema lacks.Undecided = ⊤
+
+abbrev pub IsShownMark : Schema → Mark → Type 0
+IsShownMark schema (marks.Exact runs) = AreShownRuns schema runs
+IsShownMark schema marks.Outer = ⊤
+
+pub record IsWhole (value : Frac) : Type 0 where
+  pub fits : Fits value.num
+  pub one : value.den ≡ pos 1
+
+-- a whole number, and of an average a fraction in lowest terms
+abbrev pub IsShownValue : Agg → Frac → Type 0
+IsShownValue aggs.Count value = IsWhole value
+IsShownValue aggs.Sum value = IsWhole value
+IsShownValue aggs.Min value = IsWhole value
+IsShownValue aggs.Max value = IsWhole value
+IsShownValue aggs.Avg value = IsFrac value
+
+pub record IsShownEnd (schema : Schema) (agg : Agg) (end : End) : Type 0 where
+  pub value : IsShownValue agg end.value
+  pub mark : IsShownMark schema end.mark
+
+abbrev pub AreShownEnds : Schema → Agg → Option (End × End) → Type 0
+AreShownEnds schema agg ends = IfSome ends (λ (ends : End × End). IsShownEnd schema agg ends.0 × IsShownEnd schema agg ends.1)
+
+-- ---- blocks
+
+-- the place of one of the names of a column
+abbrev pub IsNameOf : ℕ → Kind → Type 0
+IsNameOf place (Int low high) = ⊥
+IsNameOf place (Dec scale low high) = ⊥
+IsNameOf place (Cat names) = place < length names
+
+abbrev pub IsGroupName : Schema → Option ℕ → Option ℕ → Type 0
+IsGroupName schema None name = ⊤
+IsGroupName schema (Some group) None = ⊤
+IsGroupName schema (Some group) (Some place) = IsSomeAnd (slice_get schema.columns group) (λ (column : Column). IsNameOf place column.kind)
+
+-- a block of which the report is read back
+pub record IsShown (schema : Schema) (block : Block) : Type 0 where
+  pub query : IsQuery schema block.query
+  pub named : is_none block.name ≡ is_none block.query.group
+  pub name : IsGroupName schema block.query.group block.name
+  pub relation : IsShownRelation schema block.answer.relation
+  pub lack : IsShownLack schema block.answer.lack
+  pub ends : AreShownEnds schema block.query.agg block.answer.ends
+  pub silent : is_silent (plain_lack block.answer.lack) ≡ (always_has_value block.query.agg || is_impossible (plain_relation block.answer.relation))
+  pub absent : is_none block.answer.ends ≡ (is_impossible (plain_relation block.answer.relation) || is_always (plain_lack block.answer.lack))
+
+-- two blocks that say the same, whatever shows it
+pub record SaysAlike (a b : Block) : Type 0 where
+  pub query : a.query ≡ b.query
+  pub name : a.name ≡ b.name
+  pub answer : plain_answer a.answer ≡ plain_answer b.answer
