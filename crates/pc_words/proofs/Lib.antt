@@ -1,0 +1,5 @@
+mod Agreement
+mod FoundRows
+mod Parses
+mod WordKinds
+mod WordSteps
