@@ -1,21 +1,20 @@
 -- `clap`'s walk over the words gives what the definitions say of them.
-use Rattle.std.proofs.Common.{◌≡◌, ◌∙◌, ◌&&◌, ◌||◌, ◌==◌, ℕ, Bool, true, false, List, [], ◌∷◌, ◌++◌, Option, Some, None, codes, refl, sym, ap, subst, arith, length, inl, inr, ◌⊎◌, take, drop, true≢false}
+use Rattle.std.proofs.Common.{◌≡◌, ◌∙◌, ◌&&◌, ◌||◌, ◌==◌, ℕ, Bool, true, false, List, [], ◌∷◌, ◌++◌, Option, Some, None, codes, refl, sym, ap, subst, length, inl, inr, ◌⊎◌, take, drop}
 use Rattle.std.specs.Prelude.{⊤, not, if◌then◌else◌, fold, option_and_then, option_map, IfSome, nat_lt, nat_le}
-use Rattle.std.specs.Char.{is_ascii_digit}
-use Rattle.std.specs.List.{list_all, AllByRecursion}
+use Rattle.std.specs.List.{AllByRecursion}
 use Rattle.std.specs.Str.{bytes_eq, IsUtf8}
 use Rattle.std.specs.Str.Parse.{digits_value}
 use Rattle.std.proofs.lemmas.List.{append-nil, append_assoc}
 use Rattle.clap.specs.Kinds.{Kinds, or_else}
-use Rattle.clap.specs.Walk.{Held, Row, Waiting, Walk, has_row, idle, is_pending, option, positional, settled, settled_rows, used, walked}
+use Rattle.clap.specs.Walk.{Held, Row, Text, Waiting, Walk, has_row, idle, option, positional, settled, settled_rows, used, walked}
 use Rattle.clap.specs.Takes.{settle_passes, turn_passes, walk_passes}
 use Rattle.clap.specs.Faults.{check_fault, defaults_fault, settle_fault, turn_fault, walk_fault}
 use Rattle.clap.specs.Walk.{finished}
 use Rattle.pc_words.specs.Words.{Given, after_option, after_word, budget_of, given_in, is_option, number_of, value_in, with_plain}
 use Rattle.pc_words.specs.Parsers.{IsRefused}
 use Rattle.pc_words.proofs.FoundRows.{built_rules, has_nodes_row, nodes_built, nodes_used, plain_built, plain_used, rows_with}
-use Rattle.pc_words.proofs.WordKinds.{Text, IsOtherOption, IsPlainWord, by_option, by_word, not_dashes, not_front, not_nodes}
-use Rattle.pc_words.proofs.WordSteps.{IsFaulty, IsOpen, again_faulty, dashes_pass, dashes_walked, faulty_first, faulty_next, for_nodes, for_plain, held_at, long_settles, long_unknown, nodes_pass, nodes_walked, other_unknown, plain_faulty, plain_passes, plain_walked, shape, short_faulty, trailing_faulty, trailing_passes, trailing_walked, value_faulty, value_passes, value_walked, waiting_passes, waiting_walked, walk_at}
+use Rattle.pc_words.proofs.WordKinds.{IsOtherOption, IsPlainWord, by_option, by_word, not_dashes, not_front, not_nodes}
+use Rattle.pc_words.proofs.WordSteps.{IsFaulty, IsOpen, again_faulty, dashes_pass, dashes_walked, faulty_first, for_nodes, for_plain, held_at, long_settles, long_unknown, nodes_pass, nodes_walked, other_unknown, plain_faulty, plain_passes, plain_walked, shape, short_faulty, trailing_faulty, trailing_passes, trailing_walked, value_faulty, value_passes, value_walked, waiting_passes, waiting_walked, walk_at}
 
 -- ---- from a place in the words to their end
 
@@ -378,7 +377,7 @@ module _ (name : Text) (rest : List Text) where
       let after = settled_rows (built_rules true) pending rows in
       inr (
         fails_later name true (walk_at rows pending waiting false) (walk_at after (for_nodes []) (option (codes "nodes")) false) (codes "--nodes") rest (nodes_walked rows pending waiting)
-        (waiting_again name after (old_nodes after known before stands.nodes_first stands.settled) rest texts),
+            (waiting_again name after (old_nodes after known before stands.nodes_first stands.settled) rest texts),
         refused_as name true (given_in true (codes "--nodes" ∷ rest) false (Some known)) (given_word true (codes "--nodes") rest (Some known)),
       )
 
@@ -395,7 +394,7 @@ module _ (name : Text) (rest : List Text) where
       let after = settled_rows (built_rules true) pending rows in
       inr (
         fails_here name true (walk_at rows pending waiting false) (codes "--nodes=" ++ found) rest
-        (value_faulty name rows pending waiting found (old_nodes after known before stands.nodes_first stands.settled)),
+            (value_faulty name rows pending waiting found (old_nodes after known before stands.nodes_first stands.settled)),
         refused_as name true (given_in true ((codes "--nodes=" ++ found) ∷ rest) false (Some known)) (given_word true (codes "--nodes=" ++ found) rest (Some known)),
       )
 
@@ -404,7 +403,7 @@ module _ (name : Text) (rest : List Text) where
       inr (
         fails_here name true (walk_at rows pending waiting false) (45 ∷ 45 ∷ first ∷ word) rest (other_unknown name rows pending first word waiting other),
         refused_as name true (given_in true ((45 ∷ 45 ∷ first ∷ word) ∷ rest) false known)
-        (given_word true (45 ∷ 45 ∷ first ∷ word) rest known ∙ no_option true (45 ∷ 45 ∷ first ∷ word) known (given_in true rest) other.word other.front),
+            (given_word true (45 ∷ 45 ∷ first ∷ word) rest known ∙ no_option true (45 ∷ 45 ∷ first ∷ word) known (given_in true rest) other.word other.front),
       )
 
   abbrev opens_long : Text → Type 0
@@ -446,6 +445,6 @@ agrees_nodes name [] texts = (
 agrees_nodes name (word ∷ rest) texts =
     let later = agrees_nodes name rest texts.1 in (
       by_word (λ w. IsUtf8 w → AgreesOpen name true (w ∷ rest)) (λ w plain text. step_plain name true w rest plain later.0) (λ text. step_dashes name true rest)
-      (λ first w text. step_long name rest texts.1 later.0 later.1 first w) (λ first w e text. step_short name true first w rest e text) word texts.0,
+          (λ first w text. step_long name rest texts.1 later.0 later.1 first w) (λ first w e text. step_short name true first w rest e text) word texts.0,
       step_waiting name rest word texts.0 later.0,
     )

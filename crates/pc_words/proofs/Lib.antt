@@ -1,4 +1,5 @@
 mod Agreement
+mod Digits
 mod FoundRows
 mod Parses
 mod WordKinds

@@ -1,22 +1,21 @@
 -- What a parse of the words gives, by `clap`'s clauses, is what the definitions say of them.
-use Rattle.std.proofs.Common.{◌≡◌, ◌∙◌, ◌&&◌, Bool, true, false, List, [], ◌∷◌, Option, Some, None, codes, refl, sym, ap, subst, map, inl, inr, string_bytes, String}
-use Rattle.std.specs.Prelude.{unwrap_or, option_map}
+use Rattle.std.proofs.Common.{◌≡◌, ◌∙◌, ◌&&◌, Bool, true, false, List, [], ◌∷◌, Option, None, codes, refl, sym, ap, subst, map, inl, inr, string_bytes, String}
+use Rattle.std.specs.Prelude.{unwrap_or}
 use Rattle.std.specs.List.{AllByRecursion}
 use Rattle.std.specs.Str.{IsUtf8}
 use Rattle.std.proofs.lemmas.Str.{IsUtf8-string_bytes}
-use Rattle.clap.specs.Words.{App, HasMatchesOf, all_of, first_of, found_of, is_simple, is_simple_and_free, fault_of, matched_of, matches_of, raw_values, rows_of, takes}
+use Rattle.clap.specs.Words.{HasMatchesOf, all_of, first_of, found_of, is_simple, is_simple_and_free, fault_of, matches_of, takes}
 use Rattle.clap.specs.Simple.{built}
 use Rattle.clap.specs.Takes.{built_takes, level_passes}
-use Rattle.clap.specs.Walk.{idle, nothing_held, walk_from}
+use Rattle.clap.specs.Walk.{Text, idle, nothing_held, walk_from}
 use Rattle.clap.specs.declared.parser.matches.ArgMatches.{ArgMatches}
 use Rattle.clap.proofs.FaultLemmas.{leaf_fault}
 use Rattle.clap.proofs.TakesLemmas.{leaf_takes}
 use Rattle.clap.proofs.WalkLemmas.{first_value-rows, raw_values-rows}
 use Rattle.pc_words.specs.Words.{Given, given}
-use Rattle.pc_words.specs.Parsers.{Holds, IsFound, IsRefused, parser_app}
+use Rattle.pc_words.specs.Parsers.{Holds, IsRefused, parser_app}
 use Rattle.pc_words.proofs.Agreement.{Agrees, IsTaken, agrees_bare, agrees_nodes, fault_from, Stands}
-use Rattle.pc_words.proofs.FoundRows.{built_rules, finished_rows, plain_of_rows, rows_with, value_of_rows}
-use Rattle.pc_words.proofs.WordKinds.{Text}
+use Rattle.pc_words.proofs.FoundRows.{finished_rows, plain_of_rows, rows_with, value_of_rows}
 use Rattle.pc_words.proofs.WordSteps.{IsFaulty, shape}
 
 nothing_stands : (has_nodes : Bool) → Stands has_nodes [] None None []
@@ -65,7 +64,7 @@ module _ (name : Text) (has_nodes : Bool) (words : List Text) (texts : AllByRecu
           given = taken.given;
           value = first_value-rows (found_of found) (codes "nodes") ∙ ap (first_of (codes "nodes")) rows ∙ value_of_rows taken.are.value taken.are.plain taken.nodes_first;
           plain = ap (λ all. unwrap_or all []) (raw_values-rows (found_of found) (codes "words") ∙ ap (all_of (codes "words")) rows)
-          ∙ plain_of_rows taken.are.value taken.are.plain taken.nodes_first;
+              ∙ plain_of_rows taken.are.value taken.are.plain taken.nodes_first;
         }
     | inr fails ↦ absurd (subst IsFaulty (sym (faults name has_nodes words) ∙ none) fails.0)
   ]

@@ -1,5 +1,5 @@
 -- What a word looks like, to `clap` and to the definitions.
-use Rattle.std.proofs.Common.{◌≡◌, ◌≢◌, ◌∙◌, ◌<◌, ◌≤◌, ◌==◌, ℕ, Bool, true, false, List, [], ◌∷◌, ◌++◌, Option, Some, None, codes, refl, sym, ap, subst, arith, length, take, drop, get_or, inl, inr, ◌⊎◌, eqb-true, true≢false}
+use Rattle.std.proofs.Common.{◌≡◌, ◌∙◌, ◌==◌, ℕ, Bool, true, false, List, [], ◌∷◌, ◌++◌, Some, None, codes, refl, sym, ap, subst, arith, length, take, drop, get_or, inl, inr, ◌⊎◌, eqb-true}
 use Rattle.std.specs.Str.{bytes_eq, chars, encode_utf8_all, IsUtf8}
 use Rattle.std.specs.Prelude.{if◌then◌else◌, slice_get}
 use Rattle.std.specs.List.{before_first, after_first, position_or_len}
@@ -10,10 +10,8 @@ use Rattle.std.proofs.lemmas.Bool.{cases_lt}
 use Rattle.std.proofs.lemmas.List.{append-nil, take-append-drop, take_all}
 use Rattle.std.proofs.lemmas.List.Sums.{split_at_first, passes_at_first}
 use Rattle.clap.specs.Lexer.{long_of, short_of}
+use Rattle.clap.specs.Walk.{Text}
 use Rattle.pc_words.specs.Words.{is_option}
-
-abbrev pub Text : Type 0
-Text = List ℕ
 
 -- no option, and no end of options
 pub record IsPlainWord (word : Text) : Type 0 where
@@ -93,7 +91,7 @@ cut text = elim (cases_lt (position_or_len (λ byte. byte == 61) text) (length t
       inr (
         after_first (λ byte. byte == 61) text,
         split_at_first (λ byte. byte == 61) text 0 within
-        ∙ ap (λ byte. before_first (λ b. b == 61) text ++ byte ∷ after_first (λ b. b == 61) text) equal,
+            ∙ ap (λ byte. before_first (λ b. b == 61) text ++ byte ∷ after_first (λ b. b == 61) text) equal,
       )
   | inr past ↦ inl (take_all (position_or_len (λ byte. byte == 61) text) text past)
 ]

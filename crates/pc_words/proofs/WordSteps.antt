@@ -1,20 +1,20 @@
 -- One step of `clap`'s walk over the words, by what the word is.
-use Rattle.std.proofs.Common.{◌≡◌, ◌∙◌, ◌&&◌, ◌||◌, ◌==◌, ℕ, suc, Bool, true, false, not, cond, List, [], ◌∷◌, ◌++◌, Option, Some, None, codes, refl, sym, ap, subst, arith, length, drop, true≢false}
-use Rattle.std.specs.Prelude.{⊤, if◌then◌else◌, fold, slice_get}
+use Rattle.std.proofs.Common.{◌≡◌, ◌∙◌, ◌&&◌, ◌||◌, ◌==◌, ℕ, suc, Bool, true, false, List, [], ◌∷◌, ◌++◌, Option, Some, None, codes, refl, sym, ap, subst, length, drop, true≢false}
+use Rattle.std.specs.Prelude.{⊤, if◌then◌else◌, slice_get}
 use Rattle.std.specs.Str.{bytes_eq, chars, IsUtf8}
 use Rattle.std.specs.List.{before_first}
 use Rattle.std.specs.Prelude.{encode_utf8}
 use Rattle.clap.specs.Kinds.{Kinds, or_else, range_kinds}
 use Rattle.clap.specs.declared.error.kind.ErrorKind.TheVariants.{ArgumentConflict}
-use Rattle.clap.specs.Walk.{Held, Row, Rule, Step, Waiting, Walk, arg_by_long, arg_by_short, after_step, has_row, idle, is_pending, long_or_other, next, option, positional, pushed, settled, settled_rows, short_or_plain, takes_several, trailing, used, value, values_or_missing, walked, word_met}
+use Rattle.clap.specs.Walk.{Held, Row, Rule, Step, Text, Waiting, Walk, arg_by_long, arg_by_short, after_step, has_row, idle, is_pending, long_or_other, option, positional, pushed, settled, settled_rows, short_or_plain, trailing, used, value, values_or_missing, walked, word_met}
 use Rattle.clap.specs.Takes.{settle_passes, step_passes, turn_passes, word_passes}
 use Rattle.clap.specs.Faults.{bundle_fault, bundle_step_fault, flag_word_fault, flags_fault, long_fault, react_fault, repeat_fault, set_fault, settle_fault, short_fault, step_fault, turn_fault, use_fault, values_fault, word_fault}
 use Rattle.clap.specs.Simple.{Shape, built}
-use Rattle.clap.specs.Lexer.{long_of, name_and_value, short_of}
+use Rattle.clap.specs.Lexer.{long_of, name_and_value}
 use Rattle.std.specs.Option.{option_map_or}
 use Rattle.pc_words.specs.Parsers.{parser_app}
 use Rattle.pc_words.proofs.FoundRows.{built_rules, nodes_built, plain_built}
-use Rattle.pc_words.proofs.WordKinds.{Text, IsPlainWord, IsOtherOption, character_after, flags_are, not_dashes, not_long}
+use Rattle.pc_words.proofs.WordKinds.{IsPlainWord, IsOtherOption, character_after, flags_are, not_dashes, not_long}
 
 -- ---- kinds of errors
 
@@ -230,10 +230,10 @@ module _ (name : Text) (rows : List Row) (pending : Option (Text × List Text)) 
   long_unknown positional first rest = tt
 
 -- of the command with `--nodes`
-other_fault_is : (name : Text) (h : Held) (found : Option Text) (test : Bool) → test ≡ false
+other_fault_is : (h : Held) (found : Option Text) (test : Bool) → test ≡ false
     → IsFaulty (long_fault (built_rules true) false (if test || false then Some nodes_built else None) found h)
-other_fault_is name h found true e = absurd (true≢false e)
-other_fault_is name h found false e = tt
+other_fault_is h found true e = absurd (true≢false e)
+other_fault_is h found false e = tt
 
 settling_fault_is : (h : Held) (found : Option Text) (test : Bool) → IsFaulty (settle_fault (built_rules true) false h)
     → IsFaulty (long_fault (built_rules true) false (if test || false then Some nodes_built else None) found h)
@@ -256,7 +256,7 @@ module _ (name : Text) (rows : List Row) (pending : Option (Text × List Text)) 
 
   pub other_unknown : (waiting : Waiting) → IsOtherOption (first ∷ rest) → IsFaulty (turn_fault (shape name true) [] (walk_at rows pending waiting false) word)
   other_unknown waiting other = turn_faulty waiting
-      (other_fault_is name (held_at rows pending) (name_and_value (first ∷ rest)).1 (bytes_eq (codes "nodes") (before_first (λ byte. byte == 61) (first ∷ rest))) other.name)
+      (other_fault_is (held_at rows pending) (name_and_value (first ∷ rest)).1 (bytes_eq (codes "nodes") (before_first (λ byte. byte == 61) (first ∷ rest))) other.name)
 
   -- whichever it is, what is pending is used first
   pub long_settles : (waiting : Waiting) → IsFaulty (settle_fault (built_rules true) false (held_at rows pending))

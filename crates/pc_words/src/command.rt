@@ -98,7 +98,7 @@ fn read_gen<'a>(alloc: Global, words: &'a [String]) -> Result<Option<Command<'a>
 
 /// How many nodes each search may have, by the value of `--nodes`.
 fn budget_of(value: Option<&str>) -> Option<u32>
-    ensures spells { result ≡ budget_of (option_map (λ text. text.now) value) }
+    ensures spells { result ≡ budget_of (option_map (λ text. text.now) value.entry) }
     ensures within { IfSome result IsBudget }
 {
     match value {
@@ -108,11 +108,7 @@ fn budget_of(value: Option<&str>) -> Option<u32>
 }
 
 /// `bound` of three files, and one query or more.
-fn bound_at<'a>(
-    alloc: Global,
-    plain: &[&'a str],
-    nodes: u32,
-) -> Result<Option<Command<'a>>, Memory>
+fn bound_at<'a>(alloc: Global, plain: &[&'a str], nodes: u32) -> Result<Option<Command<'a>>, Memory>
     requires { IsBudget nodes }
     ensures reads { IfOk result (λ found. option_map asked_in found ≡ bound_at (map (λ text. text.now) plain.now) nodes) }
     ensures numbers { IfOk result (λ found. IfSome found HasNumbers) }

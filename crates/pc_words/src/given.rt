@@ -92,10 +92,7 @@ fn plain_words<'a>(alloc: Global) -> Arg<'a>
 }
 
 /// An error of `clap` that is not want of memory is none of a call's own.
-fn found_in<'a>(
-    command: Command<'a>,
-    words: &'a [String],
-) -> Result<Option<ArgMatches<'a>>, Memory>
+fn found_in<'a>(command: Command<'a>, words: &'a [String]) -> Result<Option<ArgMatches<'a>>, Memory>
     ensures { (name : List ℕ) (has_nodes : Bool) → app_of command.entry ≡ parser_app name has_nodes → IfOk result (IsFound has_nodes (map string_bytes words.now)) }
 {
     match command.try_get_matches_from(words) {

@@ -60,8 +60,14 @@ static CALLS: [(&str, &str); 66] = [
     ("bound s r -- c q", "bound 10000 s r c q"),
     ("bound s r c -- -q", "bound 10000 s r c -q"),
     ("bound -- s r -- q", "bound 10000 s r -- q"),
-    ("bound s r c q -- --nodes 5", "bound 10000 s r c q --nodes 5"),
-    ("bound --nodes 5 -- s r c --nodes=6", "bound 5 s r c --nodes=6"),
+    (
+        "bound s r c q -- --nodes 5",
+        "bound 10000 s r c q --nodes 5",
+    ),
+    (
+        "bound --nodes 5 -- s r c --nodes=6",
+        "bound 5 s r c --nodes=6",
+    ),
     ("bound --nodes -- s r c q", "-"),
     ("bound s r c q --", "bound 10000 s r c q"),
     // how many words
@@ -102,7 +108,10 @@ static DRAWS: [(&str, &str); 15] = [
 ];
 
 fn put_bound(alloc: Global, told: &mut String, command: &Bound<'_>) -> Result<(), Fail> {
-    let head = format!(in alloc; "bound {} {} {} {}", command.nodes, command.schema, command.rows, command.constraints)?;
+    let head = format!(in alloc;
+        "bound {} {} {} {}",
+        command.nodes, command.schema, command.rows, command.constraints
+    )?;
     told.push_str(head.as_str())?;
     for query in command.queries.as_slice() {
         told.push_str(" ")?;
@@ -162,7 +171,13 @@ fn calls(rt: HostRuntime) -> Result<(), Fail> {
 #[test]
 fn how_many_queries(rt: HostRuntime) -> Result<(), Fail> {
     let sixteen = "bound s r c 1 2 3 4 5 6 7 8 9 10 11 12 13 14 15 16";
-    assert!(rt; is_told(rt.alloc(), sixteen, "bound 10000 s r c 1 2 3 4 5 6 7 8 9 10 11 12 13 14 15 16")?);
+    assert!(rt;
+        is_told(
+            rt.alloc(),
+            sixteen,
+            "bound 10000 s r c 1 2 3 4 5 6 7 8 9 10 11 12 13 14 15 16"
+        )?
+    );
     let seventeen = "bound s r c 1 2 3 4 5 6 7 8 9 10 11 12 13 14 15 16 17";
     assert!(rt; is_told(rt.alloc(), seventeen, "-")?);
     let none: [String; 0] = [];
