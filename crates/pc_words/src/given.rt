@@ -91,7 +91,7 @@ fn plain_words<'a>(alloc: Global) -> Arg<'a>
     Arg::new(alloc, "words").action(ArgAction::Append)
 }
 
-/// An error of `clap` that is not want of memory is none of a call's own.
+/// Where `clap` refuses the words nothing is found: want of memory alone is an error.
 fn found_in<'a>(command: Command<'a>, words: &'a [String]) -> Result<Option<ArgMatches<'a>>, Memory>
     ensures { (name : List ℕ) (has_nodes : Bool) → app_of command.entry ≡ parser_app name has_nodes → IfOk result (IsFound has_nodes (map string_bytes words.now)) }
 {
