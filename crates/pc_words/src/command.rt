@@ -1,7 +1,9 @@
-ghost use Rattle.std.specs.Prelude.{◌≡◌, map, string_bytes, Some, None, IfOk, IfSome, MatchOption};
-ghost use Rattle.pc_words.specs.Words.{command_of};
+ghost use Rattle.std.specs.Prelude.{◌≡◌, map, string_bytes, Some, None, IfOk, IfSome, MatchOption, option_and_then, option_map, true, false};
+ghost use Rattle.pc_words.specs.Words.{bound_at, bound_of, budget_of, command_of, gen_at, gen_of, gen_with, given, show_at, show_of, IsBudget};
 ghost use Rattle.pc_words.specs.Commands.{asked_in, HasNumbers};
 
+use crate::given::{bound_words, gen_words, nodes_in, plain_in, show_words};
+use crate::number::number_of;
 use pc_num::Memory;
 use std::alloc::Global;
 
@@ -40,12 +42,121 @@ pub enum Command<'a> {
     Gen(Gen),
 }
 
+const MOST_NODES: u32 = 100_000;
+
+const MOST_SIZE: u32 = 1_000;
+
+const QUERY_LIMIT: usize = 16;
+
 /// The command that the words are, if they are one.
 pub fn read_command<'a>(alloc: Global, words: &'a [String]) -> Result<Option<Command<'a>>, Memory>
     ensures reads { IfOk result (λ found. MatchOption found (command_of (map string_bytes words.now) ≡ None) (λ command. command_of (map string_bytes words.now) ≡ Some (asked_in command))) }
     ensures numbers { IfOk result (λ found. IfSome found HasNumbers) }
 {
-    let _alloc = alloc;
-    let _words = words;
-    Err(Memory)
+    let Some((name, words)) = words.split_first() else {
+        return Ok(None);
+    };
+    match name.as_str() {
+        "bound" => read_bound(alloc, words),
+        "show" => read_show(alloc, words),
+        "gen" => read_gen(alloc, words),
+        _ => Ok(None),
+    }
+}
+
+fn read_bound<'a>(alloc: Global, words: &'a [String]) -> Result<Option<Command<'a>>, Memory>
+    ensures reads { IfOk result (λ found. option_map asked_in found ≡ option_and_then bound_of (given true (map string_bytes words.now))) }
+    ensures numbers { IfOk result (λ found. IfSome found HasNumbers) }
+{
+    let Some(found) = bound_words(alloc, words)? else {
+        return Ok(None);
+    };
+    let Some(nodes) = budget_of(nodes_in(&found)) else {
+        return Ok(None);
+    };
+    bound_at(alloc, plain_in(&found), nodes)
+}
+
+fn read_show<'a>(alloc: Global, words: &'a [String]) -> Result<Option<Command<'a>>, Memory>
+    ensures reads { IfOk result (λ found. option_map asked_in found ≡ option_and_then show_of (given false (map string_bytes words.now))) }
+    ensures numbers { IfOk result (λ found. IfSome found HasNumbers) }
+{
+    let Some(found) = show_words(alloc, words)? else {
+        return Ok(None);
+    };
+    Ok(show_at(plain_in(&found)))
+}
+
+fn read_gen<'a>(alloc: Global, words: &'a [String]) -> Result<Option<Command<'a>>, Memory>
+    ensures reads { IfOk result (λ found. option_map asked_in found ≡ option_and_then gen_of (given false (map string_bytes words.now))) }
+    ensures numbers { IfOk result (λ found. IfSome found HasNumbers) }
+{
+    let Some(found) = gen_words(alloc, words)? else {
+        return Ok(None);
+    };
+    Ok(gen_at(plain_in(&found)))
+}
+
+/// How many nodes each search may have, by the value of `--nodes`.
+fn budget_of(value: Option<&str>) -> Option<u32>
+    ensures spells { result ≡ budget_of (option_map (λ text. text.now) value.entry) }
+    ensures within { IfSome result IsBudget }
+{
+    match value {
+        Some(word) => number_of(1, MOST_NODES, word),
+        None => Some(USUAL_NODES),
+    }
+}
+
+/// `bound` of three files, and one query or more.
+fn bound_at<'a>(alloc: Global, plain: &[&'a str], nodes: u32) -> Result<Option<Command<'a>>, Memory>
+    requires { IsBudget nodes }
+    ensures reads { IfOk result (λ found. option_map asked_in found ≡ bound_at (map (λ text. text.now) plain.now) nodes) }
+    ensures numbers { IfOk result (λ found. IfSome found HasNumbers) }
+{
+    let [schema, rows, constraints, queries @ ..] = plain else {
+        return Ok(None);
+    };
+    if queries.is_empty() || QUERY_LIMIT < queries.len() {
+        return Ok(None);
+    }
+    Ok(Some(Command::Bound(Bound {
+        nodes,
+        schema: *schema,
+        rows: *rows,
+        constraints: *constraints,
+        queries: queries.to_vec(alloc)?,
+    })))
+}
+
+fn show_at<'a>(plain: &[&'a str]) -> Option<Command<'a>>
+    ensures reads { option_map asked_in result ≡ show_at (map (λ text. text.now) plain.now) }
+    ensures numbers { IfSome result HasNumbers }
+{
+    match plain {
+        [schema, constraints] => Some(Command::Show(Show {
+            schema: *schema,
+            constraints: *constraints,
+        })),
+        _ => None,
+    }
+}
+
+fn gen_at<'a>(plain: &[&'a str]) -> Option<Command<'a>>
+    ensures reads { option_map asked_in result ≡ gen_at (map (λ text. text.now) plain.now) }
+    ensures numbers { IfSome result HasNumbers }
+{
+    match plain {
+        [seed, size] => gen_with(seed, size),
+        _ => None,
+    }
+}
+
+fn gen_with<'a>(seed: &str, size: &str) -> Option<Command<'a>>
+    ensures reads { option_map asked_in result ≡ gen_with seed.now size.now }
+    ensures numbers { IfSome result HasNumbers }
+{
+    let seed = number_of(0, u32::MAX, seed)?;
+    let size = number_of(1, MOST_SIZE, size)?;
+    Some(Command::Gen(Gen { seed, size }))
 }

@@ -2,5 +2,10 @@
 #![tactic(auto)]
 
 mod command;
+mod given;
+mod number;
 
 pub use command::{Bound, Command, Gen, Show, USUAL_NODES, read_command};
+
+#[cfg(test)]
+mod tests;

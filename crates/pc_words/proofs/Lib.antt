@@ -1,0 +1,6 @@
+mod Agreement
+mod Digits
+mod FoundRows
+mod Parses
+mod WordKinds
+mod WordSteps
