@@ -4,6 +4,6 @@ pub mod Cases
 pub mod Documents
 pub mod Files
 pub mod Listings
-pub mod Making
+pub mod MadeCases
 pub mod Meanings
 pub mod StopReplies

@@ -50,7 +50,8 @@ fn read_queries(alloc: Global, schema: &Schema, texts: &[&str]) -> Result<Seq<Qu
 {
     let mut queries = Seq::new(alloc);
     for (place, text) in texts.iter().enumerate() {
-        queries.push(read_query(alloc, schema, text, place as u64 + 1)?)?;
+        let query = read_query(alloc, schema, text, place as u64 + 1)?;
+        queries.push(query).map_err(|_| Refusal::Memory)?;
     }
     Ok(queries)
 }
