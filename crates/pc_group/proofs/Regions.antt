@@ -1,6 +1,6 @@
 -- The regions of the wanted blocks, query by query and name by name.
 use Rattle.std.proofs.Common.{◌≡◌, ℕ, zero, suc, ◌+◌, ◌<◌, ◌≤◌, true, List, [], ◌∷◌, ◌++◌, length, map, get_or, take, All, Option, Some, None, refl, sym, ap, subst, ◌∙◌, arith}
-use Rattle.std.specs.Prelude.{flat_map, slice_get}
+use Rattle.std.specs.Prelude.{flat_map}
 use Rattle.std.proofs.lemmas.Grind.{flat_map-append}
 use Rattle.std.proofs.lemmas.List.{append-nil, append_assoc, map-append, map_more, take_all, take_more}
 use Rattle.std.proofs.lemmas.List.Elements.{All-nil, All-append, All-cons, All-contains, All-head, All-map, All-tail, All-weaker, Contains-append_left, Contains-append_right, Contains-get_or}
@@ -65,9 +65,18 @@ module _ (schema : Schema) (queries : List Query) where
   pub regions_whole : (regions : List Region) (i : ℕ) → length queries ≤ i → regions ≡ map region_of (wanted schema (take i queries)) → regions ≡ map region_of (wanted schema queries)
   regions_whole regions i past so_far = so_far ∙ ap (map region_of) (wanted_whole i past)
 
+pub none_wanted : (schema : Schema) → [] ≡ wanted schema []
+unfolding wanted
+none_wanted schema = refl
+
 module _ (query : Query) (names : List ℕ) where
-  pub names_more : (i name : ℕ) → i < length names → name ≡ get_or names i name → map (wanted_of query) (take (i + 1) names) ≡ map (wanted_of query) (take i names) ++ wanted_of query name ∷ []
-  names_more i name inside is = map_more (wanted_of query) names i name inside ∙ ap (λ (n : ℕ). map (wanted_of query) (take i names) ++ wanted_of query n ∷ []) (sym is)
+  names_more : (i d : ℕ) → i < length names → map (wanted_of query) (take (i + 1) names) ≡ map (wanted_of query) (take i names) ++ wanted_of query (get_or names i d) ∷ []
+  names_more i d inside = map_more (wanted_of query) names i d inside
+
+  -- the blocks of names after those before
+  pub blocks_more : (blocks : List Wanted) (i d : ℕ) → i < length names → (blocks ++ map (wanted_of query) (take i names)) ++ wanted_of query (get_or names i d) ∷ [] ≡ blocks ++ map (wanted_of query) (take (i + 1) names)
+  blocks_more blocks i d inside =
+      append_assoc blocks (map (wanted_of query) (take i names)) (wanted_of query (get_or names i d) ∷ []) ∙ ap (λ (l : List Wanted). blocks ++ l) (sym (names_more i d inside))
 
   -- the regions of names after those before
   pub parts_none : (regions : List Region) → regions ≡ regions ++ map region_of (map (wanted_of query) (take 0 names))
@@ -77,9 +86,10 @@ module _ (query : Query) (names : List ℕ) where
       regions ++ region_of (wanted_of query name) ∷ [] ≡ before ++ map region_of (map (wanted_of query) (take (i + 1) names))
   parts_more before regions i name inside is so_far =
       ap (λ (l : List Region). l ++ region_of (wanted_of query name) ∷ []) so_far
-      ∙ append_assoc before (map region_of (map (wanted_of query) (take i names))) (region_of (wanted_of query name) ∷ [])
+      ∙ ap (λ (n : ℕ). (before ++ map region_of (map (wanted_of query) (take i names))) ++ region_of (wanted_of query n) ∷ []) is
+      ∙ append_assoc before (map region_of (map (wanted_of query) (take i names))) (region_of (wanted_of query (get_or names i name)) ∷ [])
       ∙ ap (λ (l : List Region). before ++ l)
-      (sym (ap (map region_of) (names_more i name inside is) ∙ map-append region_of (map (wanted_of query) (take i names)) (wanted_of query name ∷ [])))
+      (sym (ap (map region_of) (names_more i name inside) ∙ map-append region_of (map (wanted_of query) (take i names)) (wanted_of query (get_or names i name) ∷ [])))
 
   pub parts_whole : (before regions : List Region) (i : ℕ) → length names ≤ i → regions ≡ before ++ map region_of (map (wanted_of query) (take i names)) → regions ≡ before ++ map region_of (map (wanted_of query) names)
   parts_whole before regions i past so_far = so_far ∙ ap (λ (l : List ℕ). before ++ map region_of (map (wanted_of query) l)) (take_all i names past)
@@ -134,7 +144,9 @@ module _ (schema : Schema) where
     divided_of queries i query inside is each =
         subst (λ (q : Query). AreDividedFor schema constraints nodes (wanted_by schema q)) (sym is) (flat_part (wanted_by schema) (λ (w : Wanted). IsDividedFor schema constraints (region_of w) nodes) queries i query inside each)
 
-    pub divided_at : (query : Query) (names : List ℕ) (i name : ℕ) → i < length names → name ≡ get_or names i name → AreDividedFor schema constraints nodes (map (wanted_of query) names) → IsDividedFor schema constraints (region_of (wanted_of query name)) nodes
-    divided_at query names i name inside is each =
-        subst (λ (n : ℕ). IsDividedFor schema constraints (region_of (wanted_of query n)) nodes) (sym is)
-        (images (λ (w : Wanted). IsDividedFor schema constraints (region_of w) nodes) (wanted_of query) names each i name inside)
+    -- of a query without a group
+    pub divided_alone : (query : Query) → query.group ≡ None → AreDividedFor schema constraints nodes (wanted_by schema query) → IsDividedFor schema constraints (region_of (record { query = query; name = None })) nodes
+    divided_alone query is each = subst (AreDividedFor schema constraints nodes) (ungrouped schema query is) each 0 (record { query = query; name = None }) (omega arith)
+
+    pub divided_at : (query : Query) (names : List ℕ) (i d : ℕ) → i < length names → AreDividedFor schema constraints nodes (map (wanted_of query) names) → IsDividedFor schema constraints (region_of (wanted_of query (get_or names i d))) nodes
+    divided_at query names i d inside each = images (λ (w : Wanted). IsDividedFor schema constraints (region_of w) nodes) (wanted_of query) names each i d inside

@@ -93,12 +93,7 @@ pub(crate) fn allowed_names(
     Ok(names)
 }
 
-fn with_name(
-    chosen: &Region,
-    column: u8,
-    place: u32,
-    names: Seq<u32>,
-) -> Result<Seq<u32>, Memory>
+fn with_name(chosen: &Region, column: u8, place: u32, names: Seq<u32>) -> Result<Seq<u32>, Memory>
     ensures { IfOk result (λ more. more ≡ names ++ (if is_allowed chosen.now column place then place ∷ [] else [])) }
 {
     let mut more = names;

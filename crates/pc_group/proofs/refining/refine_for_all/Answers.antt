@@ -1,4 +1,4 @@
-use Rattle.std.proofs.Common.{◌≡◌, List, All, subst, arith}
+use Rattle.std.proofs.Common.{List, All, subst, arith}
 use Rattle.std.proofs.lemmas.List.{take_all}
 use Rattle.pc_model.specs.declared.region.Region.{Region}
 use Rattle.pc_tree.specs.Linked.{IsDividedFor}
