@@ -1,3 +1,4 @@
 pub mod Answers
 pub mod Trees
 pub mod Wanted
+pub mod Written

@@ -11,6 +11,9 @@ ghost use Rattle.pc_group.specs.Answers.{AnswersWanted};
 ghost use Rattle.pc_group.specs.Trees.{Told, KeepsInner, AreDividedFor, AreOfTree, AreWritten, told};
 ghost use Rattle.pc_group.specs.Wanted.{wanted};
 
+use crate::answering::answer_queries;
+use crate::refining::refine_for_all;
+use crate::wanted::regions_of;
 use pc_cells::Shared;
 use pc_model::{Constraint, Query, Schema};
 use pc_num::Memory;
@@ -42,8 +45,12 @@ pub fn answer_with(
     ensures shared { IfOk result (λ document. AreOfTree shared.new.nodes (told document.blocks)) }
     ensures written { IfOk result (λ document. AreWritten document.blocks) }
 {
-    let _given = (alloc, schema, rows, constraints, queries, shared, nodes);
-    Err(Memory)
+    let regions = regions_of(alloc, schema, queries)?;
+    refine_for_all(schema, constraints, regions.as_slice(), shared)?;
+    let written = answer_queries(alloc, schema, rows, constraints, queries, shared, nodes)?;
+    Ok(Document {
+        blocks: written.blocks,
+    })
 }
 
 /// The blocks of a case's queries, by searches of at most so many nodes each, over one tree of cuts.

@@ -1,0 +1,8 @@
+mod GroupNames
+mod Inner
+mod Narrowed
+mod Owing
+mod Regions
+mod SameNodes
+mod SeenSums
+mod Telling

@@ -1,0 +1,11 @@
+use Rattle.std.proofs.Common.{None}
+use Rattle.pc_group.proofs.Regions.{divided_alone}
+use Rattle.pc_group.proofs.SeenSums.{seen_small}
+use Rattle.pc_group.proofs.answering.answer_query.Goals as goal
+
+pub answer_block-requires-clause-small_seen : goal.answer_block-requires-clause-small_seen
+answer_block-requires-clause-small_seen c =
+    seen_small c.args.schema.now c.args.query.now c.args.rows.now c.requires.well_formed c.requires.seen None c.fold-seen.result c.fold-seen.ensures.folded c.fold-seen.ensures.few
+
+pub answer_block-requires-clause-divided : goal.answer_block-requires-clause-divided
+answer_block-requires-clause-divided c = divided_alone c.args.schema.now c.args.constraints.now c.args.shared.now.nodes c.args.query.now c.in_default.is c.requires.divided

@@ -1,0 +1,142 @@
+ghost use Rattle.std.specs.Prelude.{◌≡◌, ◌<◌, ◌≤◌, ◌++◌, ◌∷◌, [], ℕ, map, All, IfOk, IfSome, Some, slice_get, if◌then◌else◌};
+ghost use Rattle.pc_model.specs.CutTrees.{side_at};
+ghost use Rattle.pc_model.specs.WellFormed.{IsWellFormed, HasFewNames};
+ghost use Rattle.pc_group.specs.Wanted.{Wanted, allowed_names, is_allowed, names_at, names_in, region_of, wanted, wanted_by, wanted_of};
+
+use crate::narrowing::narrowed;
+use pc_list::Seq;
+use pc_model::{Kind, Query, Region, Schema, Side};
+use pc_num::Memory;
+use std::alloc::Global;
+
+/// The regions of the blocks that the queries want.
+#[tactic(auto, using(crate::proofs::Regions::by_query))]
+pub(crate) fn regions_of(
+    alloc: Global,
+    schema: &Schema,
+    queries: &[Query],
+) -> Result<Seq<Region>, Memory>
+    requires { IsWellFormed schema.now }
+    ensures { IfOk result (λ regions. regions ≡ map region_of (wanted schema.now queries.now)) }
+{
+    let mut regions = Seq::new(alloc);
+    for query in queries {
+        regions = with_query(alloc, schema, query, regions)?;
+    }
+    Ok(regions)
+}
+
+#[tactic(auto, using(crate::proofs::Regions::ungrouped, crate::proofs::Regions::grouped))]
+fn with_query(
+    alloc: Global,
+    schema: &Schema,
+    query: &Query,
+    regions: Seq<Region>,
+) -> Result<Seq<Region>, Memory>
+    requires { IsWellFormed schema.now }
+    ensures { IfOk result (λ more. more ≡ regions ++ map region_of (wanted_by schema.now query.now)) }
+{
+    let Some(column) = query.group else {
+        return with_region(alloc, query, None, regions);
+    };
+    let names = allowed_names(alloc, schema, query, column)?;
+    with_names(alloc, query, names.as_slice(), regions)
+}
+
+#[tactic(auto, using(crate::proofs::Regions::by_name))]
+fn with_names(
+    alloc: Global,
+    query: &Query,
+    names: &[u32],
+    regions: Seq<Region>,
+) -> Result<Seq<Region>, Memory>
+    requires { All (λ name. name < 128) names.now }
+    ensures { IfOk result (λ more. more ≡ regions ++ map region_of (map (wanted_of query.now) names.now)) }
+{
+    let mut more = regions;
+    for name in names {
+        more = with_region(alloc, query, Some(*name), more)?;
+    }
+    Ok(more)
+}
+
+fn with_region(
+    alloc: Global,
+    query: &Query,
+    name: Option<u32>,
+    regions: Seq<Region>,
+) -> Result<Seq<Region>, Memory>
+    requires { IfSome name (λ place. place < 128) }
+    ensures { IfOk result (λ more. more ≡ regions ++ region_of (record { query = query.now; name = name }) ∷ []) }
+{
+    let mut more = regions;
+    more.push(narrowed(alloc, &query.chosen, query.group, name)?)?;
+    Ok(more)
+}
+
+/// The places of the names of a column that the query's region allows, in their order.
+#[tactic(auto, using(crate::proofs::GroupNames::places))]
+pub(crate) fn allowed_names(
+    alloc: Global,
+    schema: &Schema,
+    query: &Query,
+    column: u8,
+) -> Result<Seq<u32>, Memory>
+    requires { IsWellFormed schema.now }
+    ensures exact { IfOk result (λ names. names ≡ allowed_names schema.now query.now column) }
+    ensures few { IfOk result (All (λ name. name < 128)) }
+{
+    let mut names = Seq::new(alloc);
+    for place in 0..name_count(schema, column) {
+        names = with_name(&query.chosen, column, place, names)?;
+    }
+    Ok(names)
+}
+
+fn with_name(chosen: &Region, column: u8, place: u32, names: Seq<u32>) -> Result<Seq<u32>, Memory>
+    ensures { IfOk result (λ more. more ≡ names ++ (if is_allowed chosen.now column place then place ∷ [] else [])) }
+{
+    let mut more = names;
+    if is_allowed(chosen, column, place) {
+        more.push(place)?;
+    }
+    Ok(more)
+}
+
+fn is_allowed(chosen: &Region, column: u8, place: u32) -> bool
+    ensures { result ≡ is_allowed chosen.now column place }
+{
+    side_at(chosen, column).holds(i64::from(place))
+}
+
+/// No name where the region has no side for the column.
+fn side_at(chosen: &Region, column: u8) -> Side
+    ensures { result ≡ side_at chosen.now column }
+{
+    match chosen.sides.as_slice().get(column as usize) {
+        Some(side) => *side,
+        None => Side::Names { bits: 0 },
+    }
+}
+
+fn name_count(schema: &Schema, column: u8) -> u32
+    requires { IsWellFormed schema.now }
+    ensures exact { result ≡ names_at (slice_get schema.now.columns column) }
+    ensures few { result ≤ 128 }
+{
+    match schema.columns.as_slice().get(column as usize) {
+        Some(column) => names_in(&column.kind),
+        None => 0,
+    }
+}
+
+fn names_in(kind: &Kind) -> u32
+    requires { HasFewNames kind.now }
+    ensures exact { result ≡ names_in kind.now }
+    ensures few { result ≤ 128 }
+{
+    match kind {
+        Kind::Int { .. } | Kind::Dec { .. } => 0,
+        Kind::Cat { names } => names.len() as u32,
+    }
+}
