@@ -1,6 +1,6 @@
 -- Queries read one after another.
-use Rattle.std.proofs.Common.{◌≡◌, ℕ, ◌+◌, ◌<◌, ◌≤◌, List, [], ◌∷◌, ◌++◌, length, get_or, drop, Result, Ok, Err, refl, sym, ap, ◌∙◌}
-use Rattle.std.proofs.lemmas.List.{drop_all, drop_more, append-nil, append-assoc}
+use Rattle.std.proofs.Common.{◌≡◌, ℕ, ◌+◌, ◌<◌, ◌≤◌, List, [], ◌∷◌, ◌++◌, length, map, get_or, drop, Result, Ok, Err, Bor, refl, sym, ap, ◌∙◌}
+use Rattle.std.proofs.lemmas.List.{drop_all, drop_more, append-nil, append_assoc, length-map, get_or-map}
 use Rattle.pc_model.specs.declared.schema.Schema.{Schema}
 use Rattle.pc_model.specs.declared.query.Query.{Query}
 use Rattle.pc_model.specs.declared.fault.Fault.{Fault}
@@ -23,7 +23,7 @@ none_before (Ok queries) = refl
 none_before (Err fault) = refl
 
 one_before : (before : List Query) (query : Query) (read : Result (List Query) Fault) → after_queries before (read >>= λ queries. Ok (query ∷ queries)) ≡ after_queries (before ++ query ∷ []) read
-one_before before query (Ok queries) = ap read_all (sym (append-assoc before (query ∷ []) queries))
+one_before before query (Ok queries) = ap read_all (sym (append_assoc before (query ∷ []) queries))
 one_before before query (Err fault) = refl
 
 module _ (schema : Schema) (texts : List (List ℕ)) where
@@ -52,3 +52,23 @@ module _ (schema : Schema) (texts : List (List ℕ)) where
   pub all_read : (place : ℕ) (before : List Query) → length texts ≤ place → read_from place before ≡ Ok before
   unfolding queries_from
   all_read place before past = rw (drop_all place texts past, append-nil before) refl
+
+-- the same of texts as the code has them
+module _ (schema : Schema) (texts : List (Bor (List ℕ))) where
+  abbrev pub words : List (List ℕ)
+  words = map (λ (text : Bor (List ℕ)). text.now) texts
+
+  inside_too : (place : ℕ) → place < length texts → place < length words
+  inside_too place inside = rw (length-map texts (λ (text : Bor (List ℕ)). text.now)) inside
+
+  at_too : (place : ℕ) (d : Bor (List ℕ)) → place < length texts → get_or words place d.now ≡ (get_or texts place d).now
+  at_too place d inside = get_or-map (λ (text : Bor (List ℕ)). text.now) texts place d d.now inside
+
+  pub next_word : (place : ℕ) (before : List Query) (d : Bor (List ℕ)) (query : Query) → place < length texts → query_at schema (place + 1) (get_or texts place d).now ≡ Ok query → read_from schema words (place + 1) (before ++ query ∷ []) ≡ read_from schema words place before
+  next_word place before d query inside is = next_read schema words place before d.now query (inside_too place inside) (rw (at_too place d inside) is)
+
+  pub refused_word : (place : ℕ) (before : List Query) (d : Bor (List ℕ)) (refusal : Refusal) → place < length texts → RefusesAs refusal (query_at schema (place + 1) (get_or texts place d).now) → RefusesAs refusal (read_from schema words place before)
+  refused_word place before d refusal inside refuses = refused schema words place before d.now refusal (inside_too place inside) (rw (at_too place d inside) refuses)
+
+  pub all_words : (place : ℕ) (before : List Query) → length texts ≤ place → read_from schema words place before ≡ Ok before
+  all_words place before past = all_read schema words place before (rw (length-map texts (λ (text : Bor (List ℕ)). text.now)) past)

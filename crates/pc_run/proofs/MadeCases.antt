@@ -1,4 +1,4 @@
--- A case that is made is accepted, and some relation is possible for it.
+-- A case that is made: some relation is possible for it, and its queries are accepted.
 use Rattle.std.proofs.Common.{◌≡◌, ℕ, ◌*◌, ◌≤◌, List, filter, All, None, refl}
 use Rattle.std.proofs.lemmas.List.Elements.{All-weaker}
 use Rattle.std.specs.Prelude.{false}
@@ -12,15 +12,13 @@ use Rattle.pc_rows.specs.declared.case.Case.{Case}
 use Rattle.pc_proof.specs.declared.document.Document.{Document}
 use Rattle.pc_proof.specs.Unbroken.{plain_relation}
 use Rattle.pc_gen.specs.Generated.{generated_case, generated_constraints, generated_queries, generated_schema, hidden_rows}
-use Rattle.pc_gen.proofs.Accepted.{constraints_accepted}
-use Rattle.pc_gen.proofs.DrawnRows.{rows_allowed}
 use Rattle.pc_gen.proofs.Possible.{hidden_are_possible}
-use Rattle.pc_gen.proofs.Tables.{queries_asked, schema_formed}
+use Rattle.pc_gen.proofs.Tables.{queries_asked}
 use Rattle.pc_group.specs.Answers.{AnswersWanted, question_for}
 use Rattle.pc_group.specs.Trees.{Told}
 use Rattle.pc_group.specs.Wanted.{Wanted}
 use Rattle.pc_run.specs.Answers.{AnswersCase}
-use Rattle.pc_run.specs.Replies.{IsPossibleBlock, IsSound}
+use Rattle.pc_run.specs.Replies.{IsPossibleBlock}
 use Rattle.pc_run.proofs.Documents.{each_block}
 
 -- where some relation is possible, a right answer does not say that none is
@@ -43,10 +41,11 @@ module _ (seed size : ℕ) where
   pub none_is_impossible : (budget : ℕ) (document : Document) → AnswersCase budget made document → All IsPossibleBlock document.blocks
   none_is_impossible budget document answers = each_block budget made document answers IsPossibleBlock (possible_block budget)
 
-  pub made_is_sound : size ≤ 1000 → IsSound made
-  made_is_sound small = record {
-    well_formed = schema_formed;
-    seen = rows_allowed (100 * size) seed;
-    accepted = constraints_accepted seed size small;
-    asked = All-weaker (λ (query : Query). IsQuery generated_schema query × (query.group ≡ None)) (IsQuery generated_schema) (λ query is. is.0) generated_queries queries_asked;
-  }
+  -- a case with its parts is the case
+  pub case_is : (case : Case) → case.schema ≡ made.schema → case.rows ≡ made.rows → case.constraints ≡ made.constraints → case.queries ≡ made.queries → case ≡ made
+  case_is case schema rows constraints queries =
+      let same : ◌≡◌ {A = Case} (record { schema = case.schema; rows = case.rows; constraints = case.constraints; queries = case.queries }) made = rw (schema, rows, constraints, queries) refl in
+      same
+
+pub made_asked : All (IsQuery generated_schema) generated_queries
+made_asked = All-weaker (λ (query : Query). IsQuery generated_schema query × (query.group ≡ None)) (IsQuery generated_schema) (λ query is. is.0) generated_queries queries_asked

@@ -1,12 +1,19 @@
-ghost use Rattle.std.specs.Prelude.{IfOk};
+ghost use Rattle.std.specs.Prelude.{◌≡◌, length, All, IfOk};
 ghost use Rattle.pc_gen.specs.Generated.{generated_case};
+ghost use Rattle.pc_model.specs.Accepted.{IsQuery};
+ghost use Rattle.pc_model.specs.WellFormed.{IsWellFormed};
+ghost use Rattle.pc_proof.specs.declared.document.Block.{Block};
+ghost use Rattle.pc_report.specs.Summary.{summary_text};
+ghost use Rattle.pc_report.specs.Units.{HasAverages};
 ghost use Rattle.pc_run.specs.Replies.{SaysSummary};
 ghost use Rattle.pc_words.specs.Words.{IsSize};
 
 use pc_gen::generate;
 use pc_group::answer_all;
 use pc_num::Memory;
+use pc_proof::Document;
 use pc_report::put_summary;
+use pc_rows::Case;
 use pc_words::{Gen, USUAL_NODES};
 use std::alloc::Global;
 
@@ -17,9 +24,24 @@ pub(crate) fn summarize(alloc: Global, command: &Gen) -> Result<Vec<u8>, Memory>
 {
     let case = generate(alloc, command.seed, command.size)?;
     let document = answer_all(alloc, &case, USUAL_NODES)?;
+    summary_of(alloc, &case, &document)
+}
+
+fn summary_of(alloc: Global, case: &Case, document: &Document) -> Result<Vec<u8>, Memory>
+    requires well_formed { IsWellFormed case.now.schema }
+    requires queries { All (λ (block : Block). IsQuery case.now.schema block.query) document.now.blocks }
+    requires averages { All HasAverages document.now.blocks }
+    ensures { IfOk result (λ text. text.items ≡ summary_text case.now.schema (length case.now.rows) (length case.now.constraints) document.now) }
+{
     let mut text = Vec::new(alloc);
-    let rows = u64::from(case.rows.count());
     let constraints = case.constraints.len() as u64;
-    put_summary(alloc, &case.schema, &mut text, rows, constraints, &document)?;
+    put_summary(
+        alloc,
+        &case.schema,
+        &mut text,
+        case.rows.count(),
+        constraints,
+        document,
+    )?;
     Ok(text)
 }

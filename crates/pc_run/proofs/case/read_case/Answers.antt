@@ -1,4 +1,4 @@
-use Rattle.std.proofs.Common.{◌≤◌, ◌∙◌, List, arith}
+use Rattle.std.proofs.Common.{◌≡◌, ◌≤◌, ◌∙◌, List, arith, rules}
 use Rattle.std.proofs.lemmas.Result.{err_from_is_err_and}
 use Rattle.pc_model.specs.declared.row.Row.{Row}
 use Rattle.pc_model.specs.declared.constraint.Constraint.{Constraint}
@@ -33,20 +33,22 @@ returns-in_err-constraints-clause-agrees g c =
 
 pub returns-in_err-queries-clause-agrees : goal.returns-in_err-queries-clause-agrees
 returns-in_err-queries-clause-agrees g c =
+    let same : c.as_slice.result.now ≡ c.args.command.now.queries.items = search rules in
     let p = err_from_is_err_and c.from_residual-in_err-queries.result c.from_residual-in_err-queries.ensures.1 in
     let has_rows = rw c.in_ok-schema.ensures.files_stay at c.in_ok-rows.ensures.agrees in
     let agrees = rw (c.in_ok-rows.ensures.files_stay, c.in_ok-schema.ensures.files_stay) at c.in_ok-constraints.ensures.agrees in
     let read : HasFiles (g.F.Shelf.files c.args.files.now) (bound_names c.args.command.now) c.in_ok-schema.schema c.in_ok-rows.rows c.in_ok-constraints.constraints =
     record { rows_read = record { has_schema = c.in_ok-schema.ensures.agrees; has_rows = has_rows }; has_constraints = agrees } in
-    rw (p.1, p.2) (at_queries (g.F.Shelf.files c.args.files.now) (bound_names c.args.command.now) (g.F.Shelf.faults c.args.files.now) (g.F.Shelf.faults c.load_constraints.new.files) c.in_ok-schema.schema c.in_ok-rows.rows c.in_ok-constraints.constraints read c.in_err-queries.field-0.0 c.in_err-queries.ensures.gives)
+    rw (p.1, p.2) (at_queries (g.F.Shelf.files c.args.files.now) (bound_names c.args.command.now) (g.F.Shelf.faults c.args.files.now) (g.F.Shelf.faults c.load_constraints.new.files) c.in_ok-schema.schema c.in_ok-rows.rows c.in_ok-constraints.constraints read c.in_err-queries.field-0.0 (rw same at c.in_err-queries.ensures.gives))
 
 pub returns-clause-agrees : goal.returns-clause-agrees
 returns-clause-agrees g c =
+    let same : c.as_slice.result.now ≡ c.args.command.now.queries.items = search rules in
     let has_rows = rw c.in_ok-schema.ensures.files_stay at c.in_ok-rows.ensures.agrees in
     let agrees = rw (c.in_ok-rows.ensures.files_stay, c.in_ok-schema.ensures.files_stay) at c.in_ok-constraints.ensures.agrees in
     let read : HasFiles (g.F.Shelf.files c.args.files.now) (bound_names c.args.command.now) c.in_ok-schema.schema c.in_ok-rows.rows c.in_ok-constraints.constraints =
     record { rows_read = record { has_schema = c.in_ok-schema.ensures.agrees; has_rows = has_rows }; has_constraints = agrees } in
-    at_end (g.F.Shelf.files c.args.files.now) (bound_names c.args.command.now) c.in_ok-schema.schema c.in_ok-rows.rows c.in_ok-constraints.constraints c.in_ok-queries.queries read c.in_ok-queries.ensures.gives
+    at_end (g.F.Shelf.files c.args.files.now) (bound_names c.args.command.now) c.in_ok-schema.schema c.in_ok-rows.rows c.in_ok-constraints.constraints c.in_ok-queries.queries read (rw same at c.in_ok-queries.ensures.gives)
 
 pub returns-clause-sound : goal.returns-clause-sound
 returns-clause-sound g c = record {
