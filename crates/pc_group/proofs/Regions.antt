@@ -46,10 +46,6 @@ images P f (x ∷ xs) each = All-cons (λ z. P (f z)) x xs (All-head P (f x) (ma
 -- ---- regions of blocks
 
 module _ (schema : Schema) (queries : List Query) where
-  pub no_regions : [] ≡ map region_of (wanted schema (take 0 queries))
-  unfolding wanted
-  no_regions = refl
-
   pub wanted_more : (i : ℕ) (query : Query) → i < length queries → query ≡ get_or queries i query → wanted schema (take (i + 1) queries) ≡ wanted schema (take i queries) ++ wanted_by schema query
   unfolding wanted
   wanted_more i query inside is = flat_more (wanted_by schema) queries i query inside is
@@ -70,13 +66,10 @@ unfolding wanted
 none_wanted schema = refl
 
 module _ (query : Query) (names : List ℕ) where
-  names_more : (i d : ℕ) → i < length names → map (wanted_of query) (take (i + 1) names) ≡ map (wanted_of query) (take i names) ++ wanted_of query (get_or names i d) ∷ []
-  names_more i d inside = map_more (wanted_of query) names i d inside
-
   -- the blocks of names after those before
   pub blocks_more : (blocks : List Wanted) (i d : ℕ) → i < length names → (blocks ++ map (wanted_of query) (take i names)) ++ wanted_of query (get_or names i d) ∷ [] ≡ blocks ++ map (wanted_of query) (take (i + 1) names)
   blocks_more blocks i d inside =
-      append_assoc blocks (map (wanted_of query) (take i names)) (wanted_of query (get_or names i d) ∷ []) ∙ ap (λ (l : List Wanted). blocks ++ l) (sym (names_more i d inside))
+      append_assoc blocks (map (wanted_of query) (take i names)) (wanted_of query (get_or names i d) ∷ []) ∙ ap (λ (l : List Wanted). blocks ++ l) (sym (map_more (wanted_of query) names i d inside))
 
   -- the regions of names after those before
   pub parts_none : (regions : List Region) → regions ≡ regions ++ map region_of (map (wanted_of query) (take 0 names))
@@ -89,12 +82,12 @@ module _ (query : Query) (names : List ℕ) where
       ∙ ap (λ (n : ℕ). (before ++ map region_of (map (wanted_of query) (take i names))) ++ region_of (wanted_of query n) ∷ []) is
       ∙ append_assoc before (map region_of (map (wanted_of query) (take i names))) (region_of (wanted_of query (get_or names i name)) ∷ [])
       ∙ ap (λ (l : List Region). before ++ l)
-      (sym (ap (map region_of) (names_more i name inside) ∙ map-append region_of (map (wanted_of query) (take i names)) (wanted_of query (get_or names i name) ∷ [])))
+      (sym (ap (map region_of) (map_more (wanted_of query) names i name inside) ∙ map-append region_of (map (wanted_of query) (take i names)) (wanted_of query (get_or names i name) ∷ [])))
 
   pub parts_whole : (before regions : List Region) (i : ℕ) → length names ≤ i → regions ≡ before ++ map region_of (map (wanted_of query) (take i names)) → regions ≡ before ++ map region_of (map (wanted_of query) names)
   parts_whole before regions i past so_far = so_far ∙ ap (λ (l : List ℕ). before ++ map region_of (map (wanted_of query) l)) (take_all i names past)
 
-pub ruleset by_query = (no_regions, regions_more, regions_whole)
+pub ruleset by_query = (regions_more, regions_whole)
 
 pub ruleset by_name = (parts_none, parts_more, parts_whole)
 
