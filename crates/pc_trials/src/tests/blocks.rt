@@ -23,8 +23,10 @@ fn two_queries(
     ensures { IfOk result (All (IsQuery schema.now)) }
 {
     let mut queries = Seq::new(alloc);
-    queries.push(read_query(alloc, schema, first, 1)?)?;
-    queries.push(read_query(alloc, schema, second, 2)?)?;
+    let first = read_query(alloc, schema, first, 1)?;
+    queries.push(first).map_err(|_| Refusal::Memory)?;
+    let second = read_query(alloc, schema, second, 2)?;
+    queries.push(second).map_err(|_| Refusal::Memory)?;
     Ok(queries)
 }
 

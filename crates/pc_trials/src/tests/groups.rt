@@ -45,7 +45,11 @@ static TRIALS: [Trial<'static>; 6] = [
         SHOP,
         TRENTON_FIRST,
         CHICAGO,
-        &["max(price) group by branch", "count", "min(price) where day <= 4 group by branch"],
+        &[
+            "max(price) group by branch",
+            "count",
+            "min(price) where day <= 4 group by branch",
+        ],
         "query max(price) group by branch\ngroup branch = Chicago\nrelation possible\nnone never\nlow 100.00 exact\nhigh 149.99 exact\nquery max(price) group by branch\ngroup branch = NewYork\nrelation possible\nnone always\nquery max(price) group by branch\ngroup branch = Trenton\nrelation possible\nnone never\nlow 7.50 exact\nhigh 7.50 exact\nquery count\nrelation possible\nlow 3 exact\nhigh 8 exact\nquery min(price) where day in 1..4 group by branch\ngroup branch = Chicago\nrelation possible\nnone never\nlow 0.00 exact\nhigh 100.00 exact\nquery min(price) where day in 1..4 group by branch\ngroup branch = NewYork\nrelation possible\nnone always\nquery min(price) where day in 1..4 group by branch\ngroup branch = Trenton\nrelation possible\nnone never\nlow 2.50 exact\nhigh 2.50 exact\n",
     ),
     // constraints that overlap, and an impossible one
@@ -114,7 +118,13 @@ fn groups(rt: HostRuntime) -> Result<(), Fail> {
     Ok(())
 }
 
-const MONTH_QUERIES: [&str; 5] = ["count", "sum(price)", "min(price)", "max(price)", "avg(price)"];
+const MONTH_QUERIES: [&str; 5] = [
+    "count",
+    "sum(price)",
+    "min(price)",
+    "max(price)",
+    "avg(price)",
+];
 
 const MONTH_REPORT: &str =
     "query count\nrelation possible\nlow 2012 exact\nhigh 2080 exact\nquery sum(price)\nrelation possible\nlow 139250.00 exact\nhigh 147949.43 exact\nquery min(price)\nrelation possible\nnone never\nlow 5.00 exact\nhigh 20.00 exact\nquery max(price)\nrelation possible\nnone never\nlow 119.00 exact\nhigh 200.00 exact\nquery avg(price)\nrelation possible\nnone never\nlow 13959/208 exact\nhigh 14794943/208000 exact\n";
@@ -122,7 +132,13 @@ const MONTH_REPORT: &str =
 #[test]
 fn five_questions_about_a_month(rt: HostRuntime) -> Result<(), Fail> {
     let rows = month_rows(rt.alloc())?;
-    let trial = (SHOP, rows.as_str(), MONTH, MONTH_QUERIES.as_slice(), MONTH_REPORT);
+    let trial = (
+        SHOP,
+        rows.as_str(),
+        MONTH,
+        MONTH_QUERIES.as_slice(),
+        MONTH_REPORT,
+    );
     assert_trial(&rt, rt.alloc(), &trial)
 }
 
@@ -161,10 +177,9 @@ fn blocks_of_names(alloc: Global) -> Result<String, AllocError> {
     for name in 0..128usize {
         let low = count_of(name);
         let high = if name == 100 { low + 1 } else { low };
-        report.push_str(
-            format!(in alloc; "query count group by k\ngroup k = n{name}\nrelation possible\nlow {low} exact\nhigh {high} exact\n")?
-                .as_str(),
-        )?;
+        report.push_str(format!(in alloc;
+            "query count group by k\ngroup k = n{name}\nrelation possible\nlow {low} exact\nhigh {high} exact\n"
+        )?.as_str())?;
     }
     Ok(report)
 }
@@ -186,12 +201,7 @@ fn names_without_rows(rt: HostRuntime) -> Result<(), Fail> {
 }
 
 /// Asserts that the summary of a generated case has these lines in front, and is the same when it is made again.
-fn assert_summary(
-    rt: &impl Abort,
-    alloc: Global,
-    words: &[&str],
-    front: &str,
-) -> Result<(), Fail> {
+fn assert_summary(rt: &impl Abort, alloc: Global, words: &[&str], front: &str) -> Result<(), Fail> {
     let mut shelf = MemShelf::new(alloc);
     let mut sink = MemSink::new(alloc, 0);
     let mut again = MemSink::new(alloc, 0);

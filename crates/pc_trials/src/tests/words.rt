@@ -41,7 +41,9 @@ fn words(rt: HostRuntime) -> Result<(), Fail> {
 #[test]
 fn words_with_options(rt: HostRuntime) -> Result<(), Fail> {
     let table: [&[&str]; 10] = [
-        &["bound", "--nodes", "5", "--nodes", "5", "s", "r", "c", "count"],
+        &[
+            "bound", "--nodes", "5", "--nodes", "5", "s", "r", "c", "count",
+        ],
         &["--nodes", "5", "bound", "s", "r", "c", "count"],
         &["bound", "--nodes", "s", "r", "c", "count"],
         &["bound", "s", "r", "c", "count", "--nodes"],
