@@ -68,7 +68,8 @@ fn words_of<R: Files + AllocGlobal>(rt: &R, folder: &str) -> Result<Vec<String>,
     let text = fs::read_to_string(rt, path(alloc, folder, "words.txt")?.as_str())?;
     let mut words = Vec::new(alloc);
     for word in text.lines() {
-        words.push(String::from_str(alloc, word)?)?;
+        let word = String::from_str(alloc, word)?;
+        words.push(word).map_err(|_| Trouble::Memory)?;
     }
     Ok(words)
 }

@@ -3,13 +3,29 @@ use std::alloc::AllocError;
 use std::io;
 use thiserror::Error;
 
-/// Why the examples could not be run.
-#[derive(Debug, Error)]
+/// Why the examples are not all run.
+#[derive(Clone, Copy, Debug, PartialEq, Eq, Error)]
 pub(crate) enum Trouble {
-    #[error("a file could not be read, or the answer not written")]
-    Outside(#[from] io::Error),
     #[error("out of memory")]
-    Alloc(#[from] AllocError),
-    #[error("out of memory")]
-    Memory(#[from] Memory),
+    Memory,
+    #[error("input or output failed")]
+    Host,
+}
+
+impl From<AllocError> for Trouble {
+    fn from(_: AllocError) -> Self {
+        Trouble::Memory
+    }
+}
+
+impl From<Memory> for Trouble {
+    fn from(_: Memory) -> Self {
+        Trouble::Memory
+    }
+}
+
+impl From<io::Error> for Trouble {
+    fn from(_: io::Error) -> Self {
+        Trouble::Host
+    }
 }
