@@ -3,8 +3,8 @@
 # what they can have cost on average.
 # Run ./build first.
 set -eu
-here=$(cd "$(dirname "$0")" && pwd -P)
-pc=$here/../../../../pc
+here=$(cd "$(dirname "$0")" && pwd)
+pc=$here/../../pc
 [ -x "$pc" ] || { echo "examples/month/run.sh: run ./build first" >&2; exit 1; }
 work=$(mktemp -d)
 trap 'rm -rf "$work"' EXIT
