@@ -162,21 +162,21 @@ fn few_named_rows(alloc: Global) -> Result<String, AllocError> {
     Ok(rows)
 }
 
-/// How many rows of a name there are.
-fn count_of(name: usize) -> usize {
+/// How many rows of a name are left, and how many there can have been: one row of the name 100 may be lost.
+fn range_of(name: usize) -> (usize, usize) {
     match name {
-        0..=26 => 1,
-        27 => 2,
-        _ => 0,
+        0..=26 => (1, 1),
+        27 => (2, 2),
+        100 => (0, 1),
+        _ => (0, 0),
     }
 }
 
-/// The block of each name, where at most one row of the name 100 was lost.
+/// The block of each name.
 fn blocks_of_names(alloc: Global) -> Result<String, AllocError> {
     let mut report = String::new(alloc);
     for name in 0..128usize {
-        let low = count_of(name);
-        let high = if name == 100 { low + 1 } else { low };
+        let (low, high) = range_of(name);
         report.push_str(format!(in alloc;
             "query count group by k\ngroup k = n{name}\nrelation possible\nlow {low} exact\nhigh {high} exact\n"
         )?.as_str())?;
