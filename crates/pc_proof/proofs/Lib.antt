@@ -5,6 +5,7 @@ pub mod DocumentLines
 pub mod EndLines
 pub mod Ends
 pub mod Extremes
+pub mod Formed
 pub mod Fractions
 pub mod Gains
 pub mod Groups

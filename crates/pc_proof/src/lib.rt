@@ -3,11 +3,13 @@
 
 mod answer;
 mod document;
+mod forms;
 mod laws;
 mod samples;
 mod verdicts;
 
 pub use answer::{AlwaysBy, Answer, Bounded, End, Lack, Mark, NeverBy, Proof, Relation, Why};
 pub use document::{Block, BlockTree, Document};
+pub use forms::{formed_answers_have_form, formed_documents_have_form};
 pub use laws::{given_ends_do_not_cross, unbroken_are_right, unbroken_is_right};
 pub use verdicts::{broken_or_unbroken, demands_are_the_rules, one_first_broken, one_verdict};

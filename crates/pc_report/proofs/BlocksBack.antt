@@ -23,7 +23,8 @@ use Rattle.pc_lang.proofs.ReadBack.{query_reads_back}
 use Rattle.pc_proof.specs.declared.document.Block.{Block}
 use Rattle.pc_proof.specs.declared.document.Document.{Document}
 use Rattle.pc_report.specs.Report.{answer_text, block_text, blocks_text, group_line, group_text, kind_name, query_line, report_text}
-use Rattle.pc_report.specs.Shown.{IsGroupName, IsNameOf, IsShown, SaysAlike}
+use Rattle.pc_proof.specs.Form.{IsGroupName, IsNameOf}
+use Rattle.pc_report.specs.Shown.{IsShown, SaysAlike}
 use Rattle.pc_report.proofs.AnswersBack.{EndsAnswer, IsShownAnswer, answer_back}
 use Rattle.pc_report.proofs.NamesBack.{name_back, same_place}
 use Rattle.pc_report.proofs.Stops.{fronts_equal, same_tail, starts, unlike_starts}

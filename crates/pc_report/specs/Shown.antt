@@ -22,6 +22,7 @@ use Rattle.pc_proof.specs.declared.answer.Mark.{Mark}
 use Rattle.pc_proof.specs.declared.answer.Mark.TheVariants as marks
 use Rattle.pc_proof.specs.declared.answer.End.{End}
 use Rattle.pc_proof.specs.declared.document.Block.{Block}
+use Rattle.pc_proof.specs.Form.{IsGroupName}
 use Rattle.pc_proof.specs.Unbroken.{plain_answer, plain_lack, plain_relation}
 
 -- ---- runs
@@ -81,17 +82,6 @@ abbrev pub AreShownEnds : Schema → Agg → Option (End × End) → Type 0
 AreShownEnds schema agg ends = IfSome ends (λ (ends : End × End). IsShownEnd schema agg ends.0 × IsShownEnd schema agg ends.1)
 
 -- ---- blocks
-
--- the place of one of the names of a column
-abbrev pub IsNameOf : ℕ → Kind → Type 0
-IsNameOf place (Int low high) = ⊥
-IsNameOf place (Dec scale low high) = ⊥
-IsNameOf place (Cat names) = place < length names
-
-abbrev pub IsGroupName : Schema → Option ℕ → Option ℕ → Type 0
-IsGroupName schema None name = ⊤
-IsGroupName schema (Some group) None = ⊤
-IsGroupName schema (Some group) (Some place) = IsSomeAnd (slice_get schema.columns group) (λ (column : Column). IsNameOf place column.kind)
 
 -- a block of which the report is read back
 pub record IsShown (schema : Schema) (block : Block) : Type 0 where
