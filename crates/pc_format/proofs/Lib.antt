@@ -1,1 +1,4 @@
 pub mod LinesOf
+pub mod OneLine
+pub mod Results
+pub mod Try

@@ -25,3 +25,8 @@ pub fn line_feeds_count_lines()
 pub fn line_feeds_number_lines()
     ensures { (bytes : List ℕ) (at : ℕ) → line_at (whole_lines bytes) (whole_lines (drop at bytes)) ≡ feeds_in (take at bytes) + 1 }
 {}
+
+#[tactic(auto, using(crate::proofs::Try::trial))]
+pub fn trial()
+    ensures { (n : ℕ) → n ≡ n }
+{}
