@@ -1,4 +1,6 @@
 pub mod LinesOf
 pub mod OneLine
+pub mod As
+pub mod Joined
 pub mod Results
 pub mod Try
