@@ -1,4 +1,5 @@
 pub mod LinesOf
+pub mod Many
 pub mod OneLine
 pub mod As
 pub mod Joined

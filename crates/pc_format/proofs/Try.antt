@@ -2,5 +2,6 @@ use Rattle.std.proofs.Common.{◌≡◌, ℕ, refl}
 use Rattle.pc_format.proofs.OneLine.{line_format, none_format}
 use Rattle.pc_format.proofs.Joined.{joined_format, then_format}
 use Rattle.pc_format.proofs.As.{as_format}
+use Rattle.pc_format.proofs.Many.{many_format}
 pub trial : (n : ℕ) → n ≡ n
 trial n = refl
