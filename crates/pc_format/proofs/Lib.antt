@@ -1,7 +1,9 @@
 pub mod LinesOf
 pub mod Many
+pub mod Nodes
 pub mod OneLine
 pub mod As
 pub mod Joined
 pub mod Results
 pub mod Try
+pub mod Whole

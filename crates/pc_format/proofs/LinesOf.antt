@@ -11,7 +11,7 @@ use Rattle.pc_format.specs.Formats.{Lines, ArePlain, line_at}
 abbrev IsPlain : List ℕ → Type 0
 IsPlain line = feeds_in line ≡ 0
 
-no_feeds : feeds_in [] ≡ 0
+pub no_feeds : feeds_in [] ≡ 0
 unfolding feeds_in
 no_feeds = refl
 

@@ -8,6 +8,19 @@ use Rattle.pc_format.proofs.Results.{found_as, ok_parts, err_same, ok_err, err_o
 abbrev IsPlain : List ℕ → Type 0
 IsPlain line = feeds_in line ≡ 0
 
+-- a line is refused at once, whatever follows it
+pub refused_line : {A : Type 0} (read : List ℕ → Option A) (lines left : Lines) → read_line read lines ≡ Err left → (lines ≡ left) × ((line : List ℕ) (more other : Lines) → left ≡ line ∷ more → read_line read (line ∷ other) ≡ Err (line ∷ other))
+refused_line read [] left e =
+    let same = err_same [] left e in
+    (same, λ line more other is. absurd (nil_cons line more (same ∙ is)))
+refused_line {A} read (line ∷ others) left e = by_found (read line) refl e
+  where
+    by_found : (found : Option A) → read line ≡ found → line_found line others found ≡ Err left → (line ∷ others ≡ left) × ((next : List ℕ) (more other : Lines) → left ≡ next ∷ more → read_line read (next ∷ other) ≡ Err (next ∷ other))
+    by_found (Some y) is e = absurd (ok_err y others left e)
+    by_found None is e =
+        let same = err_same (line ∷ others) left e in
+        (same, λ next more other eq. ap (line_found next other) (ap read (sym (cons_parts line next others more (same ∙ eq)).0) ∙ is))
+
 module _ {A : Type 0} (Good : A → Type 0) (text : A → List ℕ) (read : List ℕ → Option A) (l : IsLine Good text read) where
   abbrev lines_of : A → Lines
   lines_of x = text x ∷ []
@@ -26,21 +39,10 @@ module _ {A : Type 0} (Good : A → Type 0) (text : A → List ℕ) (read : List
           let known = l.sound line x (is ∙ ap Some parts.0) in
           (known.0, ap (λ (first : List ℕ). first ∷ others) known.1 ∙ ap (λ (after : Lines). text x ∷ after) parts.1)
 
-  -- at the first line already
-  none_before : (lines left : Lines) → lines ≡ left → ((line : List ℕ) (more other : Lines) → left ≡ line ∷ more → read_line read (line ∷ other) ≡ Err (line ∷ other)) → IsFault Good lines_of (read_line read) lines left
-  none_before lines left same stays = record { before = []; parts = same; value = l.some; good = l.some_good; after = text l.some ∷ []; goes_on = refl; stays = stays }
-
   line_fault : (lines left : Lines) → read_line read lines ≡ Err left → IsFault Good lines_of (read_line read) lines left
-  line_fault [] left e =
-      let same = err_same [] left e in
-      none_before [] left same (λ line more other is. absurd (nil_cons line more (same ∙ is)))
-  line_fault (line ∷ others) left e = by_found (read line) refl e
-    where
-      by_found : (found : Option A) → read line ≡ found → line_found line others found ≡ Err left → IsFault Good lines_of (read_line read) (line ∷ others) left
-      by_found (Some y) is e = absurd (ok_err y others left e)
-      by_found None is e =
-          let same = err_same (line ∷ others) left e in
-          none_before (line ∷ others) left same (λ next more other eq. ap (line_found next other) (ap read (sym (cons_parts line next others more (same ∙ eq)).0) ∙ is))
+  line_fault lines left e =
+      let refused = refused_line read lines left e in
+      record { before = []; parts = refused.0; value = l.some; good = l.some_good; after = text l.some ∷ []; goes_on = refl; stays = refused.1 }
 
   pub line_format : IsFormat Good lines_of any (read_line read)
   line_format = record {
