@@ -6,4 +6,5 @@ pub mod As
 pub mod Joined
 pub mod Results
 pub mod Try
+pub mod Spelled
 pub mod Whole
