@@ -1,0 +1,10 @@
+pub mod LinesOf
+pub mod Many
+pub mod Nodes
+pub mod OneLine
+pub mod As
+pub mod Joined
+pub mod Results
+pub mod Try
+pub mod Spelled
+pub mod Whole

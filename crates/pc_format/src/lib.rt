@@ -1,0 +1,4 @@
+//! Formats by lines: what a text of lines says, and the first line of it that may not stand.
+#![tactic(auto)]
+
+mod laws;
