@@ -1,0 +1,9 @@
+pub mod DocumentLines
+pub mod Kinds
+pub mod NodeLines
+pub mod Numbers
+pub mod Parts
+pub mod Reading
+pub mod Told
+pub mod TokenLines
+pub mod ValueLines

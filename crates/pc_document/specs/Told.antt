@@ -1,0 +1,19 @@
+-- What is told of bytes: the document in form whose text they are, or the line of the first fault.
+use Rattle.std.specs.Prelude.{ℕ, List, Result}
+use Rattle.pc_model.specs.declared.schema.Schema.{Schema}
+use Rattle.pc_proof.specs.declared.document.Document.{Document}
+use Rattle.pc_proof.specs.Form.{IsInForm}
+use Rattle.pc_format.specs.Formats.{IsTextOf, IsFirstFault, Tells}
+use Rattle.pc_document.specs.DocumentLines.{document_lines}
+
+-- the bytes are the text of this document
+abbrev pub IsDocumentText : Schema → List ℕ → Document → Type 0
+IsDocumentText schema bytes doc = IsTextOf (IsInForm schema) (document_lines schema) bytes doc
+
+-- The line is one more than the line feeds in the longest beginning of the bytes that the text of some document begins with
+-- too, and the bytes are the text of none.
+abbrev pub IsFaultLine : Schema → List ℕ → ℕ → Type 0
+IsFaultLine schema bytes line = IsFirstFault (IsInForm schema) (document_lines schema) bytes line
+
+abbrev pub Told : Schema → List ℕ → Result Document ℕ → Type 0
+Told schema bytes result = Tells (IsInForm schema) (document_lines schema) bytes result

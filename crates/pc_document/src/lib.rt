@@ -1,0 +1,6 @@
+//! The text of a document, and its reader.
+#![tactic(auto)]
+
+mod laws;
+
+pub use laws::{documents_read_back, one_document, reading_tells};
