@@ -4,6 +4,7 @@ pub mod Nodes
 pub mod OneLine
 pub mod As
 pub mod Joined
+pub mod Places
 pub mod Results
 pub mod Try
 pub mod Spelled

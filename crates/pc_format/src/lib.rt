@@ -2,3 +2,6 @@
 #![tactic(auto)]
 
 mod laws;
+mod lines;
+
+pub use lines::{line_end, line_of};
