@@ -118,6 +118,7 @@ plain_from before (byte ∷ bytes) plain = by_test (byte == 10) refl (plain_from
   where
     nothing : feeds_in [] ≡ 0
     nothing = no_feeds
+
     by_test : (test : Bool) → (byte == 10) ≡ test → ArePlain (lines_after [] bytes) × (feeds_in (rest_after [] bytes) ≡ 0) → (feeds_in (before ++ byte ∷ []) ≡ 0 → ArePlain (lines_after (before ++ byte ∷ []) bytes) × (feeds_in (rest_after (before ++ byte ∷ []) bytes) ≡ 0)) → ArePlain (if test then before ∷ lines_after [] bytes else lines_after (before ++ byte ∷ []) bytes) × (feeds_in (if test then rest_after [] bytes else rest_after (before ++ byte ∷ []) bytes) ≡ 0)
     by_test true is ended longer = (All-cons IsPlain before (lines_after [] bytes) plain ended.0, ended.1)
     by_test false is ended longer = longer (plain_more before byte plain is)

@@ -112,15 +112,16 @@ module _ {A : Type 0} (Good : A → Type 0) (text : A → Lines) (read : Lines �
     good = All-cons Good f.value [] f.good (All-nil Good);
     after = f.after;
     goes_on = append-nil (text f.value) ∙ f.goes_on;
-    stays = stays
+    stays = stays;
   }
     where
       f : IsFault Good text read lines left
       f = format.fault lines left e
+
       stays : (line : List ℕ) (more other : Lines) (m : ℕ) → left ≡ line ∷ more → length (f.before ++ line ∷ other) ≤ m → read_many_in begins read m (f.before ++ line ∷ other) ≡ Err (line ∷ other)
       stays line more other m same most =
           let seen : first_line lines ≡ first_line (f.before ++ line ∷ other) =
-              ap first_line (f.parts ∙ ap (λ (ls : Lines). f.before ++ ls) same) ∙ first_same f.before line more other in
+          ap first_line (f.parts ∙ ap (λ (ls : Lines). f.before ++ ls) same) ∙ first_same f.before line more other in
           let begun : Begins begins (first_line (f.before ++ line ∷ other)) = subst (Begins begins) seen is in
           let fuel = some_fuel (f.before ++ line ∷ other) m begun most in
           ap (λ (k : ℕ). read_many_in begins read k (f.before ++ line ∷ other)) fuel.1
@@ -136,11 +137,12 @@ module _ {A : Type 0} (Good : A → Type 0) (text : A → Lines) (read : Lines �
     good = All-cons Good x f.value one.0 f.good;
     after = f.after;
     goes_on = ap (λ (ls : Lines). text x ++ ls) f.goes_on ∙ sym (append_assoc (text x) f.before f.after);
-    stays = stays
+    stays = stays;
   }
     where
       one : Good x × (lines ≡ text x ++ middle) × Unit {0}
       one = format.sound lines middle x e
+
       stays : (line : List ℕ) (more other : Lines) (m : ℕ) → left ≡ line ∷ more → length ((text x ++ f.before) ++ line ∷ other) ≤ m → read_many_in begins read m ((text x ++ f.before) ++ line ∷ other) ≡ Err (line ∷ other)
       stays line more other m same most =
           let after : Lines = f.before ++ line ∷ other in
@@ -181,7 +183,7 @@ module _ {A : Type 0} (Good : A → Type 0) (text : A → Lines) (read : Lines �
     complete = λ xs rest good ends. complete_in xs (length (lines_of xs ++ rest)) rest good ends (omega arith);
     sound = λ lines rest xs e. sound_in (length lines) lines rest xs (omega arith) e;
     fault = many_fault;
-    plain = plain_in
+    plain = plain_in;
   }
 
 -- Of the format of a value, whose first line begins so, one of as many as begin so.

@@ -106,7 +106,7 @@ module _ {A : Type 0} (Good : A → Type 0) (text : A → List ℕ) (read : List
     good = leaves_fit (suc n);
     after = nodes_text text (leaves (suc n));
     goes_on = refl;
-    stays = λ line more other is. nodes_step n (line ∷ other) ∙ first_fails (read_line read) (others n) with_first (line ∷ other) (line ∷ other) ((refused_line read lines left e).1 line more other is)
+    stays = λ line more other is. nodes_step n (line ∷ other) ∙ first_fails (read_line read) (others n) with_first (line ∷ other) (line ∷ other) ((refused_line read lines left e).1 line more other is);
   }
 
   -- reading ends after a node
@@ -118,7 +118,7 @@ module _ {A : Type 0} (Good : A → Type 0) (text : A → List ℕ) (read : List
     good = are_more n x f.value good f.good;
     after = f.after;
     goes_on = ap (λ (after : Lines). text x ∷ after) f.goes_on;
-    stays = λ next more other is. nodes_step n (text x ∷ (f.before ++ next ∷ other)) ∙ second_fails (read_line read) (others n) with_first (text x ∷ (f.before ++ next ∷ other)) (f.before ++ next ∷ other) (next ∷ other) x (one.complete x (f.before ++ next ∷ other) good tt) (f.stays next more other is)
+    stays = λ next more other is. nodes_step n (text x ∷ (f.before ++ next ∷ other)) ∙ second_fails (read_line read) (others n) with_first (text x ∷ (f.before ++ next ∷ other)) (f.before ++ next ∷ other) (next ∷ other) x (one.complete x (f.before ++ next ∷ other) good tt) (f.stays next more other is);
   }
 
   nodes_fault : (lines : Lines) (n : ℕ) (left : Lines) → read_nodes is_inner read n lines ≡ Err left → IsFaultOf n lines left
@@ -147,7 +147,7 @@ module _ {A : Type 0} (Good : A → Type 0) (text : A → List ℕ) (read : List
     complete = λ xs rest trees follows. nodes_complete xs n rest trees;
     sound = λ lines rest xs e. let known = nodes_sound lines n rest xs e in (known.0, known.1, tt);
     fault = λ lines left e. nodes_fault lines n left e;
-    plain = λ xs trees. nodes_plain xs n trees
+    plain = λ xs trees. nodes_plain xs n trees;
   }
 
 -- Of lines of nodes, of which some may be a leaf, the format of so many trees.
