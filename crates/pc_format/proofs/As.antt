@@ -1,5 +1,5 @@
 -- The format of values that are read as others.
-use Rattle.std.proofs.Common.{◌≡◌, ◌⊎◌, ⊎_elim, ℕ, List, [], ◌∷◌, ◌++◌, Option, Ok, Err, refl, sym, ap, ◌∙◌, subst}
+use Rattle.std.proofs.Common.{◌≡◌, ⊎_elim, ℕ, List, ◌∷◌, ◌++◌, Option, Ok, Err, refl, sym, ap, ◌∙◌, subst}
 use Rattle.pc_format.specs.Formats.{Lines, Found, ArePlain, IsFault, IsFormat, IsAs, read_as, read_none, first_line}
 use Rattle.pc_format.proofs.Results.{ok_parts, ok_err, found_as, IsBoth, IsFirst, both_found, first_or_second, both_are, first_fails}
 

@@ -1,9 +1,9 @@
 -- The format of two parts, the second of which may depend on the first.
-use Rattle.std.proofs.Common.{◌≡◌, ◌⊎◌, ⊎_elim, inl, inr, ℕ, List, [], ◌∷◌, ◌++◌, Option, Some, None, Ok, Err, refl, sym, ap, ◌∙◌, subst, append_assoc}
+use Rattle.std.proofs.Common.{◌≡◌, ⊎_elim, ℕ, List, ◌∷◌, ◌++◌, Option, Ok, Err, refl, sym, ap, ◌∙◌, subst, append_assoc}
 use Rattle.std.proofs.lemmas.List.Elements.{All-append}
 use Rattle.pc_format.specs.Lines.{feeds_in}
 use Rattle.pc_format.specs.Formats.{Lines, Found, ArePlain, IsFault, IsFormat, IsJoin, read_joined, read_then, first_line}
-use Rattle.pc_format.proofs.Results.{ok_parts, first_same, IsBoth, IsFirst, both_found, first_or_second, both_are, first_fails, second_fails}
+use Rattle.pc_format.proofs.Results.{first_same, IsBoth, IsFirst, both_found, first_or_second, both_are, first_fails, second_fails}
 
 abbrev IsPlain : List ℕ → Type 0
 IsPlain line = feeds_in line ≡ 0

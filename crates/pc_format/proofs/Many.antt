@@ -1,11 +1,11 @@
 -- The format of as many values as lines begin so.
-use Rattle.std.proofs.Common.{◌≡◌, ◌⊎◌, ⊎_elim, ℕ, zero, suc, ◌+◌, ◌≤◌, Bool, true, false, List, [], ◌∷◌, ◌++◌, length, Option, Some, None, Ok, Err, refl, sym, ap, ◌∙◌, subst, arith, append_assoc, if◌then◌else◌, inl, inr}
+use Rattle.std.proofs.Common.{◌≡◌, ◌⊎◌, ⊎_elim, ℕ, zero, suc, ◌≤◌, Bool, List, [], ◌∷◌, ◌++◌, length, Ok, Err, refl, sym, ap, ◌∙◌, subst, arith, append_assoc, if◌then◌else◌, inr}
 use Rattle.std.specs.List.{All}
 use Rattle.std.proofs.lemmas.List.{append-nil, length-append}
 use Rattle.std.proofs.lemmas.List.Elements.{All-nil, All-cons, All-head, All-tail, All-append}
 use Rattle.std.proofs.lemmas.Bool.{cases_Bool}
 use Rattle.pc_format.specs.Lines.{feeds_in}
-use Rattle.pc_format.specs.Formats.{Lines, Found, ◌>>=◌, ArePlain, IsFault, IsFormat, Begins, Ends, any, read_many, read_many_in, read_joined, items_text, first_line}
+use Rattle.pc_format.specs.Formats.{Lines, Found, ArePlain, IsFault, IsFormat, Begins, Ends, any, read_many, read_many_in, read_joined, items_text, first_line}
 use Rattle.pc_format.proofs.Results.{ok_parts, ok_err, first_same, IsBoth, IsFirst, both_found, first_or_second, both_are, first_fails, second_fails}
 
 abbrev IsPlain : List ℕ → Type 0

@@ -1,5 +1,5 @@
 -- The format of the nodes of trees in preorder.
-use Rattle.std.proofs.Common.{◌≡◌, ◌⊎◌, ⊎_elim, inl, inr, ℕ, zero, suc, Bool, true, false, List, [], ◌∷◌, ◌++◌, Option, Some, None, Ok, Err, refl, sym, ap, ◌∙◌, subst, if◌then◌else◌}
+use Rattle.std.proofs.Common.{◌≡◌, ◌⊎◌, inl, inr, ℕ, zero, suc, Bool, false, List, [], ◌∷◌, ◌++◌, Option, Some, None, Ok, Err, refl, sym, ap, ◌∙◌, subst, if◌then◌else◌}
 use Rattle.std.proofs.lemmas.List.Elements.{All-nil, All-cons}
 use Rattle.pc_format.specs.Lines.{feeds_in}
 use Rattle.pc_format.specs.Formats.{Lines, Found, ◌>>=◌, ArePlain, IsFault, IsFormat, IsLine, AreTrees, any, line_found, read_line, read_joined, read_nodes, owed_after, nodes_text}

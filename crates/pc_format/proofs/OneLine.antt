@@ -2,7 +2,7 @@
 use Rattle.std.proofs.Common.{◌≡◌, ℕ, List, [], ◌∷◌, ◌++◌, Option, Some, None, Ok, Err, refl, sym, ap, ◌∙◌, subst}
 use Rattle.std.proofs.lemmas.List.Elements.{All-nil, All-cons}
 use Rattle.pc_format.specs.Lines.{feeds_in}
-use Rattle.pc_format.specs.Formats.{Lines, Found, ArePlain, IsFault, IsFormat, IsLine, any, line_found, read_line, read_none, first_line}
+use Rattle.pc_format.specs.Formats.{Lines, ArePlain, IsFault, IsFormat, IsLine, any, line_found, read_line, read_none, first_line}
 use Rattle.pc_format.proofs.Results.{found_as, ok_parts, err_same, ok_err, err_ok, cons_parts, nil_cons}
 
 abbrev IsPlain : List ℕ → Type 0

@@ -1,5 +1,5 @@
 -- What reading finds, taken apart.
-use Rattle.std.proofs.Common.{◌≡◌, ◌⊎◌, inl, inr, ℕ, List, [], ◌∷◌, ◌++◌, Result, Ok, Err, refl, ap, ◌∙◌}
+use Rattle.std.proofs.Common.{◌≡◌, ◌⊎◌, inl, inr, ℕ, List, [], ◌∷◌, ◌++◌, Ok, Err, refl, ap, ◌∙◌}
 use Rattle.pc_format.specs.Formats.{Lines, Found, ◌>>=◌, first_line, read_joined}
 
 pub ok_parts : {A : Type 0} (x y : A) (a b : Lines) → ◌≡◌ {A = Found A} (Ok (x, a)) (Ok (y, b)) → (x ≡ y) × (a ≡ b)

@@ -1,18 +1,18 @@
 -- The sample's format, made of the laws of each part.
-use Rattle.std.proofs.Common.{◌≡◌, ℕ, ◌==◌, Bool, true, false, List, [], ◌∷◌, ◌++◌, Option, Some, None, Result, Ok, Err, refl, sym, ap, ◌∙◌, subst}
+use Rattle.std.proofs.Common.{◌≡◌, ℕ, Bool, true, false, List, [], ◌∷◌, Some, Ok, refl, sym, subst}
 use Rattle.std.specs.Prelude.{codes}
 use Rattle.std.specs.List.{All}
 use Rattle.std.specs.Bool.{⊤}
 use Rattle.std.proofs.lemmas.Bool.{eqb-true}
 use Rattle.pc_format.specs.Lines.{feeds_in}
 use Rattle.pc_format.specs.Formats.{Lines, IsFormat, IsLine, IsTextOf, Tells, AreTrees, Ends, any, read_bytes, read_line, read_many, read_nodes, read_spelled, found_in, nodes_text, first_line}
-use Rattle.pc_format.specs.Samples.{Body, nothing, notes, tree, Tag, no_more, some_notes, one_tree, tag_text, tags, tag_of, note_text, is_note, IsNote, likely_note, begins_note, notes_text, node_text, is_split, IsNode, rest_text, IsTagged, BodyFollows, read_tagged, IsBody, body_text, the_last, read_body, end_text, sample_text, read_sample}
+use Rattle.pc_format.specs.Samples.{Body, nothing, notes, tree, Tag, no_more, some_notes, one_tree, tag_text, tags, tag_of, note_text, is_note, IsNote, likely_note, begins_note, notes_text, node_text, is_split, IsNode, rest_text, IsTagged, BodyFollows, read_tagged, IsBody, body_text, read_body, end_text, sample_text, read_sample}
 use Rattle.pc_format.proofs.OneLine.{line_format, none_format}
 use Rattle.pc_format.proofs.Joined.{joined_format, then_format}
 use Rattle.pc_format.proofs.As.{as_format}
 use Rattle.pc_format.proofs.Many.{many_format}
 use Rattle.pc_format.proofs.Nodes.{nodes_format}
-use Rattle.pc_format.proofs.Spelled.{spelled_line, one_of_line, listed_line}
+use Rattle.pc_format.proofs.Spelled.{spelled_line, one_of_line}
 use Rattle.pc_format.proofs.Whole.{reads_back, tells}
 
 tags_found : (tag : Tag) → found_in tag_text tags (tag_text tag) ≡ Some tag

@@ -1,12 +1,12 @@
 -- The bytes of a format.
-use Rattle.std.proofs.Common.{◌≡◌, ◌⊎◌, ⊎_elim, inl, inr, ℕ, zero, suc, ◌+◌, ◌-◌, ◌<◌, ◌≤◌, List, [], ◌∷◌, ◌++◌, length, Option, Some, None, Result, Ok, Err, refl, sym, ap, ◌∙◌, subst, arith, append_assoc}
+use Rattle.std.proofs.Common.{◌≡◌, ⊎_elim, ℕ, ◌+◌, ◌<◌, ◌≤◌, List, [], ◌∷◌, ◌++◌, length, Option, Some, None, Ok, Err, refl, sym, ap, ◌∙◌, subst, arith, append_assoc}
 use Rattle.std.proofs.lemmas.List.{append-nil, length-append}
 use Rattle.std.proofs.lemmas.List.Elements.{All-nil, All-cons, All-head, All-tail}
 use Rattle.std.proofs.lemmas.Bool.{cases_lt}
 use Rattle.pc_format.specs.Lines.{lines_text, lines_after, whole_lines, rest_after, feeds_in}
 use Rattle.pc_format.specs.Formats.{Lines, Found, ArePlain, IsFault, IsFormat, IsTextOf, IsBeginning, IsFirstFault, Tells, line_at, whole_of, read_bytes, first_line}
 use Rattle.pc_format.proofs.Results.{ok_parts, ok_err, cons_parts, nil_cons}
-use Rattle.pc_format.proofs.LinesOf.{lines_back, lines_before, rest_back, rest_alone, no_lines, text_joined, whole, as_many, lines_plain, feeds_joined, feeds_are_lines, lines_joined, no_feeds}
+use Rattle.pc_format.proofs.LinesOf.{lines_back, rest_back, rest_alone, text_joined, whole, as_many, lines_plain, feeds_joined, feeds_are_lines, lines_joined, no_feeds}
 
 -- a list goes on where a shorter one with the same lines does
 longer : (a b u : Lines) (line : List ℕ) (more : Lines) → a ++ u ≡ b ++ line ∷ more → length b < length a → (w : Lines) × (a ≡ b ++ line ∷ w)

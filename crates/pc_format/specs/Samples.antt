@@ -1,7 +1,7 @@
 -- A small format that takes each way to make one: nothing, notes or a tree, and a last line.
-use Rattle.std.specs.Prelude.{◌≡◌, ℕ, ◌==◌, ◌&&◌, Bool, true, false, ⊤, All, List, [], ◌∷◌, ◌++◌, codes, get_or, drop, Option, Some, None}
+use Rattle.std.specs.Prelude.{◌≡◌, ℕ, ◌==◌, Bool, true, false, ⊤, All, List, [], ◌∷◌, ◌++◌, codes, get_or, drop, Option, Some}
 use Rattle.pc_format.specs.Lines.{feeds_in}
-use Rattle.pc_format.specs.Formats.{Lines, Found, AreTrees, Ends, any, read_line, read_none, read_then, read_as, read_many, read_nodes, read_joined, read_spelled, found_in, items_text, nodes_text}
+use Rattle.pc_format.specs.Formats.{Lines, Found, AreTrees, Ends, read_line, read_none, read_then, read_as, read_many, read_nodes, read_joined, read_spelled, found_in, items_text, nodes_text}
 
 pub data Body : Type 0 where
   nothing : Body

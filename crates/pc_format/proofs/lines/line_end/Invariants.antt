@@ -1,4 +1,4 @@
-use Rattle.std.proofs.Common.{◌≡◌, ℕ, ◌-◌, ◌≤◌, List, take, drop}
+use Rattle.std.proofs.Common.{◌≡◌, ◌-◌, take, drop}
 use Rattle.pc_format.specs.Lines.{feeds_in}
 use Rattle.pc_format.proofs.lines.line_end.Given as goal
 
