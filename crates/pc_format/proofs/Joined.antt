@@ -1,12 +1,8 @@
 -- The format of two parts, the second of which may depend on the first.
 use Rattle.std.proofs.Common.{◌≡◌, ⊎_elim, ℕ, List, ◌∷◌, ◌++◌, Option, Ok, Err, refl, sym, ap, ◌∙◌, subst, append_assoc}
 use Rattle.std.proofs.lemmas.List.Elements.{All-append}
-use Rattle.pc_format.specs.Lines.{feeds_in}
-use Rattle.pc_format.specs.Formats.{Lines, Found, ArePlain, IsFault, IsFormat, IsJoin, read_joined, read_then, first_line}
+use Rattle.pc_format.specs.Formats.{Lines, Found, IsPlain, ArePlain, IsFault, IsFormat, IsJoin, read_joined, read_then, first_line}
 use Rattle.pc_format.proofs.Results.{first_same, IsBoth, IsFirst, both_found, first_or_second, both_are, first_fails, second_fails}
-
-abbrev IsPlain : List ℕ → Type 0
-IsPlain line = feeds_in line ≡ 0
 
 module _ {A B C : Type 0} (GoodA : A → Type 0) (textA : A → Lines) (FollowsA : A → Option (List ℕ) → Type 0) (read : Lines → Found A) (GoodB : A → B → Type 0) (textB : A → B → Lines) (FollowsB : A → B → Option (List ℕ) → Type 0) (next : A → Lines → Found B) (join : A → B → C) (Good : C → Type 0) (text : C → Lines) (Follows : C → Option (List ℕ) → Type 0) (first : IsFormat GoodA textA FollowsA read) (second : (x : A) → GoodA x → IsFormat (GoodB x) (textB x) (FollowsB x) (next x)) (j : IsJoin GoodA textA FollowsA GoodB textB FollowsB join Good text Follows) where
   abbrev reader : Lines → Found C

@@ -1,4 +1,5 @@
 pub mod As
+pub mod ByPlace
 pub mod Joined
 pub mod LinesOf
 pub mod Many

@@ -5,10 +5,7 @@ use Rattle.std.proofs.lemmas.List.Elements.{All-nil, All-cons, All-head, All-tai
 use Rattle.std.proofs.lemmas.List.Concat.{flat_map-append}
 use Rattle.std.proofs.lemmas.Bool.{eqb-true}
 use Rattle.pc_format.specs.Lines.{lines_text, lines_after, whole_lines, rest_after, feeds_in}
-use Rattle.pc_format.specs.Formats.{Lines, ArePlain, line_at}
-
-abbrev IsPlain : List ℕ → Type 0
-IsPlain line = feeds_in line ≡ 0
+use Rattle.pc_format.specs.Formats.{Lines, IsPlain, ArePlain, line_at}
 
 pub no_feeds : feeds_in [] ≡ 0
 unfolding feeds_in
@@ -182,3 +179,9 @@ pub joined : (bytes : List ℕ) (at end : ℕ) → at ≤ end → end < length b
 joined bytes at end before inside feed plain =
     let split = split_at bytes at end before inside feed in
     rw split at (lines_front (take (end - at) (drop at bytes)) [] (drop (end + 1) bytes) plain)
+
+-- what stands after the last line is the same after it
+pub rest_joined : (bytes : List ℕ) (at end : ℕ) → at ≤ end → end < length bytes → get_or bytes end 0 ≡ 10 → feeds_in (take (end - at) (drop at bytes)) ≡ 0 → rest_after [] (drop at bytes) ≡ rest_after [] (drop (end + 1) bytes)
+rest_joined bytes at end before inside feed plain =
+    let split = split_at bytes at end before inside feed in
+    rw split at (rest_front (take (end - at) (drop at bytes)) [] (drop (end + 1) bytes) plain)

@@ -4,12 +4,8 @@ use Rattle.std.specs.List.{All}
 use Rattle.std.proofs.lemmas.List.{append-nil, length-append}
 use Rattle.std.proofs.lemmas.List.Elements.{All-nil, All-cons, All-head, All-tail, All-append}
 use Rattle.std.proofs.lemmas.Bool.{cases_Bool}
-use Rattle.pc_format.specs.Lines.{feeds_in}
-use Rattle.pc_format.specs.Formats.{Lines, Found, ArePlain, IsFault, IsFormat, Begins, Ends, any, read_many, read_many_in, read_joined, items_text, first_line}
+use Rattle.pc_format.specs.Formats.{Lines, Found, IsPlain, ArePlain, IsFault, IsFormat, Begins, Ends, any, read_many, read_many_in, read_joined, items_text, first_line}
 use Rattle.pc_format.proofs.Results.{ok_parts, ok_err, first_same, IsBoth, IsFirst, both_found, first_or_second, both_are, first_fails, second_fails}
-
-abbrev IsPlain : List ℕ → Type 0
-IsPlain line = feeds_in line ≡ 0
 
 begins_more : (begins : List ℕ → Bool) (a b : Lines) → Begins begins (first_line a) → Begins begins (first_line (a ++ b))
 begins_more begins [] b is = absurd is

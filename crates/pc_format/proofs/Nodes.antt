@@ -1,13 +1,9 @@
 -- The format of the nodes of trees in preorder.
 use Rattle.std.proofs.Common.{◌≡◌, ◌⊎◌, inl, inr, ℕ, zero, suc, Bool, false, List, [], ◌∷◌, ◌++◌, Option, Some, None, Ok, Err, refl, sym, ap, ◌∙◌, subst, if◌then◌else◌}
 use Rattle.std.proofs.lemmas.List.Elements.{All-nil, All-cons}
-use Rattle.pc_format.specs.Lines.{feeds_in}
-use Rattle.pc_format.specs.Formats.{Lines, Found, ◌>>=◌, ArePlain, IsFault, IsFormat, IsLine, AreTrees, any, line_found, read_line, read_joined, read_nodes, owed_after, nodes_text}
+use Rattle.pc_format.specs.Formats.{Lines, Found, ◌>>=◌, IsPlain, ArePlain, IsFault, IsFormat, IsLine, AreTrees, any, line_found, read_line, read_joined, read_nodes, owed_after, nodes_text}
 use Rattle.pc_format.proofs.Results.{ok_parts, err_same, ok_err, err_ok, refused_as, cons_parts, IsBoth, IsFirst, both_found, first_or_second, both_are, first_fails, second_fails}
 use Rattle.pc_format.proofs.OneLine.{line_format, refused_line}
-
-abbrev IsPlain : List ℕ → Type 0
-IsPlain line = feeds_in line ≡ 0
 
 module _ {A : Type 0} (Good : A → Type 0) (text : A → List ℕ) (read : List ℕ → Option A) (is_inner : A → Bool) (l : IsLine Good text read) (leaf : A) (good_leaf : Good leaf) (outer : is_inner leaf ≡ false) where
   abbrev line_of : A → Lines

@@ -1,12 +1,8 @@
 -- The format of one line, and that of none.
 use Rattle.std.proofs.Common.{◌≡◌, ℕ, List, [], ◌∷◌, ◌++◌, Option, Some, None, Ok, Err, refl, sym, ap, ◌∙◌, subst}
 use Rattle.std.proofs.lemmas.List.Elements.{All-nil, All-cons}
-use Rattle.pc_format.specs.Lines.{feeds_in}
-use Rattle.pc_format.specs.Formats.{Lines, ArePlain, IsFault, IsFormat, IsLine, any, line_found, read_line, read_none, first_line}
+use Rattle.pc_format.specs.Formats.{Lines, IsPlain, ArePlain, IsFault, IsFormat, IsLine, any, line_found, read_line, read_none, first_line}
 use Rattle.pc_format.proofs.Results.{found_as, ok_parts, err_same, ok_err, err_ok, cons_parts, nil_cons}
-
-abbrev IsPlain : List ℕ → Type 0
-IsPlain line = feeds_in line ≡ 0
 
 -- a line is refused at once, whatever follows it
 pub refused_line : {A : Type 0} (read : List ℕ → Option A) (lines left : Lines) → read_line read lines ≡ Err left → (lines ≡ left) × ((line : List ℕ) (more other : Lines) → left ≡ line ∷ more → read_line read (line ∷ other) ≡ Err (line ∷ other))

@@ -3,7 +3,7 @@ use Rattle.std.proofs.Common.{◌≡◌, ℕ, ◌+◌, ◌-◌, ◌<◌, ◌≤�
 use Rattle.std.proofs.lemmas.List.{take_more, take_all, get_or-drop, length-drop}
 use Rattle.std.proofs.lemmas.Bool.{ne_eqb, eq-eqb}
 use Rattle.pc_format.specs.Lines.{whole_lines, feeds_in, IsLineEnd}
-use Rattle.pc_format.proofs.LinesOf.{feeds_joined, no_lines, joined}
+use Rattle.pc_format.proofs.LinesOf.{feeds_joined, no_lines, joined, rest_joined}
 
 -- the line feeds of one byte
 feed_here : (byte : ℕ) → byte ≡ 10 → feeds_in (byte ∷ []) ≡ 1
@@ -35,7 +35,7 @@ end_step bytes at end after inside other plain =
     rw next (omega arith)
 
 pub end_found : (bytes : List ℕ) (at end : ℕ) → at ≤ end → end < length bytes → get_or bytes end 0 ≡ 10 → feeds_in (take (end - at) (drop at bytes)) ≡ 0 → IsLineEnd bytes at end
-end_found bytes at end after inside feed plain = record { after = after; inside = inside; first = joined bytes at end after inside feed plain }
+end_found bytes at end after inside feed plain = record { after = after; inside = inside; first = joined bytes at end after inside feed plain; rest = rest_joined bytes at end after inside feed plain }
 
 pub end_none : (bytes : List ℕ) (at end : ℕ) → length bytes ≤ end → feeds_in (take (end - at) (drop at bytes)) ≡ 0 → whole_lines (drop at bytes) ≡ []
 end_none bytes at end past plain = no_lines [] (drop at bytes) (ap feeds_in (sym (take_all (end - at) (drop at bytes) (omega (arith, length-drop at bytes)))) ∙ plain)

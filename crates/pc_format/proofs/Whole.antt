@@ -4,7 +4,7 @@ use Rattle.std.proofs.lemmas.List.{append-nil, length-append}
 use Rattle.std.proofs.lemmas.List.Elements.{All-nil, All-cons, All-head, All-tail}
 use Rattle.std.proofs.lemmas.Bool.{cases_lt}
 use Rattle.pc_format.specs.Lines.{lines_text, lines_after, whole_lines, rest_after, feeds_in}
-use Rattle.pc_format.specs.Formats.{Lines, Found, ArePlain, IsFault, IsFormat, IsTextOf, IsBeginning, IsFirstFault, Tells, line_at, whole_of, read_bytes, first_line}
+use Rattle.pc_format.specs.Formats.{Lines, Found, IsPlain, ArePlain, IsFault, IsFormat, IsTextOf, IsBeginning, IsFirstFault, Tells, line_at, whole_of, read_bytes, first_line}
 use Rattle.pc_format.proofs.Results.{ok_parts, ok_err, cons_parts, nil_cons}
 use Rattle.pc_format.proofs.LinesOf.{lines_back, rest_back, rest_alone, text_joined, whole, as_many, lines_plain, feeds_joined, feeds_are_lines, lines_joined, no_feeds}
 
@@ -16,9 +16,6 @@ longer (first ∷ a) (other ∷ b) u line more e long =
     let parts = cons_parts first other (a ++ u) (b ++ line ∷ more) e in
     let rest = longer a b u line more parts.1 (omega arith) in
     (rest.0, ap (λ (next : List ℕ). next ∷ a) parts.0 ∙ ap (λ (after : Lines). other ∷ after) rest.1)
-
-abbrev IsPlain : List ℕ → Type 0
-IsPlain line = feeds_in line ≡ 0
 
 all_front : (before left : Lines) → ArePlain (before ++ left) → ArePlain before
 all_front [] left plain = All-nil IsPlain

@@ -1,4 +1,4 @@
-ghost use Rattle.std.specs.Prelude.{◌≡◌, ℕ, ◌+◌, All, Contains, List, [], ◌++◌, length, take, drop, Ok};
+ghost use Rattle.std.specs.Prelude.{◌≡◌, ℕ, ◌+◌, All, Contains, List, [], ◌++◌, length, take, drop, ◌<◌, Ok, Err};
 ghost use Rattle.pc_format.specs.Lines.{lines_text, whole_lines, rest_after, feeds_in};
 ghost use Rattle.pc_format.specs.Formats.{Lines, ArePlain, AreApart, IsLine, IsTextOf, Tells, found_in, line_at, read_bytes};
 ghost use Rattle.pc_format.specs.Samples.{Body, IsBody, sample_text, read_sample};
@@ -46,4 +46,9 @@ pub fn samples_read_back()
 /// Of any bytes the reader tells the sample whose bytes they are, or the line of the first fault.
 pub fn samples_tell()
     ensures { (bytes : List ℕ) → Tells IsBody sample_text bytes (read_bytes read_sample bytes) }
+{}
+
+/// A sample that ends before the bytes do, at the beginning of a line, is told as a fault of that line.
+pub fn samples_end_at_places()
+    ensures { (bytes : List ℕ) (at : ℕ) (body : Body) → read_sample (whole_lines bytes) ≡ Ok (body, whole_lines (drop at bytes)) → rest_after [] (drop at bytes) ≡ rest_after [] bytes → at < length bytes → read_bytes read_sample bytes ≡ Err (feeds_in (take at bytes) + 1) }
 {}
