@@ -1,5 +1,5 @@
 -- The format of values that are read as others.
-use Rattle.std.proofs.Common.{◌≡◌, ◌⊎◌, ⊎_elim, ℕ, List, [], ◌∷◌, ◌++◌, Option, Ok, Err, refl, sym, ap, ◌∙◌, subst}
+use Rattle.std.proofs.Common.{◌≡◌, ⊎_elim, ℕ, List, ◌∷◌, ◌++◌, Option, Ok, Err, refl, sym, ap, ◌∙◌, subst}
 use Rattle.pc_format.specs.Formats.{Lines, Found, ArePlain, IsFault, IsFormat, IsAs, read_as, read_none, first_line}
 use Rattle.pc_format.proofs.Results.{ok_parts, ok_err, found_as, IsBoth, IsFirst, both_found, first_or_second, both_are, first_fails}
 
@@ -16,8 +16,10 @@ module _ {A C : Type 0} (GoodA : A → Type 0) (textA : A → Lines) (FollowsA :
     where
       p : (x : A) × GoodA x × (to x ≡ z)
       p = a.parts z good
+
       ended : FollowsA p.0 (first_line rest)
       ended = a.back_follows p.0 (first_line rest) p.1 (subst (λ (w : C). Follows w (first_line rest)) (sym p.2) follows)
+
       again : read_as to read (text (to p.0) ++ rest) ≡ Ok (to p.0, rest)
       again = ap (λ (front : Lines). read_as to read (front ++ rest)) (a.made p.0 p.1).1 ∙ both_are read nothing to_value (textA p.0 ++ rest) rest rest p.0 tt (format.complete p.0 rest p.1 ended) refl
 
@@ -26,10 +28,13 @@ module _ {A C : Type 0} (GoodA : A → Type 0) (textA : A → Lines) (FollowsA :
     where
       b : IsBoth read nothing to_value lines rest z
       b = both_found read nothing to_value lines rest z e
+
       found : read lines ≡ Ok (b.x, rest)
       found = b.found ∙ ap (λ (left : Lines). found_as b.x left) (ok_parts tt b.y b.middle rest b.last).1
+
       one : GoodA b.x × (lines ≡ textA b.x ++ rest) × FollowsA b.x (first_line rest)
       one = format.sound lines rest b.x found
+
       made : Good (to b.x) × (text (to b.x) ≡ textA b.x)
       made = a.made b.x one.0
 
@@ -41,11 +46,12 @@ module _ {A C : Type 0} (GoodA : A → Type 0) (textA : A → Lines) (FollowsA :
     good = made.0;
     after = f.after;
     goes_on = made.1 ∙ f.goes_on;
-    stays = λ line more other is. first_fails read nothing to_value (f.before ++ line ∷ other) (line ∷ other) (f.stays line more other is)
+    stays = λ line more other is. first_fails read nothing to_value (f.before ++ line ∷ other) (line ∷ other) (f.stays line more other is);
   }
     where
       f : IsFault GoodA textA read lines left
       f = format.fault lines left e
+
       made : Good (to f.value) × (text (to f.value) ≡ textA f.value)
       made = a.made f.value f.good
 
@@ -64,7 +70,7 @@ module _ {A C : Type 0} (GoodA : A → Type 0) (textA : A → Lines) (FollowsA :
     complete = as_complete;
     sound = as_sound;
     fault = as_fault;
-    plain = as_plain
+    plain = as_plain;
   }
 
 -- Of a format of values one of what they are read as.

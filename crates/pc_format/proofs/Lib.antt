@@ -1,10 +1,12 @@
+pub mod As
+pub mod ByPlace
+pub mod Joined
 pub mod LinesOf
 pub mod Many
 pub mod Nodes
 pub mod OneLine
-pub mod As
-pub mod Joined
+pub mod Places
 pub mod Results
-pub mod Try
+pub mod SampleLaws
 pub mod Spelled
 pub mod Whole

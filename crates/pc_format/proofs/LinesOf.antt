@@ -1,15 +1,11 @@
 -- The lines of bytes.
-use Rattle.std.proofs.Common.{◌≡◌, ℕ, zero, suc, ◌+◌, ◌-◌, ◌<◌, ◌≤◌, ◌==◌, Bool, true, false, List, [], ◌∷◌, ◌++◌, length, take, drop, get_or, refl, sym, ap, ◌∙◌, subst, arith, append_assoc, if◌then◌else◌}
-use Rattle.std.specs.List.{All, flat_map}
+use Rattle.std.proofs.Common.{◌≡◌, ℕ, ◌+◌, ◌-◌, ◌<◌, ◌≤◌, ◌==◌, Bool, true, false, List, [], ◌∷◌, ◌++◌, length, take, drop, get_or, refl, sym, ap, ◌∙◌, arith, append_assoc, if◌then◌else◌}
 use Rattle.std.proofs.lemmas.List.{append-nil, take-append-drop, drop-drop, drop_more}
 use Rattle.std.proofs.lemmas.List.Elements.{All-nil, All-cons, All-head, All-tail}
 use Rattle.std.proofs.lemmas.List.Concat.{flat_map-append}
 use Rattle.std.proofs.lemmas.Bool.{eqb-true}
 use Rattle.pc_format.specs.Lines.{lines_text, lines_after, whole_lines, rest_after, feeds_in}
-use Rattle.pc_format.specs.Formats.{Lines, ArePlain, line_at}
-
-abbrev IsPlain : List ℕ → Type 0
-IsPlain line = feeds_in line ≡ 0
+use Rattle.pc_format.specs.Formats.{Lines, IsPlain, ArePlain, line_at}
 
 pub no_feeds : feeds_in [] ≡ 0
 unfolding feeds_in
@@ -118,6 +114,7 @@ plain_from before (byte ∷ bytes) plain = by_test (byte == 10) refl (plain_from
   where
     nothing : feeds_in [] ≡ 0
     nothing = no_feeds
+
     by_test : (test : Bool) → (byte == 10) ≡ test → ArePlain (lines_after [] bytes) × (feeds_in (rest_after [] bytes) ≡ 0) → (feeds_in (before ++ byte ∷ []) ≡ 0 → ArePlain (lines_after (before ++ byte ∷ []) bytes) × (feeds_in (rest_after (before ++ byte ∷ []) bytes) ≡ 0)) → ArePlain (if test then before ∷ lines_after [] bytes else lines_after (before ++ byte ∷ []) bytes) × (feeds_in (if test then rest_after [] bytes else rest_after (before ++ byte ∷ []) bytes) ≡ 0)
     by_test true is ended longer = (All-cons IsPlain before (lines_after [] bytes) plain ended.0, ended.1)
     by_test false is ended longer = longer (plain_more before byte plain is)
@@ -182,3 +179,9 @@ pub joined : (bytes : List ℕ) (at end : ℕ) → at ≤ end → end < length b
 joined bytes at end before inside feed plain =
     let split = split_at bytes at end before inside feed in
     rw split at (lines_front (take (end - at) (drop at bytes)) [] (drop (end + 1) bytes) plain)
+
+-- what stands after the last line is the same after it
+pub rest_joined : (bytes : List ℕ) (at end : ℕ) → at ≤ end → end < length bytes → get_or bytes end 0 ≡ 10 → feeds_in (take (end - at) (drop at bytes)) ≡ 0 → rest_after [] (drop at bytes) ≡ rest_after [] (drop (end + 1) bytes)
+rest_joined bytes at end before inside feed plain =
+    let split = split_at bytes at end before inside feed in
+    rw split at (rest_front (take (end - at) (drop at bytes)) [] (drop (end + 1) bytes) plain)

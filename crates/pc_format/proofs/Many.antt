@@ -1,15 +1,11 @@
 -- The format of as many values as lines begin so.
-use Rattle.std.proofs.Common.{◌≡◌, ◌⊎◌, ⊎_elim, ℕ, zero, suc, ◌+◌, ◌≤◌, Bool, true, false, List, [], ◌∷◌, ◌++◌, length, Option, Some, None, Ok, Err, refl, sym, ap, ◌∙◌, subst, arith, append_assoc, if◌then◌else◌, inl, inr}
+use Rattle.std.proofs.Common.{◌≡◌, ◌⊎◌, ⊎_elim, ℕ, zero, suc, ◌≤◌, Bool, List, [], ◌∷◌, ◌++◌, length, Ok, Err, refl, sym, ap, ◌∙◌, subst, arith, append_assoc, if◌then◌else◌, inr}
 use Rattle.std.specs.List.{All}
 use Rattle.std.proofs.lemmas.List.{append-nil, length-append}
 use Rattle.std.proofs.lemmas.List.Elements.{All-nil, All-cons, All-head, All-tail, All-append}
 use Rattle.std.proofs.lemmas.Bool.{cases_Bool}
-use Rattle.pc_format.specs.Lines.{feeds_in}
-use Rattle.pc_format.specs.Formats.{Lines, Found, ◌>>=◌, ArePlain, IsFault, IsFormat, Begins, Ends, any, read_many, read_many_in, read_joined, items_text, first_line}
+use Rattle.pc_format.specs.Formats.{Lines, Found, IsPlain, ArePlain, IsFault, IsFormat, Begins, Ends, any, read_many, read_many_in, read_joined, items_text, first_line}
 use Rattle.pc_format.proofs.Results.{ok_parts, ok_err, first_same, IsBoth, IsFirst, both_found, first_or_second, both_are, first_fails, second_fails}
-
-abbrev IsPlain : List ℕ → Type 0
-IsPlain line = feeds_in line ≡ 0
 
 begins_more : (begins : List ℕ → Bool) (a b : Lines) → Begins begins (first_line a) → Begins begins (first_line (a ++ b))
 begins_more begins [] b is = absurd is
@@ -112,15 +108,16 @@ module _ {A : Type 0} (Good : A → Type 0) (text : A → Lines) (read : Lines �
     good = All-cons Good f.value [] f.good (All-nil Good);
     after = f.after;
     goes_on = append-nil (text f.value) ∙ f.goes_on;
-    stays = stays
+    stays = stays;
   }
     where
       f : IsFault Good text read lines left
       f = format.fault lines left e
+
       stays : (line : List ℕ) (more other : Lines) (m : ℕ) → left ≡ line ∷ more → length (f.before ++ line ∷ other) ≤ m → read_many_in begins read m (f.before ++ line ∷ other) ≡ Err (line ∷ other)
       stays line more other m same most =
           let seen : first_line lines ≡ first_line (f.before ++ line ∷ other) =
-              ap first_line (f.parts ∙ ap (λ (ls : Lines). f.before ++ ls) same) ∙ first_same f.before line more other in
+          ap first_line (f.parts ∙ ap (λ (ls : Lines). f.before ++ ls) same) ∙ first_same f.before line more other in
           let begun : Begins begins (first_line (f.before ++ line ∷ other)) = subst (Begins begins) seen is in
           let fuel = some_fuel (f.before ++ line ∷ other) m begun most in
           ap (λ (k : ℕ). read_many_in begins read k (f.before ++ line ∷ other)) fuel.1
@@ -136,11 +133,12 @@ module _ {A : Type 0} (Good : A → Type 0) (text : A → Lines) (read : Lines �
     good = All-cons Good x f.value one.0 f.good;
     after = f.after;
     goes_on = ap (λ (ls : Lines). text x ++ ls) f.goes_on ∙ sym (append_assoc (text x) f.before f.after);
-    stays = stays
+    stays = stays;
   }
     where
       one : Good x × (lines ≡ text x ++ middle) × Unit {0}
       one = format.sound lines middle x e
+
       stays : (line : List ℕ) (more other : Lines) (m : ℕ) → left ≡ line ∷ more → length ((text x ++ f.before) ++ line ∷ other) ≤ m → read_many_in begins read m ((text x ++ f.before) ++ line ∷ other) ≡ Err (line ∷ other)
       stays line more other m same most =
           let after : Lines = f.before ++ line ∷ other in
@@ -181,7 +179,7 @@ module _ {A : Type 0} (Good : A → Type 0) (text : A → Lines) (read : Lines �
     complete = λ xs rest good ends. complete_in xs (length (lines_of xs ++ rest)) rest good ends (omega arith);
     sound = λ lines rest xs e. sound_in (length lines) lines rest xs (omega arith) e;
     fault = many_fault;
-    plain = plain_in
+    plain = plain_in;
   }
 
 -- Of the format of a value, whose first line begins so, one of as many as begin so.

@@ -1,13 +1,9 @@
 -- The format of the nodes of trees in preorder.
-use Rattle.std.proofs.Common.{◌≡◌, ◌⊎◌, ⊎_elim, inl, inr, ℕ, zero, suc, Bool, true, false, List, [], ◌∷◌, ◌++◌, Option, Some, None, Ok, Err, refl, sym, ap, ◌∙◌, subst, if◌then◌else◌}
+use Rattle.std.proofs.Common.{◌≡◌, ◌⊎◌, inl, inr, ℕ, zero, suc, Bool, false, List, [], ◌∷◌, ◌++◌, Option, Some, None, Ok, Err, refl, sym, ap, ◌∙◌, subst, if◌then◌else◌}
 use Rattle.std.proofs.lemmas.List.Elements.{All-nil, All-cons}
-use Rattle.pc_format.specs.Lines.{feeds_in}
-use Rattle.pc_format.specs.Formats.{Lines, Found, ◌>>=◌, ArePlain, IsFault, IsFormat, IsLine, AreTrees, any, line_found, read_line, read_joined, read_nodes, owed_after, nodes_text}
+use Rattle.pc_format.specs.Formats.{Lines, Found, ◌>>=◌, IsPlain, ArePlain, IsFault, IsFormat, IsLine, AreTrees, any, line_found, read_line, read_joined, read_nodes, owed_after, nodes_text}
 use Rattle.pc_format.proofs.Results.{ok_parts, err_same, ok_err, err_ok, refused_as, cons_parts, IsBoth, IsFirst, both_found, first_or_second, both_are, first_fails, second_fails}
 use Rattle.pc_format.proofs.OneLine.{line_format, refused_line}
-
-abbrev IsPlain : List ℕ → Type 0
-IsPlain line = feeds_in line ≡ 0
 
 module _ {A : Type 0} (Good : A → Type 0) (text : A → List ℕ) (read : List ℕ → Option A) (is_inner : A → Bool) (l : IsLine Good text read) (leaf : A) (good_leaf : Good leaf) (outer : is_inner leaf ≡ false) where
   abbrev line_of : A → Lines
@@ -106,7 +102,7 @@ module _ {A : Type 0} (Good : A → Type 0) (text : A → List ℕ) (read : List
     good = leaves_fit (suc n);
     after = nodes_text text (leaves (suc n));
     goes_on = refl;
-    stays = λ line more other is. nodes_step n (line ∷ other) ∙ first_fails (read_line read) (others n) with_first (line ∷ other) (line ∷ other) ((refused_line read lines left e).1 line more other is)
+    stays = λ line more other is. nodes_step n (line ∷ other) ∙ first_fails (read_line read) (others n) with_first (line ∷ other) (line ∷ other) ((refused_line read lines left e).1 line more other is);
   }
 
   -- reading ends after a node
@@ -118,7 +114,7 @@ module _ {A : Type 0} (Good : A → Type 0) (text : A → List ℕ) (read : List
     good = are_more n x f.value good f.good;
     after = f.after;
     goes_on = ap (λ (after : Lines). text x ∷ after) f.goes_on;
-    stays = λ next more other is. nodes_step n (text x ∷ (f.before ++ next ∷ other)) ∙ second_fails (read_line read) (others n) with_first (text x ∷ (f.before ++ next ∷ other)) (f.before ++ next ∷ other) (next ∷ other) x (one.complete x (f.before ++ next ∷ other) good tt) (f.stays next more other is)
+    stays = λ next more other is. nodes_step n (text x ∷ (f.before ++ next ∷ other)) ∙ second_fails (read_line read) (others n) with_first (text x ∷ (f.before ++ next ∷ other)) (f.before ++ next ∷ other) (next ∷ other) x (one.complete x (f.before ++ next ∷ other) good tt) (f.stays next more other is);
   }
 
   nodes_fault : (lines : Lines) (n : ℕ) (left : Lines) → read_nodes is_inner read n lines ≡ Err left → IsFaultOf n lines left
@@ -147,7 +143,7 @@ module _ {A : Type 0} (Good : A → Type 0) (text : A → List ℕ) (read : List
     complete = λ xs rest trees follows. nodes_complete xs n rest trees;
     sound = λ lines rest xs e. let known = nodes_sound lines n rest xs e in (known.0, known.1, tt);
     fault = λ lines left e. nodes_fault lines n left e;
-    plain = λ xs trees. nodes_plain xs n trees
+    plain = λ xs trees. nodes_plain xs n trees;
   }
 
 -- Of lines of nodes, of which some may be a leaf, the format of so many trees.

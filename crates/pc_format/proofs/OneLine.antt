@@ -1,12 +1,8 @@
 -- The format of one line, and that of none.
 use Rattle.std.proofs.Common.{◌≡◌, ℕ, List, [], ◌∷◌, ◌++◌, Option, Some, None, Ok, Err, refl, sym, ap, ◌∙◌, subst}
 use Rattle.std.proofs.lemmas.List.Elements.{All-nil, All-cons}
-use Rattle.pc_format.specs.Lines.{feeds_in}
-use Rattle.pc_format.specs.Formats.{Lines, Found, ArePlain, IsFault, IsFormat, IsLine, any, line_found, read_line, read_none}
+use Rattle.pc_format.specs.Formats.{Lines, IsPlain, ArePlain, IsFault, IsFormat, IsLine, any, line_found, read_line, read_none, first_line}
 use Rattle.pc_format.proofs.Results.{found_as, ok_parts, err_same, ok_err, err_ok, cons_parts, nil_cons}
-
-abbrev IsPlain : List ℕ → Type 0
-IsPlain line = feeds_in line ≡ 0
 
 -- a line is refused at once, whatever follows it
 pub refused_line : {A : Type 0} (read : List ℕ → Option A) (lines left : Lines) → read_line read lines ≡ Err left → (lines ≡ left) × ((line : List ℕ) (more other : Lines) → left ≡ line ∷ more → read_line read (line ∷ other) ≡ Err (line ∷ other))
@@ -51,16 +47,21 @@ module _ {A : Type 0} (Good : A → Type 0) (text : A → List ℕ) (read : List
     complete = λ x rest good follows. line_complete x rest good;
     sound = λ lines rest x e. let known = line_sound lines rest x e in (known.0, known.1, tt);
     fault = line_fault;
-    plain = λ x good. All-cons IsPlain (text x) [] (l.plain x good) (All-nil IsPlain)
+    plain = λ x good. All-cons IsPlain (text x) [] (l.plain x good) (All-nil IsPlain);
   }
 
--- a value that takes no line
-pub none_format : {A : Type 0} (x : A) → IsFormat (λ y. y ≡ x) (λ y. []) any (read_none x)
-none_format {A} x = record {
+-- The format of one value that takes no line.
+pub none_format : {A : Type 0} {Good : A → Type 0} {text : A → Lines} {Follows : A → Option (List ℕ) → Type 0} (x : A) → Good x → ((y : A) → Good y → y ≡ x) → text x ≡ [] → ((line : Option (List ℕ)) → Follows x line) → IsFormat Good text Follows (read_none x)
+none_format {A} {Good} {text} {Follows} x good only no_line follows = record {
   some = x;
-  some_good = refl;
-  complete = λ y rest good follows. ap (λ (z : A). found_as z rest) (sym good);
-  sound = λ lines rest y e. let parts = ok_parts x y lines rest e in (sym parts.0, parts.1, tt);
+  some_good = good;
+  complete = λ y rest is after. ap (λ (z : A). read_none x (text z ++ rest)) (only y is) ∙ ap (λ (front : Lines). read_none x (front ++ rest)) no_line ∙ ap (λ (z : A). found_as z rest) (sym (only y is));
+  sound = known;
   fault = λ lines left e. absurd (ok_err x lines left e);
-  plain = λ y good. All-nil IsPlain
+  plain = λ y is. subst (λ (z : A). ArePlain (text z)) (sym (only y is)) (subst ArePlain (sym no_line) (All-nil IsPlain));
 }
+  where
+    known : (lines rest : Lines) (y : A) → read_none x lines ≡ Ok (y, rest) → Good y × (lines ≡ text y ++ rest) × Follows y (first_line rest)
+    known lines rest y e =
+        let parts = ok_parts x y lines rest e in
+        subst (λ (z : A). Good z × (lines ≡ text z ++ rest) × Follows z (first_line rest)) parts.0 (good, parts.1 ∙ ap (λ (front : Lines). front ++ rest) (sym no_line), follows (first_line rest))

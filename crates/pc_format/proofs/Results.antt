@@ -1,5 +1,5 @@
 -- What reading finds, taken apart.
-use Rattle.std.proofs.Common.{◌≡◌, ◌⊎◌, inl, inr, ℕ, List, [], ◌∷◌, ◌++◌, Result, Ok, Err, refl, ap, ◌∙◌}
+use Rattle.std.proofs.Common.{◌≡◌, ◌⊎◌, inl, inr, ℕ, List, [], ◌∷◌, ◌++◌, Ok, Err, refl, ap, ◌∙◌}
 use Rattle.pc_format.specs.Formats.{Lines, Found, ◌>>=◌, first_line, read_joined}
 
 pub ok_parts : {A : Type 0} (x y : A) (a b : Lines) → ◌≡◌ {A = Found A} (Ok (x, a)) (Ok (y, b)) → (x ≡ y) × (a ≡ b)
@@ -67,6 +67,7 @@ module _ {A B C : Type 0} (read : Lines → Found A) (next : A → Lines → Fou
           let parts = ok_parts (join x y) z after rest f in
           record { x = x; middle = middle; y = y; found = found; last = is ∙ ap (λ (others : Lines). found_as y others) parts.1; is = parts.0 }
       by_last x middle found (Err left) is f = absurd (err_ok z rest left f)
+
       by_first : (found : Found A) → read lines ≡ found → after_of found ≡ Ok (z, rest) → IsBoth read next join lines rest z
       by_first (Ok (x, middle)) is f = by_last x middle is (next x middle) refl f
       by_first (Err left) is f = absurd (err_ok z rest left f)
@@ -77,6 +78,7 @@ module _ {A B C : Type 0} (read : Lines → Found A) (next : A → Lines → Fou
       by_last : (x : A) (middle : Lines) → read lines ≡ Ok (x, middle) → (last : Found B) → next x middle ≡ last → joined_of x last ≡ Err left → (read lines ≡ Err left) ⊎ IsFirst read next lines left
       by_last x middle found (Ok (y, after)) is f = absurd (ok_err (join x y) after left f)
       by_last x middle found (Err other) is f = inr (record { x = x; middle = middle; found = found; last = is ∙ ap refused_as (err_same other left f) })
+
       by_first : (found : Found A) → read lines ≡ found → after_of found ≡ Err left → (read lines ≡ Err left) ⊎ IsFirst read next lines left
       by_first (Ok (x, middle)) is f = by_last x middle is (next x middle) refl f
       by_first (Err other) is f = inl (is ∙ ap refused_as (err_same other left f))

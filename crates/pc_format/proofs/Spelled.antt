@@ -1,6 +1,6 @@
 -- Lines that are written again and compared, and lines of a few words.
-use Rattle.std.proofs.Common.{◌≡◌, ◌⊎◌, ⊎_elim, inl, inr, ℕ, zero, suc, ◌+◌, ◌<◌, ◌&&◌, Bool, true, false, List, [], ◌∷◌, ◌++◌, length, get_or, Option, Some, None, refl, sym, ap, ◌∙◌, subst, arith, if◌then◌else◌}
-use Rattle.std.specs.List.{All, AllPairs, Contains}
+use Rattle.std.proofs.Common.{◌≡◌, ◌⊎◌, ⊎_elim, inl, inr, ℕ, zero, suc, ◌<◌, ◌&&◌, Bool, true, false, List, [], ◌∷◌, length, get_or, Option, Some, None, refl, sym, ap, ◌∙◌, arith, if◌then◌else◌}
+use Rattle.std.specs.List.{All, Contains}
 use Rattle.std.specs.Str.{bytes_eq}
 use Rattle.std.proofs.lemmas.List.Elements.{All-contains, Contains-append_right}
 use Rattle.std.proofs.lemmas.Slice.Eq.{bytes_eq-Decides}
@@ -35,13 +35,13 @@ if_sound {A} text is_good line (Some y) x e = by_test (is_good y && bytes_eq (te
         (f, ap is_good (sym same) ∙ parts.0, sym (same_bytes (text y) line parts.1) ∙ ap text same)
 
 -- A line that is written again and compared is a line.
-pub spelled_line : {A : Type 0} {Good : A → Type 0} {text : A → List ℕ} {is_good : A → Bool} {likely : List ℕ → Option A} → IsSpelled Good text is_good likely → IsLine Good text (read_spelled text is_good likely)
-spelled_line {A} {Good} {text} {is_good} {likely} s = record {
+pub spelled_line : {A : Type 0} {Good : A → Type 0} (text : A → List ℕ) (is_good : A → Bool) (likely : List ℕ → Option A) → IsSpelled Good text is_good likely → IsLine Good text (read_spelled text is_good likely)
+spelled_line text is_good likely s = record {
   some = s.some;
   some_good = s.some_good;
   complete = λ x good. ap (if_spelled text is_good (text x)) (s.back x good) ∙ ap (λ (test : Bool). if test then Some x else None) (and_from (is_good x) (bytes_eq (text x) (text x)) (s.tested x good) (bytes_same (text x)));
   sound = λ line x e. let known = if_sound text is_good line (likely line) x e in (s.holds line x known.0 known.1, known.2);
-  plain = s.plain
+  plain = s.plain;
 }
 
 module _ {A : Type 0} (text : A → List ℕ) where
@@ -78,6 +78,7 @@ module _ {A : Type 0} (text : A → List ℕ) where
     where
       at_first : y ≡ x → (if bytes_eq (text y) (text x) then Some y else found_in text ys (text x)) ≡ Some x
       at_first same = ap (λ (test : Bool). if test then Some y else found_in text ys (text x)) (ap (λ (z : A). bytes_eq (text y) (text z)) (sym same) ∙ bytes_same (text y)) ∙ ap Some same
+
       later : (AreApart text ys → Contains ys x → found_in text ys (text x) ≡ Some x) → Contains ys x → (if bytes_eq (text y) (text x) then Some y else found_in text ys (text x)) ≡ Some x
       later again among = ap (λ (test : Bool). if test then Some y else found_in text ys (text x)) (bytes_apart (text y) (text x) (apart_from y ys x apart among)) ∙ again (later_apart y ys apart) among
 
@@ -88,7 +89,7 @@ one_of_line text xs some all found plain = record {
   some_good = all some;
   complete = λ x good. found x;
   sound = λ line x e. (all x, (found_text text xs line x e).1);
-  plain = λ x good. plain x
+  plain = λ x good. plain x;
 }
 
 -- Of the values of a list no two of which have the same text, a line.
@@ -98,5 +99,5 @@ listed_line text xs some contains apart plain = record {
   some_good = contains;
   complete = λ x good. found_again text xs x apart good;
   sound = λ line x e. found_text text xs line x e;
-  plain = λ x good. All-contains (λ y. feeds_in (text y) ≡ 0) xs x plain good
+  plain = λ x good. All-contains (λ y. feeds_in (text y) ≡ 0) xs x plain good;
 }

@@ -1,12 +1,12 @@
 -- The bytes of a format.
-use Rattle.std.proofs.Common.{◌≡◌, ◌⊎◌, ⊎_elim, inl, inr, ℕ, zero, suc, ◌+◌, ◌-◌, ◌<◌, ◌≤◌, List, [], ◌∷◌, ◌++◌, length, Option, Some, None, Result, Ok, Err, refl, sym, ap, ◌∙◌, subst, arith, append_assoc}
+use Rattle.std.proofs.Common.{◌≡◌, ⊎_elim, ℕ, ◌+◌, ◌<◌, ◌≤◌, List, [], ◌∷◌, ◌++◌, length, Option, Some, None, Ok, Err, refl, sym, ap, ◌∙◌, subst, arith, append_assoc}
 use Rattle.std.proofs.lemmas.List.{append-nil, length-append}
 use Rattle.std.proofs.lemmas.List.Elements.{All-nil, All-cons, All-head, All-tail}
 use Rattle.std.proofs.lemmas.Bool.{cases_lt}
 use Rattle.pc_format.specs.Lines.{lines_text, lines_after, whole_lines, rest_after, feeds_in}
-use Rattle.pc_format.specs.Formats.{Lines, Found, ArePlain, IsFault, IsFormat, IsTextOf, IsBeginning, IsFirstFault, Tells, line_at, whole_of, read_bytes, first_line}
+use Rattle.pc_format.specs.Formats.{Lines, Found, IsPlain, ArePlain, IsFault, IsFormat, IsTextOf, IsBeginning, IsFirstFault, Tells, line_at, whole_of, read_bytes, first_line}
 use Rattle.pc_format.proofs.Results.{ok_parts, ok_err, cons_parts, nil_cons}
-use Rattle.pc_format.proofs.LinesOf.{lines_back, lines_before, rest_back, rest_alone, no_lines, text_joined, whole, as_many, lines_plain, feeds_joined, feeds_are_lines, lines_joined, no_feeds}
+use Rattle.pc_format.proofs.LinesOf.{lines_back, rest_back, rest_alone, text_joined, whole, as_many, lines_plain, feeds_joined, feeds_are_lines, lines_joined, no_feeds}
 
 -- a list goes on where a shorter one with the same lines does
 longer : (a b u : Lines) (line : List ℕ) (more : Lines) → a ++ u ≡ b ++ line ∷ more → length b < length a → (w : Lines) × (a ≡ b ++ line ∷ w)
@@ -16,9 +16,6 @@ longer (first ∷ a) (other ∷ b) u line more e long =
     let parts = cons_parts first other (a ++ u) (b ++ line ∷ more) e in
     let rest = longer a b u line more parts.1 (omega arith) in
     (rest.0, ap (λ (next : List ℕ). next ∷ a) parts.0 ∙ ap (λ (after : Lines). other ∷ after) rest.1)
-
-abbrev IsPlain : List ℕ → Type 0
-IsPlain line = feeds_in line ≡ 0
 
 all_front : (before left : Lines) → ArePlain (before ++ left) → ArePlain before
 all_front [] left plain = All-nil IsPlain
@@ -52,13 +49,15 @@ module _ {A : Type 0} (Good : A → Type 0) (text : A → Lines) (Follows : A �
     where
       mine : whole_lines front ++ lines_after (rest_after [] front) back ≡ before ++ line ∷ more
       mine = sym (lines_joined front back) ∙ ap whole_lines (sym split) ∙ parts
+
       its : text begun.0 ≡ whole_lines front ++ lines_after (rest_after [] front) begun.1
       its = sym (lines_are (front ++ begun.1) begun.0 begun.2) ∙ lines_joined front begun.1
+
       too_long : length before < feeds_in front → feeds_in front ≤ length before
       too_long long =
           let rest = longer (whole_lines front) before (lines_after (rest_after [] front) back) line more mine (subst (λ (n : ℕ). length before < n) (feeds_are_lines front) long) in
           let goes_on : text begun.0 ≡ before ++ line ∷ (rest.0 ++ lines_after (rest_after [] front) begun.1) =
-              its ∙ ap (λ (lines : Lines). lines ++ lines_after (rest_after [] front) begun.1) rest.1 ∙ append_assoc before (line ∷ rest.0) (lines_after (rest_after [] front) begun.1) in
+          its ∙ ap (λ (lines : Lines). lines ++ lines_after (rest_after [] front) begun.1) rest.1 ∙ append_assoc before (line ∷ rest.0) (lines_after (rest_after [] front) begun.1) in
           absurd (ends begun.0 (rest.0 ++ lines_after (rest_after [] front) begun.1) begun.2.0 goes_on)
 
   -- a front of the bytes has no more line feeds than there are lines
@@ -77,17 +76,21 @@ module _ {A : Type 0} (Good : A → Type 0) (text : A → Lines) (Follows : A �
     begins = (x, lines_text after, (good, ap lines_text goes_on ∙ text_joined before after));
     line_is = number;
     longest = longest left refl;
-    none = none
+    none = none;
   }
     where
       plain : ArePlain before
       plain = all_front before left (subst ArePlain parts (lines_plain bytes))
+
       many : feeds_in (lines_text before) ≡ length before
       many = as_many before plain
+
       counted : length (whole_lines bytes) ≡ length before + length left
       counted = ap (λ (lines : Lines). length lines) parts ∙ length-append before left
+
       number : line_at (whole_lines bytes) left ≡ feeds_in (lines_text before) + 1
       number = omega (arith, many, counted)
+
       longest : (rest : Lines) → left ≡ rest → (front back : List ℕ) → bytes ≡ front ++ back → IsBeginning Good text front → feeds_in front + 1 ≤ line_at (whole_lines bytes) left
       longest [] is front back split begun =
           let most = at_most_all bytes front back split in
@@ -107,8 +110,10 @@ module _ {A : Type 0} (Good : A → Type 0) (text : A → Lines) (Follows : A �
     where
       f : IsFault Good text read (whole_lines bytes) left
       f = format.fault (whole_lines bytes) left found
+
       ends : (line : List ℕ) (more : Lines) → left ≡ line ∷ more → EndsAt f.before line
       ends line more is y other good same = ok_err y [] (line ∷ other) (sym (read_all y good) ∙ ap read same ∙ f.stays line more other is)
+
       none : (y : A) → IsTextOf Good text bytes y → ⊥
       none y is = ok_err y [] left (sym (read_all y is.0) ∙ ap read (sym (lines_are bytes y is)) ∙ found)
 
@@ -118,6 +123,7 @@ module _ {A : Type 0} (Good : A → Type 0) (text : A → Lines) (Follows : A �
     where
       known : Good x × (whole_lines bytes ≡ text x ++ left) × Follows x (first_line left)
       known = format.sound (whole_lines bytes) left x found
+
       ends : (line : List ℕ) (more : Lines) → left ≡ line ∷ more → EndsAt (text x) line
       ends line more is y other good same =
           let follows : Follows x (Some line) = subst (λ (lines : Lines). Follows x (first_line lines)) is known.2 in

@@ -2,3 +2,12 @@
 #![tactic(auto)]
 
 mod laws;
+mod lines;
+#[cfg(test)]
+mod tests;
+
+pub use laws::{
+    bytes_have_lines, line_feeds_count_lines, line_feeds_number_lines, lines_read_back,
+    listed_lines_are_lines, samples_end_at_places, samples_read_back, samples_tell, texts_join,
+};
+pub use lines::{line_end, line_of};
