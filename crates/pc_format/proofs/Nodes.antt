@@ -16,7 +16,7 @@ module _ {A : Type 0} (Good : A → Type 0) (text : A → List ℕ) (read : List
   with_first x xs = x ∷ xs
 
   one : IsFormat Good line_of any (read_line read)
-  one = line_format Good text read l
+  one = line_format l
 
   nodes_step : (n : ℕ) (lines : Lines) → read_nodes is_inner read (suc n) lines ≡ read_joined (read_line read) (others n) with_first lines
   unfolding read_nodes

@@ -40,8 +40,8 @@ module _ {A : Type 0} (Good : A → Type 0) (text : A → List ℕ) (read : List
       let refused = refused_line read lines left e in
       record { before = []; parts = refused.0; value = l.some; good = l.some_good; after = text l.some ∷ []; goes_on = refl; stays = refused.1 }
 
-  pub line_format : IsFormat Good lines_of any (read_line read)
-  line_format = record {
+  in_module : IsFormat Good lines_of any (read_line read)
+  in_module = record {
     some = l.some;
     some_good = l.some_good;
     complete = λ x rest good follows. line_complete x rest good;
@@ -49,6 +49,10 @@ module _ {A : Type 0} (Good : A → Type 0) (text : A → List ℕ) (read : List
     fault = line_fault;
     plain = λ x good. All-cons IsPlain (text x) [] (l.plain x good) (All-nil IsPlain);
   }
+
+-- Of a kind of line the format of one.
+pub line_format : {A : Type 0} {Good : A → Type 0} {text : A → List ℕ} {read : List ℕ → Option A} → IsLine Good text read → IsFormat Good (λ x. text x ∷ []) any (read_line read)
+line_format {A} {Good} {text} {read} l = in_module Good text read l
 
 -- The format of one value that takes no line.
 pub none_format : {A : Type 0} {Good : A → Type 0} {text : A → Lines} {Follows : A → Option (List ℕ) → Type 0} (x : A) → Good x → ((y : A) → Good y → y ≡ x) → text x ≡ [] → ((line : Option (List ℕ)) → Follows x line) → IsFormat Good text Follows (read_none x)

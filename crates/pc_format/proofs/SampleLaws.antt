@@ -73,7 +73,7 @@ note_line = spelled_line note_text is_note likely_note (record {
 })
 
 notes_format : IsFormat (All IsNote) notes_text (Ends begins_note) (read_many begins_note (read_line (read_spelled note_text is_note likely_note)))
-notes_format = many_format begins_note (line_format IsNote note_text (read_spelled note_text is_note likely_note) note_line) (λ note good. refl)
+notes_format = many_format begins_note (line_format note_line) (λ note good. refl)
 
 tree_format : IsFormat (AreTrees IsNode is_split 1) (nodes_text node_text) any (read_nodes is_split (found_in node_text (true ∷ false ∷ [])) 1)
 tree_format = nodes_format is_split node_line false tt refl 1
@@ -104,7 +104,7 @@ tagged_format one_tree = as_format tree_format (record {
     tree_parts (tree nodes) good = (nodes, good, refl)
 
 body_format : IsFormat IsBody body_text BodyFollows read_body
-body_format = joined_format (line_format (λ tag. ⊤) tag_text (found_in tag_text tags) tag_line) (λ tag good. tagged_format tag) (record {
+body_format = joined_format (line_format tag_line) (λ tag good. tagged_format tag) (record {
   made = made;
   follows = λ tag body line tagged good follows. follows;
   parts = λ body good. (tag_of body, body, tt, good, refl);
@@ -128,7 +128,7 @@ end_follows (tree nodes) rest good = tt
 
 sample_format : IsFormat IsBody sample_text any read_sample
 unfolding read_sample
-sample_format = as_format (then_format body_format (λ body good. line_format (λ mark. ⊤) end_text (found_in end_text (tt ∷ [])) end_line) (λ body mark rest good marked follows. end_follows body rest good)) (record {
+sample_format = as_format (then_format body_format (λ body good. line_format end_line) (λ body mark rest good marked follows. end_follows body rest good)) (record {
   made = λ p good. (good.0, refl);
   follows = λ p line good follows. tt;
   parts = λ body good. ((body, tt), (good, tt), refl);
