@@ -1,5 +1,9 @@
+ghost use Rattle.std.specs.Prelude.{◌≡◌};
+ghost use Rattle.pc_model.specs.Right as plain;
+ghost use Rattle.pc_proof.specs.Unbroken.{plain_lack, plain_relation};
+
 use pc_list::Seq;
-use pc_model::{Run, Tree};
+use pc_model::{Agg, Run, Tree};
 use pc_num::Frac;
 
 /// What shows that a value is an end: the observed rows, a search tree, a search tree at a ratio, or the values that
@@ -36,6 +40,15 @@ pub enum Relation {
     Undecided,
 }
 
+impl Relation {
+    /// Whether it says that no lost rows can meet the constraints.
+    pub fn is_impossible(&self) -> bool
+        ensures { result ≡ plain.is_impossible (plain_relation self.now) }
+    {
+        matches!(self, Relation::Impossible(_))
+    }
+}
+
 /// What shows that the aggregate always has a value.
 #[derive(Clone, Debug, PartialEq, Eq, Drop)]
 pub enum NeverBy {
@@ -58,6 +71,25 @@ pub enum Lack {
     Sometimes { without: Seq<Run>, with: Seq<Run> },
     Always(AlwaysBy),
     Undecided,
+}
+
+impl Lack {
+    /// Whether it says that the aggregate never has a value.
+    pub fn is_always(&self) -> bool
+        ensures { result ≡ plain.is_always (plain_lack self.now) }
+    {
+        matches!(self, Lack::Always(_))
+    }
+}
+
+/// Whether an aggregate has a value over any rows, also over none.
+pub fn always_has_value(agg: Agg) -> bool
+    ensures { result ≡ plain.always_has_value agg }
+{
+    match agg {
+        Agg::Count | Agg::Sum => true,
+        Agg::Min | Agg::Max | Agg::Avg => false,
+    }
 }
 
 /// Whether an end is reached, with runs of lost rows that reach it.

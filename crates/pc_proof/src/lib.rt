@@ -8,7 +8,9 @@ mod laws;
 mod samples;
 mod verdicts;
 
-pub use answer::{AlwaysBy, Answer, Bounded, End, Lack, Mark, NeverBy, Proof, Relation, Why};
+pub use answer::{
+    AlwaysBy, Answer, Bounded, End, Lack, Mark, NeverBy, Proof, Relation, Why, always_has_value,
+};
 pub use document::{Block, BlockTree, Document};
 pub use forms::{formed_answers_have_form, formed_documents_have_form};
 pub use laws::{given_ends_do_not_cross, unbroken_are_right, unbroken_is_right};

@@ -26,7 +26,7 @@ pub(crate) fn put_answer(
     ensures { OnOk result (out.new.items ≡ out.old.items ++ answer_text schema.now query.now answer.now) }
 {
     put_relation(alloc, schema, out, &answer.relation)?;
-    if is_impossible(&answer.relation) {
+    if answer.relation.is_impossible() {
         return Ok(());
     }
     put_values(alloc, schema, out, query, answer)
@@ -50,12 +50,6 @@ fn put_relation(
     }
 }
 
-fn is_impossible(relation: &Relation) -> bool
-    ensures { result ≡ is_impossible (plain_relation relation.now) }
-{
-    matches!(relation, Relation::Impossible(_))
-}
-
 // Appends whether the aggregate can lack a value, and its ends.
 fn put_values(
     alloc: Global,
@@ -69,7 +63,7 @@ fn put_values(
     ensures { OnOk result (out.new.items ≡ out.old.items ++ values_text schema.now query.now answer.now.lack answer.now.ends) }
 {
     put_lack(alloc, schema, out, &answer.lack)?;
-    if is_always(&answer.lack) {
+    if answer.lack.is_always() {
         return Ok(());
     }
     put_ends(alloc, schema, out, query, &answer.ends)
@@ -112,12 +106,6 @@ fn put_with(alloc: Global, schema: &Schema, out: &mut Vec<u8>, runs: &[Run]) -> 
     ensures { OnOk result (out.new.items ≡ out.old.items ++ with_text schema.now runs.now) }
 {
     put_titled(alloc, schema, out, "some", runs)
-}
-
-fn is_always(lack: &Lack) -> bool
-    ensures { result ≡ is_always (plain_lack lack.now) }
-{
-    matches!(lack, Lack::Always(_))
 }
 
 fn put_ends(
