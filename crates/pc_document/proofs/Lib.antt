@@ -1,0 +1,2 @@
+pub mod LineStarts
+pub mod RunSteps

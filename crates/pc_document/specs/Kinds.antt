@@ -8,7 +8,10 @@ use Rattle.pc_model.specs.Accepted.{IsQuery, IsColumnWhere, HasNames}
 use Rattle.pc_format.specs.Formats.{IsLine}
 use Rattle.pc_proof.specs.Form.{IsFormedRun, IsFormedValue, IsGroupName}
 use Rattle.pc_document.specs.NodeLines.{IsBareNode, node_text, read_node}
-use Rattle.pc_document.specs.ValueLines.{Side, EndLine, ProofLine, IsEndLine, IsProofLine, end_text, outer_text, proof_text, read_end_line, read_outer_line, read_proof_line}
+use Rattle.pc_document.specs.declared.tags.Side.{Side}
+use Rattle.pc_document.specs.declared.tags.EndLine.{EndLine}
+use Rattle.pc_document.specs.declared.tags.ProofLine.{ProofLine}
+use Rattle.pc_document.specs.ValueLines.{IsEndLine, IsProofLine, end_text, outer_text, proof_text, read_end_line, read_outer_line, read_proof_line}
 use Rattle.pc_document.specs.TokenLines.{IsBareCut, run_text, cut_node_text, group_text, query_line_text, begins_run, begins_query, read_run, read_cut_node, read_group, read_query_line}
 
 -- each kind of line is written and read back

@@ -3,6 +3,7 @@ pub mod Kinds
 pub mod NodeLines
 pub mod Numbers
 pub mod Parts
+pub mod Places
 pub mod Reading
 pub mod Told
 pub mod TokenLines

@@ -9,12 +9,8 @@ use Rattle.pc_proof.specs.declared.answer.Lack.{Lack}
 use Rattle.pc_proof.specs.declared.answer.Lack.TheVariants as lacks
 use Rattle.pc_proof.specs.declared.answer.End.{End}
 use Rattle.pc_proof.specs.Unbroken.{plain_lack, plain_relation}
+use Rattle.pc_document.specs.declared.tags.After.{After}
 use Rattle.pc_proof.specs.Form.{IsFormedLack, IsFormedEnd, IsGroupName}
-
--- what is said after the relation: the lack and the ends
-pub record After : Type 0 where
-  pub lack : Lack
-  pub ends : Option (End × End)
 
 abbrev pub ends_block : Relation → Bool
 ends_block relation = is_impossible (plain_relation relation)

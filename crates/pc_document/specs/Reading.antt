@@ -34,9 +34,27 @@ use Rattle.pc_proof.specs.declared.document.Block.{Block}
 use Rattle.pc_proof.specs.declared.document.Document.{Document}
 use Rattle.pc_format.specs.Formats.{Lines, Found, ◌>>=◌, found_in, read_none, read_line, read_as, read_many, read_nodes, read_joined, read_bytes}
 use Rattle.pc_document.specs.NodeLines.{is_split, read_node}
-use Rattle.pc_document.specs.ValueLines.{Side, low, high, EndLine, ProofLine, rows, tree, at, values, read_end_line, read_outer_line, read_proof_line}
+use Rattle.pc_document.specs.declared.tags.Side.{Side}
+use Rattle.pc_document.specs.declared.tags.Side.TheVariants.{Low as low, High as high}
+use Rattle.pc_document.specs.declared.tags.EndLine.{EndLine}
+use Rattle.pc_document.specs.declared.tags.ProofLine.{ProofLine}
+use Rattle.pc_document.specs.declared.tags.ProofLine.TheVariants.{Rows as rows, Tree as tree, At as at, Values as values}
+use Rattle.pc_document.specs.declared.tags.WhyLine.{WhyLine}
+use Rattle.pc_document.specs.declared.tags.WhyLine.TheVariants.{Void as by_void, Cross as by_cross, Ends as by_ends}
+use Rattle.pc_document.specs.declared.tags.RelationLine.{RelationLine}
+use Rattle.pc_document.specs.declared.tags.RelationLine.TheVariants.{Possible as possible, Impossible as impossible, Undecided as undecided}
+use Rattle.pc_document.specs.declared.tags.NeverLine.{NeverLine}
+use Rattle.pc_document.specs.declared.tags.NeverLine.TheVariants.{Rows as by_rows, Tree as by_tree}
+use Rattle.pc_document.specs.declared.tags.AlwaysLine.{AlwaysLine}
+use Rattle.pc_document.specs.declared.tags.AlwaysLine.TheVariants.{Tree as in_tree, Ends as in_ends}
+use Rattle.pc_document.specs.declared.tags.LackLine.{LackLine}
+use Rattle.pc_document.specs.declared.tags.LackLine.TheVariants.{Never as is_never, Sometimes as is_sometimes, Always as is_ever, Undecided as is_open}
+use Rattle.pc_document.specs.declared.tags.TreeLine.{TreeLine}
+use Rattle.pc_document.specs.declared.tags.TreeLine.TheVariants.{Own as own, Same as same}
+use Rattle.pc_document.specs.ValueLines.{read_end_line, read_outer_line, read_proof_line}
 use Rattle.pc_document.specs.TokenLines.{read_run, begins_run, is_inner, read_cut_node, read_group, read_query_line, begins_query}
-use Rattle.pc_document.specs.Parts.{After, ends_block, has_no_ends, nothing_after}
+use Rattle.pc_document.specs.declared.tags.After.{After}
+use Rattle.pc_document.specs.Parts.{ends_block, has_no_ends, nothing_after}
 
 -- the nodes with the places of their parts
 abbrev pub placed : List TreeNode → Tree
@@ -79,11 +97,6 @@ read_crossing schema query = read_joined (read_bounded schema query low) (λ fir
 
 -- ---- the relation
 
-pub data WhyLine : Type 0 where
-  by_void : WhyLine
-  by_cross : WhyLine
-  by_ends : WhyLine
-
 abbrev pub why_text : WhyLine → List ℕ
 why_text by_void = codes "by void"
 why_text by_cross = codes "by cross"
@@ -99,11 +112,6 @@ tagged_why schema query by_ends = read_as (λ p. whys.Ends p.0 p.1) (read_crossi
 
 unfoldable pub read_why : Schema → Query → Lines → Found Why
 read_why schema query = read_joined (read_line read_why_line) (tagged_why schema query) the_last
-
-pub data RelationLine : Type 0 where
-  possible : RelationLine
-  impossible : RelationLine
-  undecided : RelationLine
 
 abbrev pub relation_text : RelationLine → List ℕ
 relation_text possible = codes "relation possible"
@@ -151,10 +159,6 @@ pub data Word : Type 0 where
 abbrev pub read_word : List ℕ → List ℕ → Option Word
 read_word text = found_in (λ w. text) (word ∷ [])
 
-pub data NeverLine : Type 0 where
-  by_rows : NeverLine
-  by_tree : NeverLine
-
 abbrev pub never_text : NeverLine → List ℕ
 never_text by_rows = codes "by rows"
 never_text by_tree = codes "by tree"
@@ -169,10 +173,6 @@ tagged_never by_tree = read_as nevers.Tree read_tree
 unfoldable pub read_never : Lines → Found NeverBy
 read_never = read_joined (read_line read_never_line) tagged_never the_last
 
-pub data AlwaysLine : Type 0 where
-  in_tree : AlwaysLine
-  in_ends : AlwaysLine
-
 abbrev pub always_text : AlwaysLine → List ℕ
 always_text in_tree = codes "by tree"
 always_text in_ends = codes "by ends"
@@ -186,12 +186,6 @@ tagged_always schema query in_ends = read_as (λ p. alwayses.Ends p.0 p.1) (read
 
 unfoldable pub read_always : Schema → Query → Lines → Found AlwaysBy
 read_always schema query = read_joined (read_line read_always_line) (tagged_always schema query) the_last
-
-pub data LackLine : Type 0 where
-  is_never : LackLine
-  is_sometimes : LackLine
-  is_ever : LackLine
-  is_open : LackLine
 
 abbrev pub lack_text : LackLine → List ℕ
 lack_text is_never = codes "none never"
@@ -249,10 +243,6 @@ placed_cuts nodes = record { nodes = cuts.nodes_from 0 (shape_of nodes) }
 
 unfoldable pub read_cuts : Schema → Lines → Found CutTree
 read_cuts schema = read_as placed_cuts (read_nodes is_inner (read_cut_node schema) 1)
-
-pub data TreeLine : Type 0 where
-  own : TreeLine
-  same : TreeLine
 
 abbrev pub tree_text : TreeLine → List ℕ
 tree_text own = codes "tree own"

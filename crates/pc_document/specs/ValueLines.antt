@@ -8,6 +8,11 @@ use Rattle.pc_model.specs.declared.schema.Schema.{Schema}
 use Rattle.pc_model.specs.declared.query.Agg.{Agg}
 use Rattle.pc_model.specs.declared.query.Agg.TheVariants as aggs
 use Rattle.pc_model.specs.declared.query.Query.{Query}
+use Rattle.pc_document.specs.declared.tags.Side.{Side}
+use Rattle.pc_document.specs.declared.tags.Side.TheVariants.{Low as low, High as high}
+use Rattle.pc_document.specs.declared.tags.EndLine.{EndLine}
+use Rattle.pc_document.specs.declared.tags.ProofLine.{ProofLine}
+use Rattle.pc_document.specs.declared.tags.ProofLine.TheVariants.{Rows as rows, Tree as tree, At as at, Values as values}
 use Rattle.pc_format.specs.Formats.{read_spelled}
 use Rattle.pc_proof.specs.Form.{IsFormedValue, IsFormedRatio}
 use Rattle.pc_report.specs.Report.{scale_for, value_text}
@@ -69,16 +74,6 @@ is_value_of aggs.Avg v = is_ratio v
 
 -- ---- the lines of ends
 
--- the value of an end, and whether it is exact
-pub record EndLine : Type 0 where
-  pub value : Frac
-  pub exact : Bool
-
--- which of the two ends
-pub data Side : Type 0 where
-  low : Side
-  high : Side
-
 abbrev pub side_word : Side → List ℕ
 side_word low = codes "low"
 side_word high = codes "high"
@@ -123,13 +118,6 @@ unfoldable pub read_outer_line : Schema → Query → Side → List ℕ → Opti
 read_outer_line schema query side line = outer_value (read_end_line schema query side line)
 
 -- ---- the line of a proof
-
--- what stands after `by` before the tree of an end, where it has one
-pub data ProofLine : Type 0 where
-  rows : ProofLine
-  tree : ProofLine
-  at : Frac → ProofLine
-  values : ProofLine
 
 unfoldable pub proof_text : Schema → Query → ProofLine → List ℕ
 proof_text schema query rows = codes "by rows"

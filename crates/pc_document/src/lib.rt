@@ -1,6 +1,18 @@
 //! The text of a document, and its reader.
 #![tactic(auto)]
 
-mod laws;
+mod answer;
+mod block;
+mod cuts;
+mod ends;
+mod halt;
+mod lack;
+mod line_readers;
+mod places;
+mod proof;
+mod relation;
+mod runs;
+mod tags;
+mod tree;
+mod words;
 
-pub use laws::{documents_read_back, one_document, reading_tells};
