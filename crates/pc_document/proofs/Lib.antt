@@ -1,0 +1,2 @@
+pub mod CutsFormat
+pub mod TreeFormat
