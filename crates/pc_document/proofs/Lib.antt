@@ -1,2 +1,3 @@
 pub mod CutsFormat
+pub mod PartFormats
 pub mod TreeFormat
