@@ -56,6 +56,7 @@ cut_spelled cut n (t ∷ u ∷ ts) long = (omega (arith, long), ap (λ (rest : L
 abbrev AreSpelled : ℕ → List CutNode → Type 0
 AreSpelled n xs = (length (shapes_of xs) ≡ n) × (xs ≡ all_nodes (shapes_of xs))
 
+-- nodes of trees in preorder spell these
 are_spelled : (schema : Schema) (xs : List CutNode) (n : ℕ) → AreTrees (IsBareCut schema) is_inner n xs → AreSpelled n xs
 unfolding AreTrees
 are_spelled schema [] zero trees = (refl, refl)
@@ -76,6 +77,7 @@ one_more (leaf mark) n ys trees = (tt, trees)
 one_more (inner cut t u) n ys trees =
     (tt, subst (λ (xs : List CutNode). AreTrees (λ x. ⊤) is_inner (suc (suc n)) xs) (sym (append_assoc (bare_nodes t) (bare_nodes u) ys)) (one_more t (suc n) (bare_nodes u ++ ys) (one_more u n ys trees)))
 
+-- no nodes are those of no tree
 no_trees : AreTrees {A = CutNode} (λ x. ⊤) is_inner 0 []
 unfolding AreTrees
 no_trees = tt
@@ -83,10 +85,12 @@ no_trees = tt
 -- ---- the tree
 
 module _ (schema : Schema) where
+  -- a node in form is one without places too
   bare_good : (node : CutNode) → IsFormedCutNode schema node → IsBareCut schema (bare_cut node)
   bare_good (nodes.Leaf mark) good = record { placeless = refl; good = good }
   bare_good (nodes.Inner cut first second) good = record { placeless = refl; good = good }
 
+  -- and the other way round
   good_bare : (node : CutNode) → IsBareCut schema (bare_cut node) → IsFormedCutNode schema node
   good_bare (nodes.Leaf mark) is = is.good
   good_bare (nodes.Inner cut first second) is = is.good
@@ -103,6 +107,7 @@ module _ (schema : Schema) where
       by_trees (t ∷ []) long = without_places t 0 ∙ sym (append-nil (bare_nodes t))
       by_trees (t ∷ u ∷ ts) long = absurd (omega (arith, long))
 
+  -- the tree that nodes spell is in form, and has their lines
   cuts_made : (xs : List CutNode) → AreTrees (IsBareCut schema) is_inner 1 xs → IsFormedCutTree schema (placed_cuts xs) × (cut_tree_lines schema (placed_cuts xs) ≡ nodes_text (cut_node_text schema) xs)
   cuts_made xs trees =
       (record { preorder = ap (nodes_from 0) (sym (shape_of-nodes (shape_of xs) 0)); nodes = formed }, text-map (cut_node_text schema) bare_cut (placed_cuts xs).nodes ∙ ap (nodes_text (cut_node_text schema)) same)
@@ -116,6 +121,7 @@ module _ (schema : Schema) where
       formed : All (IsFormedCutNode schema) (placed_cuts xs).nodes
       formed = All-weaker (λ node. IsBareCut schema (bare_cut node)) (IsFormedCutNode schema) good_bare (placed_cuts xs).nodes (unmapped (IsBareCut schema) bare_cut (placed_cuts xs).nodes bare)
 
+  -- a tree in form is the one that its nodes spell without places
   cuts_parts : (t : CutTree) → IsFormedCutTree schema t → (xs : List CutNode) × AreTrees (IsBareCut schema) is_inner 1 xs × (placed_cuts xs ≡ t)
   cuts_parts t good = (map bare_cut t.nodes, with_good (IsBareCut schema) is_inner (map bare_cut t.nodes) 1 all_bare in_order, ap (λ (list : List CutNode). record { nodes = list }) same)
     where

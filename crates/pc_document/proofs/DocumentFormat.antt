@@ -1,5 +1,5 @@
 -- The formats of blocks and of documents, and what follows of reading them.
-use Rattle.std.proofs.Common.{◌≡◌, ℕ, Bool, true, false, List, [], ◌∷◌, ◌++◌, Option, Some, None, Ok, Result, refl, sym, ap, ◌∙◌, subst, true≢false}
+use Rattle.std.proofs.Common.{◌≡◌, ℕ, List, [], ◌∷◌, ◌++◌, Option, Some, None, Ok, Result, refl, sym, ap, ◌∙◌, true≢false}
 use Rattle.std.specs.Bool.{⊤}
 use Rattle.std.specs.List.{All}
 use Rattle.std.specs.Prelude.{IfSome, is_none, codes}
@@ -10,7 +10,6 @@ use Rattle.pc_model.specs.Accepted.{IsQuery, IsColumnWhere, HasNames}
 use Rattle.pc_proof.specs.declared.answer.Answer.{Answer}
 use Rattle.pc_proof.specs.declared.document.BlockTree.{BlockTree}
 use Rattle.pc_proof.specs.declared.document.BlockTree.TheVariants as trees
-use Rattle.pc_proof.specs.declared.document.Block.{Block}
 use Rattle.pc_proof.specs.declared.document.Document.{Document}
 use Rattle.pc_proof.specs.Form.{IsFormedCutTree, IsFormedBlockTree, IsFormedAnswer, IsGroupName, IsFormedBlock, IsInForm}
 use Rattle.pc_format.specs.Lines.{feeds_in}
@@ -25,18 +24,20 @@ use Rattle.pc_document.specs.DocumentLines.{name_lines, cut_tree_lines, block_tr
 use Rattle.pc_document.specs.Parts.{IsName}
 use Rattle.pc_document.specs.Told.{IsDocumentText, Told}
 use Rattle.pc_document.specs.Kinds.{AreLines}
-use Rattle.pc_document.specs.Reading.{Word, word, read_name, TreeLine, own, same, tree_text, read_tree_line, tagged_tree, read_block_tree, read_body, read_named, read_block, read_blocks, read_document, document_of}
+use Rattle.pc_document.specs.Reading.{word, read_name, TreeLine, own, same, tree_text, read_tree_line, tagged_tree, read_block_tree, read_body, read_named, read_block, read_blocks, read_document, document_of}
 use Rattle.pc_document.proofs.CutsFormat.{cuts_format}
 use Rattle.pc_document.proofs.PartFormats.{IsOf, tagged_format, made_format, both_format}
 use Rattle.pc_document.proofs.BlockFormats.{word_line, answer_format}
 
 -- ---- lines
 
+-- each line is found by its text
 trees_found : (tag : TreeLine) → read_tree_line (tree_text tag) ≡ Some tag
 unfolding found_in
 trees_found own = refl
 trees_found same = refl
 
+-- no line feed is in them
 trees_plain : (tag : TreeLine) → feeds_in (tree_text tag) ≡ 0
 unfolding feeds_in
 trees_plain own = refl
@@ -45,10 +46,12 @@ trees_plain same = refl
 tree_line : IsLine (λ tag. ⊤) tree_text read_tree_line
 tree_line = one_of_line tree_text (own ∷ same ∷ []) same (λ tag. tt) trees_found trees_plain
 
+-- no line feed is in the first line
 head_plain : feeds_in (codes "pc 1") ≡ 0
 unfolding feeds_in
 head_plain = refl
 
+-- nor in the last
 end_plain : feeds_in (codes "end") ≡ 0
 unfolding feeds_in
 end_plain = refl
@@ -61,6 +64,7 @@ name_told schema None name is = (ap is_none is, tt)
 name_told schema (Some group) None is = absurd is
 name_told schema (Some group) (Some place) is = (refl, is)
 
+-- and the other way round
 name_is : (schema : Schema) (group name : Option ℕ) → is_none name ≡ is_none group → IsGroupName schema group name → IsName schema group name
 name_is schema None None named good = refl
 name_is schema None (Some place) named good = absurd (true≢false (sym named))
@@ -68,6 +72,7 @@ name_is schema (Some group) None named good = absurd (true≢false named)
 name_is schema (Some group) (Some place) named good = good
 
 module _ (schema : Schema) (lines : AreLines schema) where
+  -- the name of a group, where the query is grouped
   name_format : (group : Option ℕ) → IfSome group (IsColumnWhere HasNames schema) → IsFormat (IsName schema group) (name_lines schema group) any (read_name schema group)
   name_format None grouped = none_format None refl (λ name is. is) refl (λ line. tt)
   name_format (Some group) grouped = made_format (line_format (lines.group group grouped)) (λ place good. (good, refl)) parts
@@ -89,10 +94,12 @@ module _ (schema : Schema) (lines : AreLines schema) where
   abbrev IsTree : BlockTree → Type 0
   IsTree tree = IsFormedBlockTree schema tree
 
+  -- the line of a tree says whether nodes follow
   tree_told : (tree : BlockTree) → IsTree tree → ⊤ × (block_tree_lines schema tree ≡ tree_text (tree_tag tree) ∷ tree_rest tree)
   tree_told (trees.Own t) good = (tt, refl)
   tree_told trees.Same good = (tt, refl)
 
+  -- what follows each line of a tree
   tree_of : (tag : TreeLine) → ⊤ → IsFormat (IsOf tree_tag IsTree tag) tree_rest any (tagged_tree schema tag)
   tree_of own good = made_format (cuts_format schema lines.cut) (λ t formed. ((refl, formed), refl)) parts
     where
@@ -105,6 +112,7 @@ module _ (schema : Schema) (lines : AreLines schema) where
       only (trees.Own t) told = let e = told.0 in absurd (cc)
       only trees.Same told = refl
 
+  -- the tree of a block
   tree_format : IsFormat IsTree (block_tree_lines schema) any (read_block_tree schema)
   unfolding read_block_tree
   tree_format = tagged_format tree_tag tree_rest tree_line tree_told tree_of
@@ -117,6 +125,7 @@ module _ (schema : Schema) (lines : AreLines schema) where
   abbrev body_lines : Query → BlockTree × Answer → Lines
   body_lines query body = block_tree_lines schema body.0 ++ answer_lines schema query body.1
 
+  -- a tree and an answer
   body_format : (query : Query) → IsQuery schema query → IsFormat (IsBody query) (body_lines query) any (read_body schema query)
   unfolding read_body
   body_format query accepted = both_format tree_format (answer_format schema lines query accepted) (λ tree answer good formed. ((good, formed), refl)) (λ body good. (body.0, body.1, good.0, good.1, refl))
@@ -127,10 +136,12 @@ module _ (schema : Schema) (lines : AreLines schema) where
   abbrev IsNamed : Query → Named → Type 0
   IsNamed query rest = IsName schema query.group rest.0 × IsBody query rest.1
 
+  -- and a name before them
   named_format : (query : Query) → IsQuery schema query → IsFormat (IsNamed query) (λ (rest : Named). name_lines schema query.group rest.0 ++ body_lines query rest.1) any (read_named schema query)
   unfolding read_named
   named_format query accepted = both_format (name_format query.group accepted.grouped) (body_format query accepted) (λ name body good formed. ((good, formed), refl)) (λ rest good. (rest.0, rest.1, good.0, good.1, refl))
 
+  -- a query and what stands after it
   block_format : IsFormat (IsFormedBlock schema) (block_lines schema) any (read_block schema)
   unfolding read_block
   block_format = joined_format (line_format lines.query) named_format (record {
@@ -145,6 +156,7 @@ module _ (schema : Schema) (lines : AreLines schema) where
 
   -- ---- the document
 
+  -- blocks, and the last line
   blocks_format : IsFormat (All (IsFormedBlock schema)) (λ blocks. items_text (block_lines schema) blocks ++ (codes "end" ∷ [])) any (read_blocks schema)
   unfolding read_blocks
   blocks_format = joined_format (many_format begins_query block_format (λ block good. lines.query_begins block.query)) (λ blocks good. line_format (word_line (codes "end") end_plain)) (record {

@@ -1,7 +1,6 @@
 -- The formats of what stands in an answer: runs, proofs, outer ends, and the relation.
-use Rattle.std.proofs.Common.{◌≡◌, ℕ, Bool, true, false, List, [], ◌∷◌, ◌++◌, Option, Some, None, refl, sym, ap, ◌∙◌, subst}
+use Rattle.std.proofs.Common.{◌≡◌, ℕ, List, [], ◌∷◌, ◌++◌, Option, Some, refl, sym, ap, ◌∙◌, subst}
 use Rattle.std.specs.Bool.{⊤}
-use Rattle.std.specs.Prelude.{MatchOption}
 use Rattle.pc_num.specs.declared.Frac.{Frac}
 use Rattle.pc_model.specs.declared.schema.Schema.{Schema}
 use Rattle.pc_model.specs.declared.row.Run.{Run}
@@ -16,7 +15,7 @@ use Rattle.pc_proof.specs.declared.answer.Why.{Why}
 use Rattle.pc_proof.specs.declared.answer.Why.TheVariants as whys
 use Rattle.pc_proof.specs.declared.answer.Relation.{Relation}
 use Rattle.pc_proof.specs.declared.answer.Relation.TheVariants as relations
-use Rattle.pc_proof.specs.Form.{IsFormedTree, AreFormedRuns, IsFormedValue, IsFormedRatio, IsFormedProof, IsFormedBounded, IsFormedWhy, IsFormedRelation}
+use Rattle.pc_proof.specs.Form.{IsFormedTree, AreFormedRuns, IsFormedProof, IsFormedBounded, IsFormedWhy, IsFormedRelation}
 use Rattle.pc_format.specs.Lines.{feeds_in}
 use Rattle.pc_format.specs.Formats.{Lines, Found, IsFormat, IsLine, Ends, any, found_in, first_line, read_line, read_as, read_joined}
 use Rattle.pc_format.proofs.OneLine.{line_format, none_format}
@@ -24,11 +23,11 @@ use Rattle.pc_format.proofs.Joined.{joined_format}
 use Rattle.pc_format.proofs.As.{as_format}
 use Rattle.pc_format.proofs.Many.{many_format}
 use Rattle.pc_format.proofs.Spelled.{one_of_line}
-use Rattle.pc_document.specs.ValueLines.{Side, low, high, ProofLine, rows, tree, at, values, IsProofLine, proof_text, read_proof_line, outer_text}
+use Rattle.pc_document.specs.ValueLines.{Side, low, high, ProofLine, rows, tree, at, values, IsProofLine, proof_text}
 use Rattle.pc_document.specs.TokenLines.{begins_run}
 use Rattle.pc_document.specs.DocumentLines.{tree_lines, runs_lines, proof_lines, bounded_lines, crossing_lines, why_lines, relation_lines}
 use Rattle.pc_document.specs.Kinds.{AreLines}
-use Rattle.pc_document.specs.Reading.{the_last, read_tree, read_runs, tagged_proof, read_proof, bounded, read_bounded, pair, read_crossing, WhyLine, by_void, by_cross, by_ends, why_text, read_why_line, tagged_why, read_why, RelationLine, possible, impossible, undecided, relation_text, read_relation_line, tagged_relation, read_relation}
+use Rattle.pc_document.specs.Reading.{the_last, read_tree, read_runs, tagged_proof, read_proof, read_bounded, read_crossing, WhyLine, by_void, by_cross, by_ends, why_text, read_why_line, tagged_why, read_why, RelationLine, possible, impossible, undecided, relation_text, read_relation_line, tagged_relation, read_relation}
 use Rattle.pc_document.proofs.TreeFormat.{tree_format}
 
 -- ---- a line that says what follows it
@@ -68,18 +67,21 @@ both_format first second made parts = joined_format first (λ x good. second) (r
 
 -- ---- lines
 
+-- a proof begins with its line
 proof_begins : (schema : Schema) (query : Query) (proof : Proof) → (tag : ProofLine) × (others : Lines) × (proof_lines schema query proof ≡ proof_text schema query tag ∷ others)
 proof_begins schema query proofs.Rows = (rows, [], refl)
 proof_begins schema query (proofs.Tree t) = (tree, tree_lines t, refl)
 proof_begins schema query (proofs.At ratio t) = (at ratio, tree_lines t, refl)
 proof_begins schema query proofs.Values = (values, [], refl)
 
+-- each line is found by its text
 whys_found : (tag : WhyLine) → read_why_line (why_text tag) ≡ Some tag
 unfolding found_in
 whys_found by_void = refl
 whys_found by_cross = refl
 whys_found by_ends = refl
 
+-- no line feed is in them
 whys_plain : (tag : WhyLine) → feeds_in (why_text tag) ≡ 0
 unfolding feeds_in
 whys_plain by_void = refl
@@ -89,12 +91,14 @@ whys_plain by_ends = refl
 why_line : IsLine (λ tag. ⊤) why_text read_why_line
 why_line = one_of_line why_text (by_void ∷ by_cross ∷ by_ends ∷ []) by_void (λ tag. tt) whys_found whys_plain
 
+-- each line is found by its text
 relations_found : (tag : RelationLine) → read_relation_line (relation_text tag) ≡ Some tag
 unfolding found_in
 relations_found possible = refl
 relations_found impossible = refl
 relations_found undecided = refl
 
+-- no line feed is in them
 relations_plain : (tag : RelationLine) → feeds_in (relation_text tag) ≡ 0
 unfolding feeds_in
 relations_plain possible = refl
@@ -104,15 +108,27 @@ relations_plain undecided = refl
 relation_line : IsLine (λ tag. ⊤) relation_text read_relation_line
 relation_line = one_of_line relation_text (possible ∷ impossible ∷ undecided ∷ []) undecided (λ tag. tt) relations_found relations_plain
 
+-- ---- what follows
+
 -- after runs comes a line that is none
 abbrev pub EndsRuns : Option (List ℕ) → Type 0
 EndsRuns line = Ends {A = Run} begins_run [] line
+
+abbrev pub RelationFollows : Relation → Option (List ℕ) → Type 0
+RelationFollows (relations.Possible runs) line = EndsRuns line
+RelationFollows (relations.Impossible why) line = ⊤
+RelationFollows relations.Undecided line = ⊤
+
+-- both are outer ends in form
+abbrev pub IsCrossing : Agg → Bounded × Bounded → Type 0
+IsCrossing agg p = IsFormedBounded agg p.0 × IsFormedBounded agg p.1
 
 module _ (schema : Schema) (lines : AreLines schema) where
   -- a tree in form, whatever stands after it
   pub split_tree : IsFormat IsFormedTree tree_lines any read_tree
   split_tree = tree_format lines.node
 
+  -- runs, as many as begin so
   pub runs_format : IsFormat (AreFormedRuns schema) (runs_lines schema) (Ends begins_run) (read_runs schema)
   unfolding read_runs
   runs_format = many_format begins_run (line_format lines.run) (λ run good. lines.run_begins run)
@@ -132,12 +148,14 @@ module _ (schema : Schema) (lines : AreLines schema) where
     proof_rest (proofs.At ratio t) = tree_lines t
     proof_rest proofs.Values = []
 
+    -- the line of a proof says what follows it
     proof_told : (proof : Proof) → IsFormedProof proof → IsProofLine (proof_tag proof) × (proof_lines schema query proof ≡ proof_text schema query (proof_tag proof) ∷ proof_rest proof)
     proof_told proofs.Rows good = (tt, refl)
     proof_told (proofs.Tree t) good = (tt, refl)
     proof_told (proofs.At ratio t) good = (good.0, refl)
     proof_told proofs.Values good = (tt, refl)
 
+    -- what follows each line of a proof
     proof_of : (tag : ProofLine) → IsProofLine tag → IsFormat (IsOf proof_tag IsFormedProof tag) proof_rest any (tagged_proof tag)
     proof_of rows good = none_format proofs.Rows (refl, tt) only refl (λ after. tt)
       where
@@ -171,6 +189,7 @@ module _ (schema : Schema) (lines : AreLines schema) where
         only (proofs.At ratio t) told = let e = told.0 in absurd (cc)
         only proofs.Values told = refl
 
+    -- a proof, after which anything may stand
     pub proof_format : IsFormat IsFormedProof (proof_lines schema query) any (read_proof schema query)
     unfolding read_proof
     proof_format = tagged_format proof_tag proof_rest (lines.proof query accepted) proof_told proof_of
@@ -183,16 +202,15 @@ module _ (schema : Schema) (lines : AreLines schema) where
 
     -- ---- outer ends
 
+    -- an outer end and what shows it
     pub bounded_format : (side : Side) → IsFormat (IsFormedBounded query.agg) (bounded_lines schema query side) any (read_bounded schema query side)
     unfolding read_bounded
     bounded_format side = both_format (line_format (lines.outer query accepted side)) proof_format
         (λ value proof good shown. (record { value = good; proof = shown }, refl))
         (λ b good. (b.value, b.proof, good.value, good.proof, refl))
 
-    abbrev pub IsCrossing : Bounded × Bounded → Type 0
-    IsCrossing p = IsFormedBounded query.agg p.0 × IsFormedBounded query.agg p.1
-
-    pub crossing_format : IsFormat IsCrossing (λ (p : Bounded × Bounded). crossing_lines schema query p.0 p.1) any (read_crossing schema query)
+    -- two of them, the low one first
+    pub crossing_format : IsFormat (IsCrossing query.agg) (λ (p : Bounded × Bounded). crossing_lines schema query p.0 p.1) any (read_crossing schema query)
     unfolding read_crossing
     crossing_format = both_format (bounded_format low) (bounded_format high) (λ x y goodx goody. ((goodx, goody), refl)) (λ p good. (p.0, p.1, good.0, good.1, refl))
 
@@ -208,11 +226,13 @@ module _ (schema : Schema) (lines : AreLines schema) where
     why_rest (whys.Cross t u) = tree_lines t ++ tree_lines u
     why_rest (whys.Ends first second) = crossing_lines schema query first second
 
+    -- the line of a reason says what follows it
     why_told : (why : Why) → IsFormedWhy query.agg why → ⊤ × (why_lines schema query why ≡ why_text (why_tag why) ∷ why_rest why)
     why_told (whys.Void t) good = (tt, refl)
     why_told (whys.Cross t u) good = (tt, refl)
     why_told (whys.Ends first second) good = (tt, refl)
 
+    -- what follows each line of a reason
     why_of : (tag : WhyLine) → ⊤ → IsFormat (IsOf why_tag (IsFormedWhy query.agg) tag) why_rest any (tagged_why schema query tag)
     why_of by_void good = made_format split_tree (λ t formed. ((refl, formed), refl)) parts
       where
@@ -228,11 +248,12 @@ module _ (schema : Schema) (lines : AreLines schema) where
         parts (whys.Ends first second) told = let e = told.0 in absurd (cc)
     why_of by_ends good = made_format crossing_format (λ p crossing. ((refl, crossing), refl)) parts
       where
-        parts : (why : Why) → IsOf why_tag (IsFormedWhy query.agg) by_ends why → (p : Bounded × Bounded) × IsCrossing p × (whys.Ends p.0 p.1 ≡ why)
+        parts : (why : Why) → IsOf why_tag (IsFormedWhy query.agg) by_ends why → (p : Bounded × Bounded) × IsCrossing query.agg p × (whys.Ends p.0 p.1 ≡ why)
         parts (whys.Void t) told = let e = told.0 in absurd (cc)
         parts (whys.Cross t u) told = let e = told.0 in absurd (cc)
         parts (whys.Ends first second) told = ((first, second), told.1, refl)
 
+    -- why no lost rows meet the constraints
     pub why_format : IsFormat (IsFormedWhy query.agg) (why_lines schema query) any (read_why schema query)
     unfolding read_why
     why_format = tagged_format why_tag why_rest why_line why_told why_of
@@ -250,17 +271,13 @@ module _ (schema : Schema) (lines : AreLines schema) where
     abbrev IsRelation : Relation → Type 0
     IsRelation relation = IsFormedRelation schema query.agg relation
 
-    -- after runs comes a line that is none
-    abbrev pub RelationFollows : Relation → Option (List ℕ) → Type 0
-    RelationFollows (relations.Possible runs) line = EndsRuns line
-    RelationFollows (relations.Impossible why) line = ⊤
-    RelationFollows relations.Undecided line = ⊤
-
+    -- the line of a relation says what follows it
     relation_told : (relation : Relation) → IsRelation relation → ⊤ × (relation_lines schema query relation ≡ relation_text (relation_tag relation) ∷ relation_rest relation)
     relation_told (relations.Possible runs) good = (tt, refl)
     relation_told (relations.Impossible why) good = (tt, refl)
     relation_told relations.Undecided good = (tt, refl)
 
+    -- what follows each line of a relation
     relation_of : (tag : RelationLine) → ⊤ → IsFormat (IsOf relation_tag IsRelation tag) relation_rest RelationFollows (tagged_relation schema query tag)
     relation_of possible good = as_format runs_format (record {
       made = λ runs formed. ((refl, formed), refl);
@@ -291,6 +308,7 @@ module _ (schema : Schema) (lines : AreLines schema) where
         only (relations.Impossible why) told = let e = told.0 in absurd (cc)
         only relations.Undecided told = refl
 
+    -- a relation, after whose runs comes a line that is none
     pub relation_format : IsFormat IsRelation (relation_lines schema query) RelationFollows (read_relation schema query)
     unfolding read_relation
     relation_format = tagged_format relation_tag relation_rest relation_line relation_told relation_of

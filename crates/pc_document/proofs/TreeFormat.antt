@@ -1,5 +1,5 @@
 -- The format of a search tree: the lines of its nodes, which tell no places, in preorder.
-use Rattle.std.proofs.Common.{◌≡◌, ℕ, zero, suc, ◌+◌, Bool, true, false, List, [], ◌∷◌, ◌++◌, length, map, pos, refl, sym, ap, ◌∙◌, subst, arith, append_assoc, append-nil}
+use Rattle.std.proofs.Common.{◌≡◌, ℕ, zero, suc, ◌+◌, Bool, List, [], ◌∷◌, ◌++◌, length, map, pos, refl, sym, ap, ◌∙◌, subst, arith, append_assoc, append-nil}
 use Rattle.std.proofs.lemmas.List.{map-append}
 use Rattle.std.proofs.lemmas.List.Elements.{All-nil, All-cons, All-head, All-tail, All-map, All-weaker}
 use Rattle.std.specs.List.{All}
@@ -10,7 +10,7 @@ use Rattle.pc_model.specs.declared.tree.TreeNode.TheVariants as nodes
 use Rattle.pc_model.specs.declared.tree.Tree.{Tree}
 use Rattle.pc_bound.specs.SplitTrees.{SplitTree, bound, void, split, size_of, nodes_from, joined, trees_of, first_of_trees, tree_of}
 use Rattle.pc_bound.proofs.TreeNodes.{tree_of-nodes}
-use Rattle.pc_format.specs.Formats.{Lines, IsFormat, IsLine, AreTrees, any, nodes_text, owed_after}
+use Rattle.pc_format.specs.Formats.{IsFormat, IsLine, AreTrees, any, nodes_text, owed_after}
 use Rattle.pc_format.proofs.Nodes.{nodes_format}
 use Rattle.pc_format.proofs.As.{as_format}
 use Rattle.pc_proof.specs.Form.{IsFormedNode, IsFormedTree}
@@ -83,6 +83,7 @@ split_spelled cell at n (t ∷ u ∷ ts) long = (omega (arith, long), ap (λ (re
 abbrev AreSpelled : ℕ → List TreeNode → Type 0
 AreSpelled n xs = (length (trees_of xs) ≡ n) × (xs ≡ all_nodes (trees_of xs))
 
+-- nodes of trees in preorder spell these
 are_spelled : (xs : List TreeNode) (n : ℕ) → AreTrees IsBareNode is_split n xs → AreSpelled n xs
 unfolding AreTrees
 are_spelled [] zero trees = (refl, refl)
@@ -107,17 +108,20 @@ one_more (void m) n ys trees = (tt, trees)
 one_more (split cell at t u) n ys trees =
     (tt, subst (λ (xs : List TreeNode). AreTrees (λ x. ⊤) is_split (suc (suc n)) xs) (sym (append_assoc (bare_nodes t) (bare_nodes u) ys)) (one_more t (suc n) (bare_nodes u ++ ys) (one_more u n ys trees)))
 
+-- no nodes are those of no tree
 no_trees : AreTrees {A = TreeNode} (λ x. ⊤) is_split 0 []
 unfolding AreTrees
 no_trees = tt
 
 -- ---- good nodes
 
+-- a node in form is one without places too
 bare_good : (node : TreeNode) → IsFormedNode node → IsBareNode (bare node)
 bare_good (nodes.Bound m) good = record { placeless = refl; good = good }
 bare_good (nodes.Void m) good = record { placeless = refl; good = good }
 bare_good (nodes.Split cell at less more) good = record { placeless = refl; good = good }
 
+-- and the other way round
 good_bare : (node : TreeNode) → IsBareNode (bare node) → IsFormedNode node
 good_bare (nodes.Bound m) is = is.good
 good_bare (nodes.Void m) is = is.good
@@ -137,6 +141,7 @@ only_tree xs trees = by_trees (trees_of xs) spelled.0 ∙ sym spelled.1
     by_trees (t ∷ []) long = without_places t 0 ∙ sym (append-nil (bare_nodes t))
     by_trees (t ∷ u ∷ ts) long = absurd (omega (arith, long))
 
+-- the tree that nodes spell is in form, and has their lines
 tree_made : (xs : List TreeNode) → AreTrees IsBareNode is_split 1 xs → IsFormedTree (placed xs) × (tree_lines (placed xs) ≡ nodes_text node_text xs)
 tree_made xs trees = (record { preorder = ap (nodes_from 0) (sym (tree_of-nodes (tree_of xs))); nodes = formed }, text-map node_text bare (placed xs).nodes ∙ ap (nodes_text node_text) same)
   where
@@ -146,6 +151,7 @@ tree_made xs trees = (record { preorder = ap (nodes_from 0) (sym (tree_of-nodes 
     formed : All IsFormedNode (placed xs).nodes
     formed = All-weaker (λ node. IsBareNode (bare node)) IsFormedNode good_bare (placed xs).nodes (unmapped IsBareNode bare (placed xs).nodes (subst (All IsBareNode) (sym same) (all_good IsBareNode is_split xs 1 trees)))
 
+-- a tree in form is the one that its nodes spell without places
 tree_parts : (t : Tree) → IsFormedTree t → (xs : List TreeNode) × AreTrees IsBareNode is_split 1 xs × (placed xs ≡ t)
 tree_parts t good = (map bare t.nodes, with_good IsBareNode is_split (map bare t.nodes) 1 all_bare in_order, ap (λ (list : List TreeNode). record { nodes = list }) same)
   where
