@@ -7,6 +7,7 @@ mod cuts;
 mod ends;
 mod halt;
 mod lack;
+mod laws;
 mod line_readers;
 mod places;
 mod proof;
@@ -16,3 +17,4 @@ mod tags;
 mod tree;
 mod words;
 
+pub use laws::{documents_read_back, one_document, reading_tells};
