@@ -1,5 +1,6 @@
 pub mod Demands
 pub mod Documents
+pub mod Form
 pub mod Samples
 pub mod Setting
 pub mod Table

@@ -1,0 +1,3 @@
+pub mod Corners
+pub mod Forest
+pub mod Walking

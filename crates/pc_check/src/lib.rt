@@ -1,0 +1,5 @@
+//! The checker: it goes through the lines of a document, and finds the first one that breaks a rule.
+#![tactic(auto)]
+
+mod tree_line;
+mod walk;
