@@ -19,7 +19,8 @@ use Rattle.pc_check.specs.declared.tree_line.Finding.TheVariants as found
 use Rattle.pc_check.specs.declared.walk.Walk.{Walk}
 use Rattle.pc_check.specs.Lines.{IsOpen, Divides, IsFinding}
 use Rattle.pc_check.specs.Walk.{whole_demands, whole_bound, less_part, more_part, rule_number, IsPast, IsEntered, HasPassed}
-use Rattle.pc_check.proofs.Corners.{root-open, less-open, more-open}
+use Rattle.pc_check.proofs.Corners.{less-open, more-open}
+use Rattle.pc_check.proofs.Verdicts.{judges-further, judges-here}
 
 -- ---- what is left
 
@@ -49,15 +50,6 @@ pub record IsWalking (p : Program) (whole : List Placed) (most : Option ℤ) (le
   pub decides : Decide (demands_left line p corners trees) whole
   pub bounded : most ≡ greater so_far (bound_left p corners trees)
   pub boxes : All (IsOpen p) corners
-
--- ---- verdicts
-
-judges-further : (s : Setting) (d : Placed) (ds : List Placed) (verdict : Option (ℕ × ℕ)) → Holds s d → Judges s ds verdict → Judges s (d ∷ ds) verdict
-judges-further s d ds None held all = All-cons (Holds s) d ds held all
-judges-further s d ds (Some broken) held first = inr (held, first)
-
-judges-here : (s : Setting) (d : Placed) (ds : List Placed) → (Holds s d → ⊥) → Judges s (d ∷ ds) (Some (d.line, d.rule))
-judges-here s d ds broken = inl (broken, refl, refl)
 
 -- ---- the greater of bounds
 

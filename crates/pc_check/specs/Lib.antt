@@ -1,2 +1,4 @@
+pub mod CutLines
+pub mod Cuts
 pub mod Lines
 pub mod Walk
