@@ -3,6 +3,7 @@ pub mod Corners
 pub mod CutForest
 pub mod CutWalking
 pub mod Forest
+pub mod Gathered
 pub mod Loops
 pub mod Verdicts
 pub mod Walking

@@ -1,3 +1,4 @@
+pub mod Cells
 pub mod CutLines
 pub mod Cuts
 pub mod Lines

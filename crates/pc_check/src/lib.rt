@@ -1,6 +1,7 @@
 //! The checker: it goes through the lines of a document, and finds the first one that breaks a rule.
 #![tactic(auto)]
 
+mod cells;
 mod cuts;
 mod settled;
 mod tree_line;
