@@ -1,5 +1,5 @@
 -- The trees of cuts that a walk still has before it, each with its box, and the verdict on their lines.
-use Rattle.std.proofs.Common.{◌≡◌, ℕ, ◌+◌, List, [], ◌∷◌, ◌++◌, length, All, Option, Some, refl, ap, ◌∙◌, sym, subst, arith, append_assoc}
+use Rattle.std.proofs.Common.{◌≡◌, ℕ, ◌+◌, List, [], ◌∷◌, ◌++◌, length, All, Option, Some, ap, ◌∙◌, sym, subst, arith, append_assoc}
 use Rattle.std.proofs.lemmas.List.Elements.{All-cons, All-head, All-tail}
 use Rattle.pc_model.specs.declared.region.Region.{Region}
 use Rattle.pc_model.specs.declared.constraint.Constraint.{Constraint}
@@ -11,7 +11,7 @@ use Rattle.pc_model.specs.declared.tree.CutNode.TheVariants as nodes
 use Rattle.pc_model.specs.CutTrees.{CutShape, leaf, inner, size_of, nodes_from, leaves_of, first_part, second_part, IsProper}
 use Rattle.pc_model.specs.Cells.{IsSettledAs}
 use Rattle.pc_proof.specs.Setting.{Setting, region_of}
-use Rattle.pc_proof.specs.Demands.{Placed, Holds, proper, settled, cut_demands, Judges}
+use Rattle.pc_proof.specs.Demands.{Placed, proper, settled, cut_demands, Judges}
 use Rattle.pc_check.specs.CutLines.{IsComparable}
 use Rattle.pc_check.specs.Cuts.{IsAsked, rule_of_cut, IsKept}
 use Rattle.pc_check.proofs.Areas.{first_comparable, second_comparable}

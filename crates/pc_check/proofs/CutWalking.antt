@@ -1,7 +1,7 @@
 -- A walk from line to line of a tree of cuts: where it starts, what a line does to it, and what it has found at its end.
-use Rattle.std.proofs.Common.{◌≡◌, ℕ, ◌+◌, ◌<◌, ◌≤◌, true, List, [], ◌∷◌, ◌++◌, length, drop, get_or, All, Option, Some, None, refl, ap, ◌∙◌, sym, subst, arith, append-nil, length-drop}
+use Rattle.std.proofs.Common.{◌≡◌, ℕ, ◌+◌, ◌<◌, ◌≤◌, true, List, [], ◌∷◌, ◌++◌, length, drop, get_or, All, None, refl, ap, ◌∙◌, sym, subst, arith, append-nil, length-drop}
 use Rattle.std.specs.Prelude.{reverse}
-use Rattle.std.proofs.lemmas.List.{drop_more, drop_all, reverse-append}
+use Rattle.std.proofs.lemmas.List.{drop_more, drop_all}
 use Rattle.std.proofs.lemmas.List.Elements.{All-nil, All-cons, All-head}
 use Rattle.pc_model.specs.declared.schema.Schema.{Schema}
 use Rattle.pc_model.specs.declared.region.Region.{Region}
@@ -16,17 +16,14 @@ use Rattle.pc_model.specs.Regions.{is_region_of, whole_region}
 use Rattle.pc_model.specs.WellFormed.{IsWellFormed}
 use Rattle.pc_model.specs.CutTrees.{CutShape, leaf, inner, size_of, nodes_from, shape_of, leaves_of, first_part, second_part, IsInPreorder}
 use Rattle.pc_model.specs.Cells.{leaves_in}
-use Rattle.pc_proof.specs.Setting.{Setting}
 use Rattle.pc_proof.specs.Demands.{Placed, Holds, cut_demands, Judges}
 use Rattle.pc_check.specs.declared.cuts.CutWalk.{CutWalk}
 use Rattle.pc_check.specs.declared.cuts.CutFinding.TheVariants as verdicts
 use Rattle.pc_check.specs.CutLines.{IsComparable}
-use Rattle.pc_check.specs.Cuts.{IsAsked, cut_lines, IsCutFinding, rule_of_cut, IsKept, IsGathered, IsCutInTwo, HasMoved}
+use Rattle.pc_check.specs.Cuts.{cut_lines, IsCutFinding, rule_of_cut, IsKept, IsGathered, IsCutInTwo, HasMoved}
 use Rattle.pc_check.proofs.Areas.{whole_comparable}
 use Rattle.pc_check.proofs.CutForest.{nodes_left, demands_left, leaves_left, IsCutWalk, at_leaf, at_cut, broken_line}
-
-reverse-push : (items : List Region) (area : Region) → reverse (items ++ area ∷ []) ≡ area ∷ reverse items
-reverse-push items area = reverse-append items (area ∷ [])
+use Rattle.pc_check.proofs.Loops.{reverse-push}
 
 -- without trees there is nothing to do
 no_demands : (line : ℕ) (areas : List Region) → demands_left line areas [] ≡ []
@@ -151,6 +148,7 @@ module _ (schema : Schema) (constraints : List Constraint) (region : Region) (li
   walking-end place items so_far past walking =
       let none : walking.trees ≡ [] = no_trees place walking.trees (sym (drop_all place list past) ∙ walking.left_are) in
       let demands = ap (demands_left (line + place) (reverse items)) none ∙ no_demands (line + place) (reverse items) in
-      let leaves = ap (leaves_left (reverse items)) none ∙ no_leaves (reverse items) in
-      (λ s asked. walking.decides s asked None (subst (All (Holds s)) (sym demands) (All-nil (Holds s))),
-        sym (walking.gathered ∙ ap (λ (found : List Leaf). so_far ++ found) leaves ∙ append-nil so_far))
+      let leaves = ap (leaves_left (reverse items)) none ∙ no_leaves (reverse items) in (
+        λ s asked. walking.decides s asked None (subst (All (Holds s)) (sym demands) (All-nil (Holds s))),
+        sym (walking.gathered ∙ ap (λ (found : List Leaf). so_far ++ found) leaves ∙ append-nil so_far),
+      )

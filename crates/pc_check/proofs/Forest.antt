@@ -1,24 +1,20 @@
 -- The trees that a walk still has before it, each with its box, and the verdict on their lines.
-use Rattle.std.proofs.Common.{◌≡◌, ℕ, suc, ◌+◌, ◌<◌, ◌≤◌, ℤ, List, [], ◌∷◌, ◌++◌, length, drop, get_or, All, Option, Some, None, refl, ap, ◌∙◌, sym, subst, inl, inr, arith, append_assoc, append-nil, add_assoc}
-use Rattle.std.specs.Prelude.{reverse}
+use Rattle.std.proofs.Common.{◌≡◌, ℕ, ◌+◌, ℤ, List, [], ◌∷◌, ◌++◌, length, All, Option, Some, None, refl, ap, ◌∙◌, sym, subst, arith, append_assoc}
 use Rattle.std.specs.Int.{int_max}
 use Rattle.std.proofs.lemmas.Int.{ints, clamps}
-use Rattle.std.proofs.lemmas.List.{drop_more, drop_all, reverse-append}
-use Rattle.std.proofs.lemmas.List.Elements.{All-nil, All-cons, All-head, All-tail}
+use Rattle.std.proofs.lemmas.List.Elements.{All-cons, All-head, All-tail}
 use Rattle.pc_model.specs.declared.tree.Mult.{Mult}
 use Rattle.pc_model.specs.declared.tree.TreeNode.{TreeNode}
 use Rattle.pc_model.specs.declared.tree.TreeNode.TheVariants as nodes
 use Rattle.pc_bound.specs.declared.program.Program.{Program}
-use Rattle.pc_bound.specs.Allocation.{IsProgram}
 use Rattle.pc_bound.specs.Bound.{bound_of, IsMultiplier, IsVoid}
-use Rattle.pc_bound.specs.SplitTrees.{SplitTree, bound, void, split, size_of, nodes_from, tree_of, IsInPreorder, less_caps, more_floors, greater, bound_by}
+use Rattle.pc_bound.specs.SplitTrees.{SplitTree, bound, void, split, size_of, nodes_from, less_caps, more_floors, greater, bound_by}
 use Rattle.pc_proof.specs.Setting.{Setting}
 use Rattle.pc_proof.specs.Demands.{Placed, Holds, splits, bounds, voids, split_demands, Judges}
 use Rattle.pc_check.specs.declared.tree_line.Corner.{Corner}
 use Rattle.pc_check.specs.declared.tree_line.Finding.TheVariants as found
-use Rattle.pc_check.specs.declared.walk.Walk.{Walk}
 use Rattle.pc_check.specs.Lines.{IsOpen, Divides, IsFinding}
-use Rattle.pc_check.specs.Walk.{whole_demands, whole_bound, less_part, more_part, rule_number, IsPast, IsEntered, HasPassed}
+use Rattle.pc_check.specs.Walk.{less_part, more_part, rule_number}
 use Rattle.pc_check.proofs.Corners.{less-open, more-open}
 use Rattle.pc_check.proofs.Verdicts.{judges-further, judges-here}
 

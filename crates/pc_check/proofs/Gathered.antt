@@ -1,5 +1,5 @@
 -- The cells of the leaves so far, and what one more leaf adds to them.
-use Rattle.std.proofs.Common.{◌≡◌, ℕ, suc, ◌+◌, ◌<◌, ◌||◌, cond, not, if◌then◌else◌, Bool, true, false, ℤ, pos, List, [], ◌∷◌, ◌++◌, length, map, filter, take, get_or, All, AllPairs, refl, sym, ap, subst, ◌∙◌, true≢false, arith, fold}
+use Rattle.std.proofs.Common.{◌≡◌, ℕ, suc, ◌+◌, ◌<◌, ◌||◌, cond, not, if◌then◌else◌, Bool, true, false, ℤ, pos, List, [], ◌∷◌, ◌++◌, length, map, filter, get_or, All, AllPairs, refl, sym, ap, subst, ◌∙◌, true≢false, arith, fold}
 use Rattle.std.specs.Prelude.{slice_set, slice_index_or, unwrap_or}
 use Rattle.std.specs.Int.{int_min, int_max}
 use Rattle.std.specs.List.{list_any, position_or_len, reduce}

@@ -1,5 +1,5 @@
 -- Verdicts on demands of which one comes first.
-use Rattle.std.proofs.Common.{◌≡◌, ℕ, List, ◌∷◌, Option, Some, None, refl, inl, inr}
+use Rattle.std.proofs.Common.{ℕ, List, ◌∷◌, Option, Some, None, refl, inl, inr}
 use Rattle.std.proofs.lemmas.List.Elements.{All-cons}
 use Rattle.pc_proof.specs.Setting.{Setting}
 use Rattle.pc_proof.specs.Demands.{Placed, Holds, Judges}

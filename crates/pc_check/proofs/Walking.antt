@@ -1,7 +1,7 @@
 -- A walk from line to line: where it starts, what a line does to it, and what it has found at its end.
-use Rattle.std.proofs.Common.{◌≡◌, ℕ, suc, ◌+◌, ◌<◌, ◌≤◌, ℤ, List, [], ◌∷◌, ◌++◌, length, drop, get_or, All, Option, Some, None, refl, ap, ◌∙◌, sym, subst, arith, append_assoc, append-nil, length-drop}
+use Rattle.std.proofs.Common.{◌≡◌, ℕ, ◌+◌, ◌<◌, ◌≤◌, ℤ, List, [], ◌∷◌, ◌++◌, length, drop, get_or, All, Option, Some, None, refl, ap, ◌∙◌, sym, subst, arith, append-nil, length-drop}
 use Rattle.std.specs.Prelude.{reverse}
-use Rattle.std.proofs.lemmas.List.{drop_more, drop_all, reverse-append}
+use Rattle.std.proofs.lemmas.List.{drop_more, drop_all}
 use Rattle.std.proofs.lemmas.List.Elements.{All-nil, All-cons, All-head}
 use Rattle.pc_model.specs.declared.tree.TreeNode.{TreeNode}
 use Rattle.pc_model.specs.declared.tree.TreeNode.TheVariants as nodes
@@ -9,7 +9,6 @@ use Rattle.pc_bound.specs.declared.program.Program.{Program}
 use Rattle.pc_bound.specs.Allocation.{IsProgram}
 use Rattle.pc_bound.specs.Bound.{bound_of}
 use Rattle.pc_bound.specs.SplitTrees.{SplitTree, bound, void, split, size_of, nodes_from, tree_of, IsInPreorder, greater}
-use Rattle.pc_proof.specs.Setting.{Setting}
 use Rattle.pc_proof.specs.Demands.{Placed, Holds, split_demands, Judges}
 use Rattle.pc_check.specs.declared.tree_line.Corner.{Corner}
 use Rattle.pc_check.specs.declared.tree_line.Finding.TheVariants as found
@@ -19,12 +18,10 @@ use Rattle.pc_check.specs.Lines.{IsOpen, IsFinding}
 use Rattle.pc_check.specs.Walk.{whole_demands, whole_bound, less_part, more_part, rule_number, IsPast, IsEntered, HasPassed, IsTreeFinding}
 use Rattle.pc_check.proofs.Corners.{root-open}
 use Rattle.pc_check.proofs.Forest.{nodes_left, demands_left, bound_left, IsWalking, greater-none, at_bound, at_void, at_split, broken_line}
+use Rattle.pc_check.proofs.Loops.{reverse-push}
 
 abbrev root_of : Program → Corner
 root_of p = record { floors = p.floor; caps = p.cap }
-
-reverse-push : (items : List Corner) (corner : Corner) → reverse (items ++ corner ∷ []) ≡ corner ∷ reverse items
-reverse-push items corner = reverse-append items (corner ∷ [])
 
 -- without trees there is nothing to do
 no_demands : (line : ℕ) (p : Program) (corners : List Corner) → demands_left line p corners [] ≡ []
@@ -149,6 +146,7 @@ module _ (p : Program) (list : List TreeNode) (line : ℕ) where
   walking-end place items most past walking =
       let none : walking.trees ≡ [] = no_trees place walking.trees (sym (drop_all place list past) ∙ walking.left_are) in
       let demands = ap (demands_left (line + place) p (reverse items)) none ∙ no_demands (line + place) p (reverse items) in
-      let bounds = ap (bound_left p (reverse items)) none ∙ no_bound p (reverse items) in
-      (λ s. walking.decides s None (subst (All (Holds s)) (sym demands) (All-nil (Holds s))),
-        sym (walking.bounded ∙ ap (greater most) bounds ∙ greater-none most))
+      let bounds = ap (bound_left p (reverse items)) none ∙ no_bound p (reverse items) in (
+        λ s. walking.decides s None (subst (All (Holds s)) (sym demands) (All-nil (Holds s))),
+        sym (walking.bounded ∙ ap (greater most) bounds ∙ greater-none most),
+      )

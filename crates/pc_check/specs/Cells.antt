@@ -1,5 +1,5 @@
 -- The cells of leaves: their classes, in order of the first leaf, with the ends of a column.
-use Rattle.std.specs.Prelude.{◌≡◌, ℕ, ℤ, List, ◌++◌, ◌∷◌, [], map, slice_set, slice_index_or, pos, false, Bool, if◌then◌else◌}
+use Rattle.std.specs.Prelude.{◌≡◌, ℕ, List, ◌++◌, ◌∷◌, [], map, slice_set, slice_index_or, pos, false, Bool, if◌then◌else◌}
 use Rattle.std.specs.Int.{int_min, int_max}
 use Rattle.pc_model.specs.declared.region.Region.{Region}
 use Rattle.pc_model.specs.declared.tree.Leaf.{Leaf}

@@ -102,12 +102,7 @@ fn cell_of_box(class: ClassKey, region: &Region, column: usize) -> Cell
 }
 
 /// The cells with a new one, or with a box more in the cell at a place.
-fn with_box(
-    cells: Vec<Cell>,
-    cell: Cell,
-    is_new: bool,
-    place: usize,
-) -> Result<Vec<Cell>, Memory>
+fn with_box(cells: Vec<Cell>, cell: Cell, is_new: bool, place: usize) -> Result<Vec<Cell>, Memory>
     requires { is_new ≡ false → place < length cells.items }
     ensures { IfOk result (λ more. more.items ≡ with_box cells.items cell is_new place) }
 {

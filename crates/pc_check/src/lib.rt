@@ -4,5 +4,7 @@
 mod cells;
 mod cuts;
 mod settled;
+#[cfg(test)]
+mod tests;
 mod tree_line;
 mod walk;

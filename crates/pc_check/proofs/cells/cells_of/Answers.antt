@@ -1,5 +1,4 @@
-use Rattle.std.proofs.Common.{◌≡◌, ◌∙◌, unwrap_or}
-use Rattle.pc_check.specs.Cells.{cells_from}
+use Rattle.std.proofs.Common.{◌∙◌, unwrap_or}
 use Rattle.pc_check.proofs.Gathered.{ends-from_cells}
 use Rattle.pc_check.proofs.cells.cells_of.Goals as goal
 

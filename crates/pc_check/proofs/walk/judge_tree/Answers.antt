@@ -1,4 +1,4 @@
-use Rattle.std.proofs.Common.{◌≡◌, [], refl, sym, ◌∙◌, subst, Some, None}
+use Rattle.std.proofs.Common.{◌≡◌, [], refl, sym, ◌∙◌, subst}
 use Rattle.std.proofs.lemmas.List.{nil_from_length}
 use Rattle.pc_check.specs.declared.walk.Walk.{Walk}
 use Rattle.pc_check.specs.Walk.{IsStep}
