@@ -4,4 +4,7 @@ pub mod DocumentFormat
 pub mod LineStarts
 pub mod PartFormats
 pub mod RunSteps
+pub mod Reaches
+pub mod NodeSteps
+pub mod BlockSteps
 pub mod TreeFormat

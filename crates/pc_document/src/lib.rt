@@ -13,6 +13,7 @@ mod places;
 mod proof;
 mod relation;
 mod runs;
+mod spans;
 mod tags;
 mod tree;
 mod words;

@@ -1,11 +1,12 @@
 ghost use Rattle.std.specs.Prelude.{◌≡◌, IfOk, IfSome};
 ghost use Rattle.pc_model.specs.WellFormed.{IsWellFormed};
 ghost use Rattle.pc_model.specs.Accepted.{IsQuery};
+ghost use Rattle.pc_document.specs.NodeLines.{read_node};
 ghost use Rattle.pc_document.specs.ValueLines.{read_proof_line, read_outer_line, read_end_line};
 ghost use Rattle.pc_document.specs.TokenLines.{read_run, begins_run, read_group, read_query_line};
 
 use crate::tags::{EndLine, ProofLine, Side};
-use pc_model::{Query, Run, Schema};
+use pc_model::{Query, Run, Schema, TreeNode};
 use pc_num::{Frac, Memory};
 use std::alloc::Global;
 
@@ -84,6 +85,12 @@ pub(crate) fn read_query_line(
     requires well_formed { IsWellFormed schema.now }
     ensures found { IfOk result (λ found. found ≡ read_query_line schema.now line.now) }
     ensures accepted { IfOk result (λ found. IfSome found (IsQuery schema.now)) }
+{
+    Err(Memory)
+}
+
+pub(crate) fn read_node(alloc: Global, line: &[u8]) -> Result<Option<TreeNode>, Memory>
+    ensures { IfOk result (λ node. node ≡ read_node line.now) }
 {
     Err(Memory)
 }
