@@ -4,6 +4,8 @@ pub mod DocumentFormat
 pub mod LineStarts
 pub mod PartFormats
 pub mod RunSteps
+pub mod PlacedTrees
+pub mod PlacingSteps
 pub mod Reaches
 pub mod NodeSteps
 pub mod BlockSteps

@@ -9,6 +9,7 @@ mod halt;
 mod lack;
 mod laws;
 mod line_readers;
+mod placed;
 mod places;
 mod proof;
 mod relation;
