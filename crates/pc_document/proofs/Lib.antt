@@ -4,6 +4,8 @@ pub mod DocumentFormat
 pub mod LineStarts
 pub mod PartFormats
 pub mod RunSteps
+pub mod CutPlacing
+pub mod PlacedCuts
 pub mod PlacedTrees
 pub mod PlacingSteps
 pub mod Reaches

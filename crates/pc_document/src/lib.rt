@@ -10,6 +10,7 @@ mod lack;
 mod laws;
 mod line_readers;
 mod placed;
+mod placed_cuts;
 mod places;
 mod proof;
 mod relation;

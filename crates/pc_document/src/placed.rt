@@ -77,7 +77,7 @@ fn with_place(node: TreeNode, place: usize, past: &[usize]) -> Result<TreeNode, 
 }
 
 /// A place as a node has it, where it is not too great.
-fn place_number(place: usize) -> Result<u32, Memory>
+pub(crate) fn place_number(place: usize) -> Result<u32, Memory>
     ensures { IfOk result (λ number. number ≡ place) }
 {
     if place >= 1 << 32 {
