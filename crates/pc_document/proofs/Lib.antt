@@ -12,3 +12,4 @@ pub mod Reaches
 pub mod NodeSteps
 pub mod BlockSteps
 pub mod TreeFormat
+pub mod Writing
