@@ -2,5 +2,6 @@
 #![tactic(auto)]
 
 mod laws;
+mod number_laws;
 
 pub use laws::{documents_read_back, one_document, reading_tells};
