@@ -1,1 +1,3 @@
+pub mod NodesBack
 pub mod NumbersBack
+pub mod NumbersInLines
