@@ -3,5 +3,6 @@
 
 mod laws;
 mod number_laws;
+mod numbers;
 
 pub use laws::{documents_read_back, one_document, reading_tells};
