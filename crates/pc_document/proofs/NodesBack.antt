@@ -1,23 +1,24 @@
 -- The line of a node of a search tree is read as that node.
-use Rattle.std.proofs.Common.{◌≡◌, ◌≤◌, ◌<◌, ◌^◌, ◌&&◌, ℕ, List, [], ◌∷◌, ◌++◌, arith, refl, ap, ap₂, sym, ◌∙◌, Bool, true, false, Option, Some, None, if◌then◌else◌}
-use Rattle.std.specs.Prelude.{ℤ, pos, unsigned_abs, codes, flat_map, map, bytes_eq, ◌≤ℤ◌, int_le, nat_lt, nat_le}
+use Rattle.std.proofs.Common.{Bor, add-one, append_assoc, drop, drop-cons, get_or, length, zero, suc, ◌+◌, ◌≡◌, ◌≤◌, ◌<◌, ◌^◌, ◌&&◌, ℕ, List, [], ◌∷◌, ◌++◌, arith, refl, ap, ap₂, sym, ◌∙◌, Bool, true, false, Option, Some, None, if◌then◌else◌}
+use Rattle.std.specs.Prelude.{IsTrue, ◌↔◌, ℤ, pos, unsigned_abs, codes, flat_map, map, bytes_eq, ◌≤ℤ◌, int_le, nat_lt, nat_le}
 use Rattle.std.specs.List.{All, list_all}
 use Rattle.std.specs.Ordering.{int_eq}
-use Rattle.std.proofs.lemmas.Bool.{and_parts, and_from, lt-ltb, ltb-true, le-leb, leb-true}
+use Rattle.std.proofs.lemmas.Bool.{both_ways, le-ltb, lt-leb, false_from_ne_true, and_parts, and_from, lt-ltb, ltb-true, le-leb, leb-true}
 use Rattle.std.proofs.lemmas.Bool.Decides.{Decides-int_eq}
 use Rattle.std.proofs.lemmas.Int.{ints}
-use Rattle.std.proofs.lemmas.List.{append-nil}
+use Rattle.std.proofs.lemmas.List.{append-nil, drop_all}
 use Rattle.std.proofs.lemmas.List.Elements.{All-head, All-tail, All-cons, All-nil, All-weaker}
 use Rattle.std.proofs.lemmas.List.Sums.{AllPass-from_list_all, list_all-from_AllPass}
 use Rattle.pc_num.specs.Signs.{Fits}
 use Rattle.pc_model.specs.declared.tree.Mult.{Mult}
 use Rattle.pc_model.specs.declared.tree.TreeNode.{TreeNode}
 use Rattle.pc_model.specs.declared.tree.TreeNode.TheVariants as nodes
-use Rattle.pc_format.specs.Formats.{IsLine, IsSpelled}
+use Rattle.pc_format.specs.Formats.{IsLine, IsSpelled, if_spelled}
 use Rattle.pc_format.specs.Lines.{feeds_in}
 use Rattle.pc_format.proofs.Spelled.{spelled_line}
 use Rattle.pc_proof.specs.Form.{IsFormedNode}
 use Rattle.pc_document.specs.Numbers.{count_text, whole_text, likely_count, likely_number, is_fit, is_positive}
+use Rattle.pc_document.specs.Likely.{IsLikely}
 use Rattle.pc_document.specs.NodeLines.{IsBareNode, bare, bound_of, is_node, likely_node, node_of_pieces, node_text, numbers_text, pieces_of, read_node, split_of, void_of}
 use Rattle.pc_document.proofs.NumbersBack.{number_bytes, numbers_again}
 use Rattle.pc_document.proofs.NumbersInLines.{IsInk, number_ink, tested_ink, words_again, words_plain, words_text}
@@ -193,3 +194,84 @@ spelled = record {
 pub node_line : IsLine IsBareNode node_text read_node
 unfolding read_node
 node_line = spelled_line node_text is_node likely_node spelled
+
+-- ---- the code's steps
+
+pub fits_test : (test : Bool) (numbers : List ℤ) → IsTrue test ↔ All Fits numbers → test ≡ list_all is_fit numbers
+fits_test test numbers same = by_test (list_all is_fit numbers) refl
+  where
+    by_test : (all : Bool) → list_all is_fit numbers ≡ all → test ≡ all
+    by_test true e = same.1 (are_fits numbers e)
+    by_test false e = false_from_ne_true test (λ is. both_ways (list_all is_fit numbers) e (fits_are numbers (same.0 is)))
+
+pub bare_text : (node : TreeNode) → node_text (bare node) ≡ node_text node
+unfolding node_text
+bare_text (nodes.Split cell at less more) = refl
+bare_text (nodes.Bound m) = refl
+bare_text (nodes.Void m) = refl
+
+-- no likely node is good
+pub none_likely : (line : List ℕ) → IsLikely is_node (likely_node line) None → None ≡ read_node line
+unfolding read_node
+none_likely line refused = by_node (likely_node line) refused
+  where
+    by_node : (likely : Option TreeNode) → IsLikely is_node likely None → None ≡ if_spelled node_text is_node line likely
+    by_node None refused = refl
+    by_node (Some node) refused = ap (λ (test : Bool). if test && bytes_eq (node_text node) line then Some node else None) (sym refused)
+
+both_false : (test other : Bool) → other ≡ false → (test && other) ≡ false
+both_false true other e = e
+both_false false other e = refl
+
+pub wide_split : (cell at : ℕ) → 2 ^ 32 ≤ cell → is_node (nodes.Split cell at 0 0) ≡ false
+unfolding is_node
+wide_split cell at wide = ap (λ (test : Bool). test && nat_le at (10 ^ 18)) (le-ltb cell (2 ^ 32) wide)
+
+pub far_split : (cell at : ℕ) → 2 ^ 64 ≤ at → is_node (nodes.Split cell at 0 0) ≡ false
+unfolding is_node
+far_split cell at far = both_false (nat_lt cell (2 ^ 32)) (nat_le at (10 ^ 18)) (lt-leb at (10 ^ 18) (omega (arith, far)))
+
+pub ruleset splits = (wide_split, far_split)
+
+-- the numbers that are written so far, and those that are left
+pub number_more : (items : List ℕ) (numbers : List ℤ) (i : ℕ) (d : ℤ) → i < length numbers → (items ++ 32 ∷ whole_text (get_or numbers i d)) ++ numbers_text (drop (i + 1) numbers) ≡ items ++ numbers_text (drop i numbers)
+unfolding numbers_text
+number_more items numbers i d inside = rw (add-one, drop-cons numbers i d) (append_assoc items (32 ∷ whole_text (get_or numbers i d)) (numbers_text (drop (suc i) numbers)))
+
+pub number_end : (items : List ℕ) (numbers : List ℤ) (i : ℕ) → length numbers ≤ i → items ++ numbers_text (drop i numbers) ≡ items
+unfolding numbers_text
+number_end items numbers i past = rw (drop_all i numbers past) (append-nil items)
+
+pub ruleset numbers_steps = (number_more, number_end)
+
+-- the numbers that are read so far, and those that are left
+abbrev numbers_in : List (Bor (List ℕ)) → List ℤ
+numbers_in pieces = map likely_number (map (λ piece. piece.now) pieces)
+
+pub likely_more : (numbers : List ℤ) (pieces : List (Bor (List ℕ))) (i : ℕ) (d : Bor (List ℕ)) → i < length pieces → (numbers ++ likely_number (get_or pieces i d).now ∷ []) ++ numbers_in (drop (i + 1) pieces) ≡ numbers ++ numbers_in (drop i pieces)
+likely_more numbers pieces i d inside = rw (add-one, drop-cons pieces i d) (append_assoc numbers (likely_number (get_or pieces i d).now ∷ []) (numbers_in (drop (suc i) pieces)))
+
+pub likely_end : (numbers : List ℤ) (pieces : List (Bor (List ℕ))) (i : ℕ) → length pieces ≤ i → numbers ++ numbers_in (drop i pieces) ≡ numbers
+likely_end numbers pieces i past = rw (drop_all i pieces past) (append-nil numbers)
+
+pub one_unfit : (pieces : List (Bor (List ℕ))) (i : ℕ) (d : Bor (List ℕ)) → i < length pieces → 2 ^ 127 ≤ unsigned_abs (likely_number (get_or pieces i d).now) → list_all is_fit (numbers_in pieces) ≡ false
+one_unfit [] i d inside large = absurd (omega (arith, inside))
+one_unfit (piece ∷ pieces) zero d inside large = ap (λ (test : Bool). test && list_all is_fit (numbers_in pieces)) (le-ltb (unsigned_abs (likely_number piece.now)) (2 ^ 127) large)
+one_unfit (piece ∷ pieces) (suc i) d inside large = both_false (is_fit (likely_number piece.now)) (list_all is_fit (numbers_in pieces)) (one_unfit pieces i d (omega arith) large)
+
+pub ruleset likely_steps = (likely_more, likely_end, one_unfit)
+
+pub unfit_den : (by' : List ℤ) (den : ℤ) → 2 ^ 127 ≤ unsigned_abs den → is_node (nodes.Bound (record { by = by'; den = den })) ≡ false
+unfolding is_node
+unfit_den by' den large =
+    ap (λ (test : Bool). test && list_all is_fit by') (both_false (is_positive den) (is_fit den) (le-ltb (unsigned_abs den) (2 ^ 127) large))
+
+pub unfit_bound : (by' : List ℤ) (den : ℤ) → list_all is_fit by' ≡ false → is_node (nodes.Bound (record { by = by'; den = den })) ≡ false
+unfolding is_node
+unfit_bound by' den unfit = both_false (is_positive den && is_fit den) (list_all is_fit by') unfit
+
+pub ruleset bounds = (unfit_den, unfit_bound)
+
+pub unfit_void : (by' : List ℤ) (den : ℤ) → list_all is_fit by' ≡ false → is_node (nodes.Void (record { by = by'; den = den })) ≡ false
+unfolding is_node
+unfit_void by' den unfit = both_false (int_eq den (pos 1)) (list_all is_fit by') unfit

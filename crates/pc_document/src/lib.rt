@@ -2,6 +2,7 @@
 #![tactic(auto)]
 
 mod laws;
+mod nodes;
 mod number_laws;
 mod numbers;
 

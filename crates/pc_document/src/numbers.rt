@@ -1,6 +1,6 @@
 ghost use Rattle.std.specs.Prelude.{◌≡◌, ◌<◌, ◌≤◌, ◌^◌, ◌∷◌, [], IfSome, MatchOption, unsigned_abs};
 ghost use Rattle.pc_num.specs.Scaled.{signed, starts_with_minus};
-ghost use Rattle.pc_document.specs.Numbers.{digits_value, likely_number};
+ghost use Rattle.pc_document.specs.Numbers.{digits_value, likely_count, likely_number};
 
 // The greatest number that fits.
 const GREATEST: u128 = 170_141_183_460_469_231_731_687_303_715_884_105_727;
@@ -12,6 +12,16 @@ pub(crate) fn likely_number(text: &[u8]) -> Option<i128>
 {
     match digits_value(text) {
         Some(size) => Some(signed(starts_with_minus(text), size)),
+        None => None,
+    }
+}
+
+/// The only count whose text this can be, or none where it is 2^127 or more.
+pub(crate) fn likely_count(text: &[u8]) -> Option<u128>
+    ensures { MatchOption result (2 ^ 127 ≤ likely_count text.now) (λ n. n ≡ likely_count text.now) }
+{
+    match likely_number(text) {
+        Some(number) => Some(number.unsigned_abs()),
         None => None,
     }
 }
