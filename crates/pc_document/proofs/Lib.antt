@@ -1,6 +1,9 @@
+pub mod EndsRead
 pub mod NodesBack
 pub mod NumbersBack
 pub mod NumbersInLines
 pub mod NumbersInUnits
+pub mod NumbersLikely
 pub mod ProofLinesBack
 pub mod ValuesBack
+pub mod ValuesRead

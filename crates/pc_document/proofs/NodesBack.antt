@@ -13,12 +13,11 @@ use Rattle.pc_num.specs.Signs.{Fits}
 use Rattle.pc_model.specs.declared.tree.Mult.{Mult}
 use Rattle.pc_model.specs.declared.tree.TreeNode.{TreeNode}
 use Rattle.pc_model.specs.declared.tree.TreeNode.TheVariants as nodes
-use Rattle.pc_format.specs.Formats.{IsLine, IsSpelled, if_spelled}
+use Rattle.pc_format.specs.Formats.{IsLine, IsSpelled}
 use Rattle.pc_format.specs.Lines.{feeds_in}
 use Rattle.pc_format.proofs.Spelled.{spelled_line}
 use Rattle.pc_proof.specs.Form.{IsFormedNode}
 use Rattle.pc_document.specs.Numbers.{count_text, whole_text, likely_count, likely_number, is_fit, is_positive}
-use Rattle.pc_document.specs.Likely.{IsLikely}
 use Rattle.pc_document.specs.NodeLines.{IsBareNode, bare, bound_of, is_node, likely_node, node_of_pieces, node_text, numbers_text, pieces_of, read_node, split_of, void_of}
 use Rattle.pc_document.proofs.NumbersBack.{number_bytes, numbers_again}
 use Rattle.pc_document.proofs.NumbersInLines.{IsInk, number_ink, tested_ink, words_again, words_plain, words_text}
@@ -210,15 +209,7 @@ bare_text (nodes.Split cell at less more) = refl
 bare_text (nodes.Bound m) = refl
 bare_text (nodes.Void m) = refl
 
--- no likely node is good
-pub none_likely : (line : List ℕ) → IsLikely is_node (likely_node line) None → None ≡ read_node line
-unfolding read_node
-none_likely line refused = by_node (likely_node line) refused
-  where
-    by_node : (likely : Option TreeNode) → IsLikely is_node likely None → None ≡ if_spelled node_text is_node line likely
-    by_node None refused = refl
-    by_node (Some node) refused = ap (λ (test : Bool). if test && bytes_eq (node_text node) line then Some node else None) (sym refused)
-
+-- a split of numbers that its type does not hold may not stand
 both_false : (test other : Bool) → other ≡ false → (test && other) ≡ false
 both_false true other e = e
 both_false false other e = refl

@@ -1,6 +1,6 @@
 -- The line of a proof is read as that line.
 use Rattle.std.proofs.Common.{◌≡◌, ℕ, List, [], ◌∷◌, ◌++◌, refl, ap, sym, ◌∙◌, Bool, true, false, Option, Some, None, if◌then◌else◌}
-use Rattle.std.specs.Prelude.{bytes_eq, codes, drop}
+use Rattle.std.specs.Prelude.{IfSome, bytes_eq, codes, drop}
 use Rattle.std.specs.List.{All}
 use Rattle.std.proofs.lemmas.List.{append-nil}
 use Rattle.std.proofs.lemmas.List.Elements.{All-cons, All-nil}
@@ -16,8 +16,9 @@ use Rattle.pc_proof.specs.Form.{IsFormedRatio}
 use Rattle.pc_report.specs.Report.{scale_for}
 use Rattle.pc_report.specs.Units.{average_text}
 use Rattle.pc_report.proofs.EndsBack.{few_for}
+use Rattle.pc_document.specs.Likely.{IsLikely}
 use Rattle.pc_document.specs.TokenLines.{begins_run}
-use Rattle.pc_document.specs.ValueLines.{IsProofLine, ProofLine, at, at_if, is_proof_line, likely_average, likely_proof, proof_text, read_proof_line, rows, tree, values}
+use Rattle.pc_document.specs.ValueLines.{IsProofLine, ProofLine, at, at_if, is_proof_line, is_ratio, likely_average, likely_proof, proof_text, read_proof_line, rows, tree, values}
 use Rattle.pc_document.proofs.NumbersInLines.{IsInk, tested_ink, words_plain, words_text}
 use Rattle.pc_document.proofs.NumbersInUnits.{average_ink, averages_again, ratio_tested, read_ratio}
 
@@ -66,11 +67,16 @@ read_at schema query line ratio same =
     let further = passed_over ratio (bytes_eq line (codes "by tree")) tree _ (λ e. cc) others in
     found_ratio (likely_average (scale_for schema query.column) (drop 6 line)) ratio (passed_over ratio (bytes_eq line (codes "by values")) values _ (λ e. cc) further)
 
-read_proof : (schema : Schema) (query : Query) (text : List ℕ) (line : ProofLine) → likely_proof schema query text ≡ Some line → is_proof_line line ≡ true → IsProofLine line
+pub read_proof : (schema : Schema) (query : Query) (text : List ℕ) (line : ProofLine) → likely_proof schema query text ≡ Some line → is_proof_line line ≡ true → IsProofLine line
 read_proof schema query text rows same tested = tt
 read_proof schema query text tree same tested = tt
 read_proof schema query text (at ratio) same tested = read_ratio (scale_for schema query.column) (drop 6 text) ratio (read_at schema query text ratio same) tested
 read_proof schema query text values same tested = tt
+
+-- no ratio that may stand, no line of one that may
+pub no_ratio : (likely : Option Frac) → IsLikely is_ratio likely None → IfSome (at_if likely) (λ (line : ProofLine). is_proof_line line ≡ false)
+no_ratio None refused = tt
+no_ratio (Some ratio) refused = refused
 
 -- ---- the line
 

@@ -147,7 +147,7 @@ pieces_value schema query (word ∷ number ∷ mark ∷ []) e same tested =
     read_value query.agg (scale_for schema query.column) number e.value (found_value (likely_value schema query number) (exact_of mark) e same) tested
 pieces_value schema query (word ∷ number ∷ mark ∷ more ∷ pieces) e same tested = absurd cc
 
-read_end : (schema : Schema) (query : Query) (line : List ℕ) (e : EndLine) → likely_end schema query line ≡ Some e → is_value_of query.agg e.value ≡ true → IsEndLine query e
+pub read_end : (schema : Schema) (query : Query) (line : List ℕ) (e : EndLine) → likely_end schema query line ≡ Some e → is_value_of query.agg e.value ≡ true → IsEndLine query e
 unfolding likely_end
 read_end schema query line e same tested = pieces_value schema query (pieces_of line) e same tested
 

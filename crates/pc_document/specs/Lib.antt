@@ -1,3 +1,4 @@
+pub mod CodeLines
 pub mod DocumentLines
 pub mod Kinds
 pub mod Likely

@@ -3,13 +3,14 @@ ghost use Rattle.std.specs.List.{list_all};
 ghost use Rattle.pc_format.specs.Formats.{if_spelled};
 ghost use Rattle.pc_document.specs.Likely.{AreLikely, IsLikely};
 ghost use Rattle.pc_document.specs.Numbers.{count_text, is_fit, is_positive, likely_count, likely_number, whole_text};
-ghost use Rattle.pc_document.specs.NodeLines.{bare, bound_of, is_node, likely_node, node_of_pieces, node_text, numbers_text, pieces_of, read_node, split_of, void_of};
+ghost use Rattle.pc_document.specs.NodeLines.{bare, bound_of, is_node, likely_node, node_of_pieces, node_text, numbers_text, read_node, split_of, void_of};
 
 use crate::numbers::{likely_count, likely_number};
+use crate::pieces::pieces_of;
 use pc_list::Seq;
 use pc_model::{Mult, TreeNode};
 use pc_num::{Memory, are_fit, put_scaled};
-use std::alloc::{AllocError, Global};
+use std::alloc::Global;
 
 /// Appends the line of a node, which does not tell the places of its parts.
 #[tactic(auto, unfolding(crate::specs::NodeLines::node_text))]
@@ -58,7 +59,7 @@ fn put_number(alloc: Global, out: &mut Vec<u8>, number: &i128) -> Result<(), Mem
 }
 
 /// The node whose line this is, without the places of its parts, or none.
-#[tactic(auto, using(crate::proofs::NodesBack::none_likely), unfolding(crate::specs::NodeLines::read_node))]
+#[tactic(auto, using(crate::proofs::NumbersLikely::none_likely), unfolding(crate::specs::NodeLines::read_node))]
 pub(crate) fn read_node(alloc: Global, line: &[u8]) -> Result<Option<TreeNode>, Memory>
     ensures { IfOk result (λ node. node ≡ read_node line.now) }
 {
@@ -119,15 +120,8 @@ fn all_fit(numbers: &[i128]) -> bool
 fn likely_node(alloc: Global, line: &[u8]) -> Result<Option<TreeNode>, Memory>
     ensures { IfOk result (λ found. IsLikely is_node (likely_node line.now) found) }
 {
-    let pieces = pieces_of(alloc, line)?;
+    let pieces = pieces_of(alloc, line, b' ')?;
     node_of_pieces(alloc, pieces.as_slice())
-}
-
-// What stands between the spaces.
-fn pieces_of(alloc: Global, line: &[u8]) -> Result<Vec<&[u8]>, AllocError>
-    ensures { IfOk result (λ pieces. map (λ piece. piece.now) pieces.items ≡ pieces_of line.now) }
-{
-    line.split(|byte| *byte == b' ').collect(alloc)
 }
 
 #[tactic(auto, unfolding(crate::specs::NodeLines::node_of_pieces))]
