@@ -1,5 +1,5 @@
 -- What the reader of lines of ends finds where a part of the line may not stand, and that values in form can be printed.
-use Rattle.std.proofs.Common.{◌≡◌, ◌≤◌, ◌^◌, ◌*◌, ℕ, pos, unsigned_abs, arith, refl, Bool, false, Option, Some, None}
+use Rattle.std.proofs.Common.{◌≡◌, refl, Bool, false, Option, Some, None}
 use Rattle.std.specs.Prelude.{IfSome}
 use Rattle.pc_num.specs.declared.fraction.Frac.{Frac}
 use Rattle.pc_model.specs.declared.query.Agg.{Agg}
@@ -17,6 +17,7 @@ ratio_printable value formed = record {
   fits = formed.reduced.num_fits;
 }
 
+-- a value in form can be printed
 pub printable : (agg : Agg) (value : Frac) → IsFormedValue agg value → IsPrintable agg value
 printable aggs.Count value formed = λ e. absurd cc
 printable aggs.Sum value formed = λ e. absurd cc

@@ -1,6 +1,6 @@
 -- An average is read back from the unit of its column, and what is read so is in lowest terms.
-use Rattle.std.proofs.Common.{◌≡◌, ◌≤◌, ◌<◌, ◌+◌, ◌*◌, ◌/◌, ◌^◌, ◌==◌, ◌&&◌, ℕ, zero, suc, ℤ, pos, negsuc, unsigned_abs, List, [], ◌∷◌, ◌++◌, arith, refl, ap, ap₂, sym, subst, ◌∙◌, Bool, true, false, Option, Some, None, if◌then◌else◌}
-use Rattle.std.specs.Prelude.{◌<ℤ◌, ◌≤ℤ◌, nat_le, nat_abs}
+use Rattle.std.proofs.Common.{◌≡◌, ◌≤◌, ◌<◌, ◌*◌, ◌/◌, ◌^◌, ◌==◌, ◌&&◌, ℕ, zero, suc, ℤ, pos, negsuc, unsigned_abs, List, [], ◌∷◌, ◌++◌, arith, refl, ap, ap₂, sym, subst, ◌∙◌, Bool, true, false, Option, Some, None, if◌then◌else◌}
+use Rattle.std.specs.Prelude.{◌<ℤ◌, ◌≤ℤ◌}
 use Rattle.std.specs.Int.{IsGcd}
 use Rattle.std.specs.List.{All, slice_split}
 use Rattle.std.specs.Ordering.{int_eq}
@@ -24,19 +24,22 @@ use Rattle.pc_report.proofs.AveragesBack.{above_zero, den_above, signed_size}
 use Rattle.pc_report.proofs.Units.{lowest_is_reduced}
 use Rattle.pc_document.specs.Numbers.{is_positive, is_within}
 use Rattle.pc_document.specs.ValueLines.{fraction_of, in_units, in_units_if, is_printed_size, is_ratio, likely_average}
-use Rattle.pc_document.proofs.NumbersBack.{IsNumberByte, number_bytes, numbers_again}
+use Rattle.pc_document.proofs.NumbersBack.{number_bytes, numbers_again}
 use Rattle.pc_document.proofs.NumbersInLines.{IsInk, number_ink, number_unslashed, pieces_again}
 
 -- ---- units
 
+-- the sign of a printed fraction is that of the value
 sign_again : (num : ℤ) (d x y : ℕ) → (0 < unsigned_abs num → 0 < x) → signed (differ (signed (differ num (pos d)) x) (pos y)) (unsigned_abs num) ≡ num
 sign_again (pos n) d x y some = refl
 sign_again (negsuc n) d zero y some = absurd (omega (arith, some (omega arith)))
 sign_again (negsuc n) d (suc x) y some = refl
 
+-- the cross products of the way back
 turned : (x d power n y : ℕ) → x * (d * power) ≡ n * y → n * y ≡ (x * power) * d
 turned x d power n y e = omega (arith, e)
 
+-- over a denominator above 0
 parts_again : (n : ℤ) (d scale : ℕ) → IsFrac (record { num = n; den = pos d }) → ◌≡◌ {A = Frac} (in_units scale (in_column scale (record { num = n; den = pos d }))) (record { num = n; den = pos d })
 unfolding in_units in_column
 parts_again n d scale is =
@@ -55,9 +58,10 @@ parts_again n d scale is =
     let both = reduced_is_one _ _ _ _ _ _ own.above (lowest_is_reduced (x * 10 ^ scale) y own.above) kept in
     let sign = sign_again n d x y (λ some. above_zero x top y (d * 10 ^ scale) own.above some own.equal) in
     ap₂ (λ (num : ℤ) (den : ℕ). record { num = num; den = pos den })
-        (ap (λ (k : ℕ). signed (differ printed (pos y)) (lowest (k * 10 ^ scale) y).0) size ∙ ap (λ (k : ℕ). signed (differ printed (pos y)) k) both.0 ∙ sign)
-        (ap (λ (k : ℕ). (lowest (k * 10 ^ scale) y).1) size ∙ both.1)
+    (ap (λ (k : ℕ). signed (differ printed (pos y)) (lowest (k * 10 ^ scale) y).0) size ∙ ap (λ (k : ℕ). signed (differ printed (pos y)) k) both.0 ∙ sign)
+    (ap (λ (k : ℕ). (lowest (k * 10 ^ scale) y).1) size ∙ both.1)
 
+-- over any denominator
 frac_again : (n d : ℤ) (scale : ℕ) → IsFrac (record { num = n; den = d }) → ◌≡◌ {A = Frac} (in_units scale (in_column scale (record { num = n; den = d }))) (record { num = n; den = d })
 frac_again n (pos d) scale is = parts_again n d scale is
 frac_again n (negsuc d) scale is = let above = is.above in absurd (omega (arith, ints, above))
@@ -68,11 +72,13 @@ units_again scale value formed = frac_again value.num value.den scale formed.red
 
 -- ---- sizes
 
+-- the sizes of a fraction that is printed
 record IsPrinted (f : Frac) : Type 0 where
   num : unsigned_abs f.num ≤ 3 * 10 ^ 31
   above : pos 1 ≤ℤ f.den
   den : unsigned_abs f.den ≤ 3 * 10 ^ 22
 
+-- an average in the unit of its column has them
 column_printed : (scale : ℕ) (value : Frac) → scale ≤ 6 → IsFormedRatio value → IsPrinted (in_column scale value)
 unfolding in_column
 column_printed scale value few formed =
@@ -90,18 +96,17 @@ column_printed scale value few formed =
       den = omega (arith, div-le_self bottom (divisor top bottom), most);
     }
 
+-- what has them passes the test
 printed_is : (f : Frac) → IsPrinted f → is_printed_size f ≡ true
 printed_is f printed =
     let above = printed.above in
     let positive : is_positive f.den ≡ true = grind (arith, ints, above) in
     and_from (is_within (3 * 10 ^ 31) f.num) _ (le-leb (unsigned_abs f.num) (3 * 10 ^ 31) printed.num)
-        (and_from (is_positive f.den) _ positive (le-leb (unsigned_abs f.den) (3 * 10 ^ 22) printed.den))
+    (and_from (is_positive f.den) _ positive (le-leb (unsigned_abs f.den) (3 * 10 ^ 22) printed.den))
 
 -- ---- the text of a fraction
 
-is_slash : ℕ → Bool
-is_slash byte = byte == 47
-
+-- the text of a fraction is read as that fraction
 fraction_pieces : (f : Frac) → IsPrinted f → fraction_of (slice_split (λ byte. byte == 47) (frac_text f)) ≡ Some f
 unfolding frac_text
 fraction_pieces f printed = by_test (int_eq f.den (pos 1)) refl
@@ -123,6 +128,7 @@ fraction_pieces f printed = by_test (int_eq f.den (pos 1)) refl
         let ended : slice_split (λ byte. byte == 47) (scaled_text f.num 0 ++ 47 ∷ scaled_text f.den 0) ≡ scaled_text f.num 0 ∷ scaled_text f.den 0 ∷ [] = ap (λ rest. slice_split (λ byte. byte == 47) (scaled_text f.num 0 ++ 47 ∷ rest)) (sym (append-nil (scaled_text f.den 0))) ∙ pieces in
         rw (e, ended, numbers_again f.num 0 small, numbers_again f.den 0 few) refl
 
+-- and is ink
 fraction_ink : (f : Frac) → IsPrinted f → All IsInk (frac_text f)
 unfolding frac_text
 fraction_ink f printed = by_test (int_eq f.den (pos 1))
@@ -142,6 +148,7 @@ fraction_ink f printed = by_test (int_eq f.den (pos 1))
 
 -- ---- averages
 
+-- The text of an average is ink.
 pub average_ink : (scale : ℕ) (value : Frac) → scale ≤ 6 → IsFormedRatio value → All IsInk (average_text scale value)
 average_ink scale value few formed = fraction_ink (in_column scale value) (column_printed scale value few formed)
 
@@ -156,9 +163,11 @@ averages_again scale value few formed =
 
 -- ---- what is read is in lowest terms
 
+-- lowest terms over a denominator above 0
 abbrev IsInLowestTerms : Frac → Type 0
 IsInLowestTerms f = (pos 0 <ℤ f.den) × IsGcd (unsigned_abs f.num) (unsigned_abs f.den) 1
 
+-- a fraction in units of the last place is in lowest terms
 units_reduced : (scale : ℕ) (f : Frac) → 0 < unsigned_abs f.den → IsInLowestTerms (in_units scale f)
 unfolding in_units
 units_reduced scale f some =
@@ -167,6 +176,7 @@ units_reduced scale f some =
     let sizes = lowest (unsigned_abs f.num * 10 ^ scale) (unsigned_abs f.den) in
     (omega (arith, ints, above), subst (λ (n : ℕ). IsGcd n sizes.1 1) (sym (signed_size (differ f.num f.den) sizes.0)) own.reduced)
 
+-- so is what is read as an average
 read_reduced : (scale : ℕ) (found : Option Frac) (value : Frac) → in_units_if scale found ≡ Some value → IsInLowestTerms value
 read_reduced scale None value e = absurd cc
 read_reduced scale (Some f) value e = by_test (is_printed_size f) refl e
@@ -187,7 +197,7 @@ ratio_tested value formed =
     let few = formed.few in
     let positive : is_positive value.den ≡ true = grind (arith, ints, above) in
     and_from (is_positive value.den) _ positive
-        (and_from (is_within (3 * 10 ^ 31) value.num) _ (le-leb (unsigned_abs value.num) (3 * 10 ^ 31) formed.small) (le-leb (unsigned_abs value.den) (3 * 10 ^ 16) (omega (arith, ints, few, above))))
+    (and_from (is_within (3 * 10 ^ 31) value.num) _ (le-leb (unsigned_abs value.num) (3 * 10 ^ 31) formed.small) (le-leb (unsigned_abs value.den) (3 * 10 ^ 16) (omega (arith, ints, few, above))))
 
 -- A likely average of those sizes is a ratio.
 pub read_ratio : (scale : ℕ) (text : List ℕ) (value : Frac) → likely_average scale text ≡ Some value → is_ratio value ≡ true → IsFormedRatio value

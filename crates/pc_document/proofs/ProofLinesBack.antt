@@ -12,19 +12,19 @@ use Rattle.pc_model.specs.WellFormed.{IsWellFormed}
 use Rattle.pc_format.specs.Formats.{IsLine, IsSpelled}
 use Rattle.pc_format.specs.Lines.{feeds_in}
 use Rattle.pc_format.proofs.Spelled.{spelled_line}
-use Rattle.pc_proof.specs.Form.{IsFormedRatio}
 use Rattle.pc_report.specs.Report.{scale_for}
 use Rattle.pc_report.specs.Units.{average_text}
 use Rattle.pc_report.proofs.EndsBack.{few_for}
 use Rattle.pc_document.specs.Likely.{IsLikely}
 use Rattle.pc_document.specs.TokenLines.{begins_run}
 use Rattle.pc_document.specs.ValueLines.{IsProofLine, ProofLine, at, at_if, is_proof_line, is_ratio, likely_average, likely_proof, proof_text, read_proof_line, rows, tree, values}
-use Rattle.pc_document.proofs.NumbersInLines.{IsInk, tested_ink, words_plain, words_text}
+use Rattle.pc_document.proofs.NumbersInLines.{IsInk, tested_ink, words_plain}
 use Rattle.pc_document.proofs.NumbersInUnits.{average_ink, averages_again, ratio_tested, read_ratio}
 
 -- ---- written and read
 
 module _ (schema : Schema) (query : Query) (well : IsWellFormed schema) where
+  -- the text of a proof's line is read as that line
   proof_back : (line : ProofLine) → IsProofLine line → likely_proof schema query (proof_text schema query line) ≡ Some line
   unfolding likely_proof proof_text
   proof_back rows formed = refl
@@ -32,6 +32,7 @@ module _ (schema : Schema) (query : Query) (well : IsWellFormed schema) where
   proof_back (at ratio) formed = ap at_if (averages_again (scale_for schema query.column) ratio (few_for schema query.column well) formed)
   proof_back values formed = refl
 
+  -- it has no line feed
   proof_plain : (line : ProofLine) → IsProofLine line → feeds_in (proof_text schema query line) ≡ 0
   unfolding proof_text feeds_in
   proof_plain rows formed = refl
@@ -43,6 +44,7 @@ module _ (schema : Schema) (query : Query) (well : IsWellFormed schema) where
       ap (λ rest. feeds_in (codes "by at " ++ rest)) (sym (append-nil text)) ∙ words_plain (codes "by") (codes "at" ∷ text ∷ []) (tested_ink (codes "by") refl) others
   proof_plain values formed = refl
 
+-- a line in form passes the test
 proof_tested : (line : ProofLine) → IsProofLine line → is_proof_line line ≡ true
 proof_tested rows formed = refl
 proof_tested tree formed = refl
@@ -56,10 +58,12 @@ passed_over : (ratio : Frac) (test : Bool) (word : ProofLine) (other : Option Pr
 passed_over ratio true word other unlike same = absurd (unlike same)
 passed_over ratio false word other unlike same = same
 
+-- a ratio that was found is that of the line
 found_ratio : (found : Option Frac) (ratio : Frac) → at_if found ≡ Some (at ratio) → found ≡ Some ratio
 found_ratio None ratio same = absurd cc
 found_ratio (Some own) ratio same = let e : own ≡ ratio = cc in ap Some e
 
+-- it is the likely average after `by at `
 read_at : (schema : Schema) (query : Query) (line : List ℕ) (ratio : Frac) → likely_proof schema query line ≡ Some (at ratio) → likely_average (scale_for schema query.column) (drop 6 line) ≡ Some ratio
 unfolding likely_proof
 read_at schema query line ratio same =
@@ -67,6 +71,7 @@ read_at schema query line ratio same =
     let further = passed_over ratio (bytes_eq line (codes "by tree")) tree _ (λ e. cc) others in
     found_ratio (likely_average (scale_for schema query.column) (drop 6 line)) ratio (passed_over ratio (bytes_eq line (codes "by values")) values _ (λ e. cc) further)
 
+-- A line that is read and passes is in form.
 pub read_proof : (schema : Schema) (query : Query) (text : List ℕ) (line : ProofLine) → likely_proof schema query text ≡ Some line → is_proof_line line ≡ true → IsProofLine line
 read_proof schema query text rows same tested = tt
 read_proof schema query text tree same tested = tt
@@ -80,6 +85,7 @@ no_ratio (Some ratio) refused = refused
 
 -- ---- the line
 
+-- lines of proofs are a kind of line that is written again and compared
 spelled : (schema : Schema) (query : Query) → IsWellFormed schema → IsSpelled IsProofLine (proof_text schema query) is_proof_line (likely_proof schema query)
 spelled schema query well = record {
   some = rows;

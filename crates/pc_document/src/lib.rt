@@ -3,6 +3,8 @@
 
 mod ends;
 mod laws;
+#[cfg(test)]
+mod line_tests;
 mod nodes;
 mod number_laws;
 mod numbers;

@@ -63,11 +63,7 @@ fn likely_whole(text: &[u8]) -> Option<Frac>
 
 /// The only average whose text this can be, or none where that may not stand.
 #[tactic(auto, using(crate::proofs::ValuesRead::none_in_units), unfolding(crate::specs::ValueLines::likely_average))]
-pub(crate) fn likely_average(
-    alloc: Global,
-    scale: u8,
-    text: &[u8],
-) -> Result<Option<Frac>, Memory>
+pub(crate) fn likely_average(alloc: Global, scale: u8, text: &[u8]) -> Result<Option<Frac>, Memory>
     requires { scale ≤ 6 }
     ensures { IfOk result (λ found. IsLikely is_ratio (likely_average scale text.now) found) }
 {
