@@ -1,5 +1,6 @@
 pub mod DocumentLines
 pub mod Kinds
+pub mod Likely
 pub mod NodeLines
 pub mod Numbers
 pub mod Parts

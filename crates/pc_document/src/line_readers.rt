@@ -1,13 +1,10 @@
 ghost use Rattle.std.specs.Prelude.{◌≡◌, IfOk, IfSome};
 ghost use Rattle.pc_model.specs.WellFormed.{IsWellFormed};
 ghost use Rattle.pc_model.specs.Accepted.{IsQuery};
-ghost use Rattle.pc_document.specs.NodeLines.{read_node};
-ghost use Rattle.pc_document.specs.ValueLines.{read_proof_line, read_outer_line, read_end_line};
 ghost use Rattle.pc_document.specs.TokenLines.{read_run, begins_run, read_group, read_query_line};
 
-use crate::tags::{EndLine, ProofLine, Side};
-use pc_model::{Query, Run, Schema, TreeNode};
-use pc_num::{Frac, Memory};
+use pc_model::{Query, Run, Schema};
+use pc_num::Memory;
 use std::alloc::Global;
 
 pub(crate) fn read_run(alloc: Global, schema: &Schema, line: &[u8]) -> Result<Option<Run>, Memory>
@@ -22,47 +19,6 @@ pub(crate) fn begins_run(line: &[u8]) -> bool
     ensures { result ≡ begins_run line.now }
 {
     line.starts_with(b"run ")
-}
-
-pub(crate) fn read_proof_line(
-    alloc: Global,
-    schema: &Schema,
-    query: &Query,
-    line: &[u8],
-) -> Result<Option<ProofLine>, Memory>
-    requires well_formed { IsWellFormed schema.now }
-    requires query { IsQuery schema.now query.now }
-    ensures { IfOk result (λ found. found ≡ read_proof_line schema.now query.now line.now) }
-{
-    Err(Memory)
-}
-
-pub(crate) fn read_outer_line(
-    alloc: Global,
-    schema: &Schema,
-    query: &Query,
-    side: Side,
-    line: &[u8],
-) -> Result<Option<Frac>, Memory>
-    requires well_formed { IsWellFormed schema.now }
-    requires query { IsQuery schema.now query.now }
-    ensures { IfOk result (λ found. found ≡ read_outer_line schema.now query.now side line.now) }
-{
-    Err(Memory)
-}
-
-pub(crate) fn read_end_line(
-    alloc: Global,
-    schema: &Schema,
-    query: &Query,
-    side: Side,
-    line: &[u8],
-) -> Result<Option<EndLine>, Memory>
-    requires well_formed { IsWellFormed schema.now }
-    requires query { IsQuery schema.now query.now }
-    ensures { IfOk result (λ found. found ≡ read_end_line schema.now query.now side line.now) }
-{
-    Err(Memory)
 }
 
 pub(crate) fn read_group(
@@ -85,12 +41,6 @@ pub(crate) fn read_query_line(
     requires well_formed { IsWellFormed schema.now }
     ensures found { IfOk result (λ found. found ≡ read_query_line schema.now line.now) }
     ensures accepted { IfOk result (λ found. IfSome found (IsQuery schema.now)) }
-{
-    Err(Memory)
-}
-
-pub(crate) fn read_node(alloc: Global, line: &[u8]) -> Result<Option<TreeNode>, Memory>
-    ensures { IfOk result (λ node. node ≡ read_node line.now) }
 {
     Err(Memory)
 }

@@ -8,7 +8,9 @@ ghost use Rattle.pc_proof.specs.Form.{IsFormedBounded, IsFormedProof, IsFormedRa
 ghost use Rattle.pc_document.specs.DocumentLines.{bounded_lines, crossing_lines, proof_lines, tree_lines};
 ghost use Rattle.pc_document.specs.ValueLines.{IsProofLine, end_text, proof_text};
 
-use crate::line_writers::{put_end_line, put_node, put_proof_line};
+use crate::end_lines::put_end_line;
+use crate::nodes::put_node;
+use crate::proof_line::put_proof_line;
 use crate::tags::{EndLine, ProofLine, Side};
 use pc_model::{Query, Schema, Tree, TreeNode};
 use pc_num::{Frac, Memory};

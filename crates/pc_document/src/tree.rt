@@ -5,7 +5,7 @@ ghost use Rattle.pc_document.specs.Places.{IsLineStart, Reads, lines_at};
 ghost use Rattle.pc_document.specs.Reading.{read_tree};
 
 use crate::halt::Halt;
-use crate::line_readers::read_node;
+use crate::nodes::read_node;
 use crate::places::first_line_at;
 use pc_list::Seq;
 use pc_model::{Tree, TreeNode};
