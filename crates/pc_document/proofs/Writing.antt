@@ -40,7 +40,15 @@ three_parts out a b c = then_lines (out ++ lines_text a) b c ∙ then_lines out 
 pub line_and_two : (out line : List ℕ) (b c : Lines) → ((out ++ lines_text (line ∷ [])) ++ lines_text b) ++ lines_text c ≡ out ++ lines_text (line ∷ (b ++ c))
 line_and_two out line b c = three_parts out (line ∷ []) b c
 
-pub ruleset joins = (then_lines, first_line_then, lines_then_rest, three_parts, line_and_two)
+-- four parts, and the first of them one line
+pub four_parts : (out line : List ℕ) (b c d : Lines) → (((out ++ lines_text (line ∷ [])) ++ lines_text b) ++ lines_text c) ++ lines_text d ≡ out ++ lines_text (line ∷ (b ++ (c ++ d)))
+four_parts out line b c d = three_parts (out ++ lines_text (line ∷ [])) b c d ∙ then_lines out (line ∷ []) (b ++ (c ++ d))
+
+-- a text that begins as none
+pub new_text : (empty : List ℕ) (first last : List ℕ) (b : Lines) → empty ≡ [] → ((empty ++ lines_text (first ∷ [])) ++ lines_text b) ++ lines_text (last ∷ []) ≡ lines_text (first ∷ (b ++ (last ∷ [])))
+new_text empty first last b none = line_and_two empty first b (last ∷ []) ∙ ap (λ (out : List ℕ). out ++ lines_text (first ∷ (b ++ (last ∷ [])))) none
+
+pub ruleset joins = (then_lines, first_line_then, lines_then_rest, three_parts, line_and_two, four_parts)
 
 -- ---- as many as there are
 

@@ -23,6 +23,7 @@ mod places;
 mod proof;
 mod proof_line;
 mod put_answer;
+mod put_document;
 mod put_proof;
 mod relation;
 mod runs;

@@ -169,7 +169,7 @@ fn put_open(out: &mut Vec<u8>) -> Result<(), Memory>
 
 /// Appends no line.
 #[tactic(auto, using(crate::proofs::Writing::no_more))]
-fn put_nothing(out: &mut Vec<u8>) -> Result<(), Memory>
+pub(crate) fn put_nothing(out: &mut Vec<u8>) -> Result<(), Memory>
     ensures { OnOk result (out.new.items ≡ out.old.items ++ lines_text []) }
 {
     Ok(())
