@@ -8,6 +8,7 @@ mod ends;
 mod halt;
 mod lack;
 mod line_readers;
+mod number_laws;
 mod places;
 mod proof;
 mod relation;

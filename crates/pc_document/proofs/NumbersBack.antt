@@ -1,0 +1,129 @@
+-- The text of a number is read as that number at every scale, and of what bytes it is.
+use Rattle.std.proofs.Common.{◌≡◌, ◌≤◌, ◌<◌, inl, inr, ℕ, zero, suc, ◌+◌, ◌-◌, ◌*◌, ◌/◌, ◌%◌, ◌^◌, ◌==◌, List, [], ◌∷◌, ◌++◌, arith, refl, ap, sym, ◌∙◌, Bool, true, false, append_assoc}
+use Rattle.std.specs.Prelude.{ℤ, pos, negsuc, unsigned_abs, decimal, if◌then◌else◌}
+use Rattle.std.specs.Char.{is_ascii_digit}
+use Rattle.std.specs.List.{All}
+use Rattle.std.proofs.lemmas.Bool.{cases_Bool, ne_eqb}
+use Rattle.std.proofs.lemmas.Fmt.{decimal_by_steps_wide}
+use Rattle.std.proofs.lemmas.List.Elements.{All-append, All-cons, All-nil}
+use Rattle.std.proofs.lemmas.Nat.{div-add-mod'}
+use Rattle.std.proofs.Math.Arith.{mod-mul}
+use Rattle.std.proofs.Math.Nat.{div-le_self}
+use Rattle.pc_num.specs.Put.{decimals_of, fraction_text, scaled_text, size_text}
+use Rattle.pc_num.specs.Scaled.{signed, starts_with_minus}
+use Rattle.pc_num.proofs.Decimals.{power_positive}
+use Rattle.pc_num.proofs.ReadBack.{digit_is}
+use Rattle.pc_document.specs.Numbers.{digits_value, likely_number}
+
+-- digits after others
+digits_value-append : (a b : List ℕ) (n : ℕ) → digits_value n (a ++ b) ≡ digits_value (digits_value n a) b
+unfolding digits_value
+digits_value-append [] b n = refl
+digits_value-append (byte ∷ a) b n =
+    elim (cases_Bool (is_ascii_digit byte)) [
+      | inl is ↦ rw is (digits_value-append a b (10 * n + (byte - 48)))
+      | inr other ↦ rw other (digits_value-append a b n)
+    ]
+
+digit_after : (n digit : ℕ) (rest : List ℕ) → digit < 10 → digits_value n ((48 + digit) ∷ rest) ≡ digits_value (10 * n + digit) rest
+unfolding digits_value
+digit_after n digit rest small =
+    let e : 48 + digit - 48 ≡ digit = omega arith in
+    rw (digit_is (48 + digit) (omega arith) (omega arith), e) refl
+
+-- ---- the digits of a whole number
+
+-- a byte that is no space, no line feed and no slash
+abbrev pub IsNumberByte : ℕ → Type 0
+IsNumberByte byte = (45 ≤ byte) × (byte ≡ 47 → ⊥)
+
+pub digit_byte : (digit : ℕ) → IsNumberByte (48 + digit)
+digit_byte digit = (omega arith, λ e. omega (arith, e))
+
+record AreDigitsOf (n : ℕ) (text : List ℕ) : Type 0 where
+  value : digits_value 0 text ≡ n
+  bytes : All IsNumberByte text
+  unsigned : (rest : List ℕ) → starts_with_minus (text ++ rest) ≡ false
+
+one_digit : (n : ℕ) → n < 10 → AreDigitsOf n ((48 + n) ∷ [])
+unfolding digits_value
+one_digit n small = record {
+  value = digit_after 0 n [] small ∙ omega arith;
+  bytes = All-cons IsNumberByte (48 + n) [] (digit_byte n) (All-nil IsNumberByte);
+  unsigned = λ rest. ne_eqb (48 + n) 45 (λ e. omega (arith, e));
+}
+
+last_value : (n before : ℕ) → before ≡ n / 10 → digits_value before ((48 + n % 10) ∷ []) ≡ n
+unfolding digits_value
+last_value n before e = digit_after before (n % 10) [] (omega arith) ∙ omega (arith, e)
+
+more_digits : (n : ℕ) (text : List ℕ) → 10 ≤ n → AreDigitsOf (n / 10) text → AreDigitsOf n (text ++ ((48 + n % 10) ∷ []))
+more_digits n text large before =
+    let last = one_digit (n % 10) (omega arith) in record {
+      value = digits_value-append text ((48 + n % 10) ∷ []) 0 ∙ last_value n (digits_value 0 text) before.value;
+      bytes = All-append IsNumberByte text ((48 + n % 10) ∷ []) before.bytes last.bytes;
+      unsigned = λ rest. rw (append_assoc text ((48 + n % 10) ∷ []) rest) (before.unsigned ((48 + n % 10) ∷ rest));
+    }
+
+digits_of_decimal : (n : ℕ) → n < 10 ^ 64 → AreDigitsOf n (decimal n)
+digits_of_decimal n small = decimal_by_steps_wide AreDigitsOf one_digit more_digits n small
+
+-- ---- the decimals
+
+decimals_step : (m power digit rest whole : ℕ) → whole ≡ digit * power + rest → (10 * m + digit) * power + rest ≡ m * (power * 10) + whole
+decimals_step m power digit rest whole h = omega (arith, h)
+
+decimals_value : (k m n : ℕ) → digits_value m (decimals_of k n) ≡ m * 10 ^ k + n % 10 ^ k
+unfolding decimals_of digits_value
+decimals_value zero m n = omega arith
+decimals_value (suc k) m n =
+    let power : 10 ^ suc k ≡ 10 ^ k * 10 = omega arith in
+    let turned : 10 ^ k * 10 ≡ 10 * 10 ^ k = omega arith in
+    let split : n % (10 ^ k * 10) ≡ n / 10 ^ k % 10 * 10 ^ k + n % 10 ^ k = rw turned (mod-mul n (omega arith) (power_positive k)) in
+    digit_after m (n / 10 ^ k % 10) (decimals_of k n) (omega arith)
+    ∙ decimals_value k (10 * m + n / 10 ^ k % 10) n
+    ∙ rw power (decimals_step m (10 ^ k) (n / 10 ^ k % 10) (n % 10 ^ k) (n % (10 ^ k * 10)) split)
+
+decimals_bytes : (k n : ℕ) → All IsNumberByte (decimals_of k n)
+unfolding decimals_of
+decimals_bytes zero n = All-nil IsNumberByte
+decimals_bytes (suc k) n = All-cons IsNumberByte (48 + n / 10 ^ k % 10) (decimals_of k n) (digit_byte (n / 10 ^ k % 10)) (decimals_bytes k n)
+
+fraction_value : (k m n : ℕ) → digits_value m (fraction_text k n) ≡ m * 10 ^ k + n % 10 ^ k
+unfolding digits_value
+fraction_value zero m n = omega arith
+fraction_value (suc k) m n = decimals_value (suc k) m n
+
+fraction_bytes : (k n : ℕ) → All IsNumberByte (fraction_text k n)
+fraction_bytes zero n = All-nil IsNumberByte
+fraction_bytes (suc k) n = All-cons IsNumberByte 46 (decimals_of (suc k) n) (omega arith, λ e. omega (arith, e)) (decimals_bytes (suc k) n)
+
+-- ---- numbers without a sign, and with one
+
+size_digits : (k n : ℕ) → n < 10 ^ 64 → AreDigitsOf (n / 10 ^ k) (decimal (n / 10 ^ k))
+size_digits k n small = digits_of_decimal (n / 10 ^ k) (omega (arith, div-le_self n (10 ^ k)))
+
+size_value : (k n : ℕ) → n < 10 ^ 64 → digits_value 0 (size_text k n) ≡ n
+size_value k n small =
+    digits_value-append (decimal (n / 10 ^ k)) (fraction_text k n) 0
+    ∙ ap (λ (m : ℕ). digits_value m (fraction_text k n)) (size_digits k n small).value
+    ∙ fraction_value k (n / 10 ^ k) n
+    ∙ div-add-mod' n (10 ^ k)
+
+size_bytes : (k n : ℕ) → n < 10 ^ 64 → All IsNumberByte (size_text k n)
+size_bytes k n small = All-append IsNumberByte (decimal (n / 10 ^ k)) (fraction_text k n) (size_digits k n small).bytes (fraction_bytes k n)
+
+-- The text of a number at any scale is read as that number.
+pub numbers_again : (value : ℤ) (scale : ℕ) → unsigned_abs value < 10 ^ 64 → likely_number (scaled_text value scale) ≡ value
+unfolding likely_number scaled_text digits_value
+numbers_again (pos n) scale small = rw ((size_digits scale n small).unsigned (fraction_text scale n), size_value scale n small) refl
+numbers_again (negsuc n) scale small = minus (digits_value 0 (size_text scale (suc n))) (size_value scale (suc n) small)
+  where
+    minus : (m : ℕ) → m ≡ suc n → signed true m ≡ negsuc n
+    minus m e = rw e refl
+
+-- The text of a number has no space, no line feed and no slash.
+pub number_bytes : (value : ℤ) (scale : ℕ) → unsigned_abs value < 10 ^ 64 → All IsNumberByte (scaled_text value scale)
+unfolding scaled_text
+number_bytes (pos n) scale small = size_bytes scale n small
+number_bytes (negsuc n) scale small = All-cons IsNumberByte 45 (size_text scale (suc n)) (omega arith, λ e. omega (arith, e)) (size_bytes scale (suc n) small)
