@@ -1,5 +1,10 @@
+pub mod CutsBack
+pub mod GroupsBack
 pub mod LineStarts
 pub mod NodesBack
 pub mod NumbersBack
 pub mod NumbersInLines
+pub mod QueriesBack
 pub mod RunSteps
+pub mod RunsBack
+pub mod TokensOf

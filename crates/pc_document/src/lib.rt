@@ -8,6 +8,7 @@ mod ends;
 mod halt;
 mod lack;
 mod line_readers;
+mod name_laws;
 mod number_laws;
 mod places;
 mod proof;
