@@ -1,10 +1,9 @@
 -- The line of a node of a tree of cuts is read as that node.
-use Rattle.std.proofs.Common.{◌≡◌, ◌≢◌, ◌≤◌, ◌<◌, ◌/◌, ◌^◌, ◌&&◌, ℕ, ◌+◌, Bool, true, false, List, [], ◌∷◌, ◌++◌, length, All, AllPairs, Option, Some, None, arith, refl, sym, ap, ◌∙◌, inl, inr, if◌then◌else◌}
-use Rattle.std.specs.Prelude.{ℤ, pos, codes, drop, nat_abs, nat_le, nat_lt, IsSomeAnd, slice_get}
+use Rattle.std.proofs.Common.{◌≡◌, ◌≢◌, ◌<◌, ◌/◌, ◌^◌, ℕ, ◌+◌, Bool, true, false, List, [], ◌∷◌, length, All, AllPairs, Option, Some, None, arith, refl, sym, ap, ◌∙◌, inl, inr, if◌then◌else◌}
+use Rattle.std.specs.Prelude.{pos, codes, drop, nat_abs, nat_lt, IsSomeAnd, slice_get}
 use Rattle.std.specs.List.{list_all}
 use Rattle.std.proofs.lemmas.Bool.{and_from, and_parts, cases_Bool, false≢true, le-leb, leb-true, lt-ltb, ltb-true}
 use Rattle.std.proofs.lemmas.List.Elements.{All-head, All-tail}
-use Rattle.pc_num.specs.Put.{scaled_text}
 use Rattle.pc_model.specs.declared.schema.Kind.{Kind}
 use Rattle.pc_model.specs.declared.schema.Kind.TheVariants.{Int, Dec, Cat}
 use Rattle.pc_model.specs.declared.schema.Column.{Column}
@@ -20,12 +19,9 @@ use Rattle.pc_model.specs.Places.{is_place_of}
 use Rattle.pc_model.specs.Texts.{IsName, is_name}
 use Rattle.pc_model.specs.WellFormed.{IsKind, IsWellFormed}
 use Rattle.pc_model.proofs.Names.{is_name_of}
-use Rattle.pc_token.specs.declared.token.Symbol.TheVariants as symbols
 use Rattle.pc_token.specs.declared.token.Token.{Token}
 use Rattle.pc_token.specs.declared.token.Token.TheVariants as tokens
-use Rattle.pc_token.specs.Lexing.{tokens_of}
 use Rattle.pc_token.specs.Spelling.{is_bare, is_reserved, is_word, reserved}
-use Rattle.pc_token.specs.Texts.{is_spelled, tokens_text}
 use Rattle.pc_token.proofs.ScaledTexts.{numbers_are_spelled}
 use Rattle.pc_lang.specs.Canonical.{name_at, names_from}
 use Rattle.pc_lang.specs.Claims.{bits_of}
@@ -34,8 +30,7 @@ use Rattle.pc_format.specs.Formats.{IsLine, IsSpelled}
 use Rattle.pc_format.specs.Lines.{feeds_in}
 use Rattle.pc_format.proofs.Spelled.{spelled_line}
 use Rattle.pc_proof.specs.Form.{IsFormedCut, IsFormedCutNode, IsFormedCutOf, IsFormedMarkOf, greatest_number_size}
-use Rattle.pc_document.specs.Numbers.{count_text}
-use Rattle.pc_document.specs.TokenLines.{IsBareCut, Tokens, bare_cut, column_in, cut_by, cut_node_of_tokens, cut_node_text, cut_node_tokens, divided_tokens, is_cut_node, is_cut_of, is_mark, kind_at, kind_of, likely_cut_node, mark_tokens, more_names, names_in, names_of, read_cut_node, scale_at, set_tokens, side_token, token_at}
+use Rattle.pc_document.specs.TokenLines.{IsBareCut, Tokens, bare_cut, column_in, cut_by, cut_node_of_tokens, cut_node_text, cut_node_tokens, divided_tokens, is_cut_node, is_cut_of, kind_at, kind_of, likely_cut_node, mark_tokens, more_names, names_in, names_of, read_cut_node, scale_at, set_tokens, side_token, token_at}
 use Rattle.pc_document.proofs.NumbersBack.{numbers_again}
 use Rattle.pc_document.proofs.TokensOf.{AreSpelled, IsColumnAt, bare_name, column_at, count_again, spelled_more, tokens_again, tokens_plain}
 

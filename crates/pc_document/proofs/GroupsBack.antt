@@ -1,6 +1,6 @@
 -- The line of the name of a group is read as that name's place.
-use Rattle.std.proofs.Common.{◌≡◌, ◌≢◌, ◌≤◌, ◌<◌, ℕ, zero, suc, ◌+◌, Bool, true, false, List, [], ◌∷◌, ◌++◌, length, get_or, All, AllPairs, Option, Some, None, arith, refl, sym, ap, ◌∙◌, inl, inr, if◌then◌else◌}
-use Rattle.std.specs.Prelude.{pos, bytes_eq, codes, IsSomeAnd, slice_get}
+use Rattle.std.proofs.Common.{◌≡◌, ◌≤◌, ◌<◌, ℕ, zero, suc, ◌+◌, Bool, true, false, List, [], ◌∷◌, ◌++◌, length, get_or, Option, Some, None, arith, refl, sym, ap, ◌∙◌, inl, inr, if◌then◌else◌}
+use Rattle.std.specs.Prelude.{bytes_eq, codes, IsSomeAnd, slice_get}
 use Rattle.std.proofs.lemmas.Bool.{cases_Bool, cases_order, false≢true}
 use Rattle.std.proofs.lemmas.Slice.Eq.{bytes_eq-Decides}
 use Rattle.pc_model.specs.declared.schema.Kind.{Kind}
@@ -14,7 +14,6 @@ use Rattle.pc_model.proofs.Lists.{bytes_eq-same}
 use Rattle.pc_model.proofs.Names.{is_name_of}
 use Rattle.pc_token.specs.declared.token.Symbol.TheVariants as symbols
 use Rattle.pc_token.specs.declared.token.Word.TheVariants as words
-use Rattle.pc_token.specs.declared.token.Token.{Token}
 use Rattle.pc_token.specs.declared.token.Token.TheVariants as tokens
 use Rattle.pc_token.specs.Lexing.{tokens_of}
 use Rattle.pc_token.specs.Spelling.{name_text}
@@ -22,10 +21,9 @@ use Rattle.pc_token.specs.Texts.{token_text, tokens_text}
 use Rattle.pc_token.proofs.TokensBack.{after_cons, after_nil}
 use Rattle.pc_format.specs.Formats.{IsLine}
 use Rattle.pc_format.specs.Lines.{feeds_in}
-use Rattle.pc_proof.specs.Form.{IsGroupName, IsNameOf}
-use Rattle.pc_report.specs.Report.{kind_name}
+use Rattle.pc_proof.specs.Form.{IsGroupName}
 use Rattle.pc_report.proofs.NamesBack.{same_place}
-use Rattle.pc_document.specs.TokenLines.{Tokens, group_found, group_text, group_text_of, names_count, read_group, tokens_if}
+use Rattle.pc_document.specs.TokenLines.{Tokens, group_found, group_text, names_count, read_group, tokens_if}
 use Rattle.pc_document.proofs.TokensOf.{AreSpelled, column_of_all, spelled_more, text_opens, tokens_again, tokens_plain}
 
 -- ---- the line is the text of its tokens
@@ -141,15 +139,18 @@ module _ (schema : Schema) (group : ℕ) where
           let known = others f in
           (omega (arith, known.0), known.1)
 
-  line_of : (count : ℕ) → AreGroups schema group count → IsLine (λ place. IsGroupName schema (Some group) (Some place)) (group_text schema group) (read_group schema group)
+  read_is : (count : ℕ) (line : List ℕ) → names_count (slice_get schema.columns group) ≡ count → read_group schema group line ≡ group_found schema group 0 count line
   unfolding read_group
-  line_of count are = rw are.counted (record {
+  read_is count line counted = ap (λ n. group_found schema group 0 n line) counted
+
+  line_of : (count : ℕ) → AreGroups schema group count → IsLine (λ place. IsGroupName schema (Some group) (Some place)) (group_text schema group) (read_group schema group)
+  line_of count are = record {
     some = 0;
     some_good = are.from 0 are.some;
-    complete = λ place good. found_again count 0 count place are.apart (omega arith) (omega arith) (let inside = are.into place good in omega (arith, inside));
-    sound = λ line place e. let known = found_at 0 count line place e in (are.from place (let inside = known.0 in omega (arith, inside)), known.1);
+    complete = λ place good. read_is count (group_text schema group place) are.counted ∙ found_again count 0 count place are.apart (omega arith) (omega arith) (let inside = are.into place good in omega (arith, inside));
+    sound = λ line place e. let known = found_at 0 count line place (sym (read_is count line are.counted) ∙ e) in (are.from place (let inside = known.0 in omega (arith, inside)), known.1);
     plain = λ place good. are.plain place (are.into place good);
-  })
+  }
 
 -- The line of the name of a group is read as that name's place, and nothing else is.
 pub group_line : (schema : Schema) (group : ℕ) → IsWellFormed schema → IsColumnWhere HasNames schema group → IsLine (λ place. IsGroupName schema (Some group) (Some place)) (group_text schema group) (read_group schema group)

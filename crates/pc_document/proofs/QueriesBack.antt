@@ -1,5 +1,5 @@
 -- The line of a query is read as that query.
-use Rattle.std.proofs.Common.{◌≡◌, ◌≤◌, ◌<◌, ℕ, Bool, true, List, [], ◌∷◌, ◌++◌, Option, Some, None, Result, Ok, Err, arith, refl, sym, ap, subst, ◌∙◌}
+use Rattle.std.proofs.Common.{◌≡◌, ℕ, true, List, ◌++◌, Some, None, Result, Ok, Err, refl, ap}
 use Rattle.std.specs.Prelude.{codes, drop, nat_le}
 use Rattle.std.specs.List.{list_all}
 use Rattle.pc_model.specs.declared.fault.Reason.{Reason}
@@ -7,7 +7,6 @@ use Rattle.pc_model.specs.declared.schema.Schema.{Schema}
 use Rattle.pc_model.specs.declared.query.Agg.TheVariants as aggs
 use Rattle.pc_model.specs.declared.query.Query.{Query}
 use Rattle.pc_model.specs.Accepted.{IsQuery}
-use Rattle.pc_model.specs.Refusals.{◌>>=◌}
 use Rattle.pc_model.specs.Regions.{whole_region}
 use Rattle.pc_model.specs.WellFormed.{IsWellFormed}
 use Rattle.pc_model.proofs.WholeDomain.{whole_is_region}

@@ -1,6 +1,6 @@
 -- The line of a run is read as that run.
-use Rattle.std.proofs.Common.{◌≡◌, ◌≤◌, ◌<◌, ◌/◌, ◌^◌, ◌&&◌, ℕ, zero, suc, ◌+◌, Bool, true, false, List, [], ◌∷◌, ◌++◌, length, All, Option, Some, arith, refl, sym, ap, ap₂, ◌∙◌, append_assoc}
-use Rattle.std.specs.Prelude.{ℤ, pos, negsuc, codes, decimal, unsigned_abs, nat_abs, nat_le, nat_lt}
+use Rattle.std.proofs.Common.{◌≡◌, ◌≤◌, ◌/◌, ◌^◌, ℕ, suc, ◌+◌, true, false, List, [], ◌∷◌, ◌++◌, length, All, Some, arith, refl, sym, ap, ap₂, ◌∙◌, append_assoc}
+use Rattle.std.specs.Prelude.{ℤ, pos, negsuc, codes, decimal, nat_abs, nat_le}
 use Rattle.std.specs.List.{AllZip, list_all}
 use Rattle.std.proofs.lemmas.Bool.{and_from, and_parts, false≢true, le-leb, leb-true, lt-ltb, ltb-true}
 use Rattle.std.proofs.lemmas.List.{append-nil}
@@ -12,13 +12,12 @@ use Rattle.pc_model.specs.declared.schema.Column.{Column}
 use Rattle.pc_model.specs.declared.schema.Schema.{Schema}
 use Rattle.pc_model.specs.declared.row.Run.{Run}
 use Rattle.pc_model.specs.Places.{is_below}
-use Rattle.pc_model.specs.Texts.{IsName, is_name}
+use Rattle.pc_model.specs.Texts.{is_name}
 use Rattle.pc_model.specs.WellFormed.{AreValues, IsColumn, IsKind, IsWellFormed}
 use Rattle.pc_model.proofs.Names.{is_name_of}
 use Rattle.pc_token.specs.declared.token.Symbol.TheVariants as symbols
 use Rattle.pc_token.specs.declared.token.Token.{Token}
 use Rattle.pc_token.specs.declared.token.Token.TheVariants as tokens
-use Rattle.pc_token.specs.Lexing.{tokens_of}
 use Rattle.pc_token.specs.Spelling.{is_bare, is_reserved, is_word, reserved}
 use Rattle.pc_token.specs.Texts.{is_close, is_open, is_spelled, texts_after, token_text, tokens_text}
 use Rattle.pc_token.proofs.ScaledTexts.{numbers_are_spelled}
@@ -28,8 +27,8 @@ use Rattle.pc_format.specs.Lines.{feeds_in}
 use Rattle.pc_format.proofs.Spelled.{spelled_line}
 use Rattle.pc_proof.specs.Form.{IsFormedCell, IsFormedCellOf, IsFormedRun, greatest_number_size}
 use Rattle.pc_report.specs.RunLines as report
-use Rattle.pc_document.specs.Numbers.{count_text, is_within}
-use Rattle.pc_document.specs.TokenLines.{Tokens, are_cells, begins_run, field_number, fields_at, is_cell, is_run, likely_run, number_of, read_run, run_of_tokens, run_text}
+use Rattle.pc_document.specs.Numbers.{count_text}
+use Rattle.pc_document.specs.TokenLines.{Tokens, are_cells, begins_run, field_number, fields_at, is_cell, is_run, likely_run, read_run, run_of_tokens, run_text}
 use Rattle.pc_document.proofs.NumbersBack.{numbers_again}
 use Rattle.pc_document.proofs.TokensOf.{AreSpelled, bare_name, bare_text, count_again, place_again, spelled_more, text_opens, tokens_again, tokens_plain}
 

@@ -1,10 +1,9 @@
 -- Lines of tokens: what is read of one is its tokens, and it has no line feed.
-use Rattle.std.proofs.Common.{◌≡◌, ◌≢◌, ◌≤◌, ◌<◌, ◌^◌, ℕ, zero, suc, ◌+◌, ◌==◌, Bool, true, List, [], ◌∷◌, ◌++◌, length, get_or, All, AllPairs, Option, Some, None, arith, refl, sym, ap, ◌∙◌, subst, slice_get}
-use Rattle.std.specs.Prelude.{ℤ, pos, unsigned_abs, bytes_eq, nat_le}
+use Rattle.std.proofs.Common.{◌≡◌, ◌≢◌, ◌≤◌, ◌<◌, ◌^◌, ℕ, zero, suc, true, List, [], ◌∷◌, ◌++◌, length, get_or, All, AllPairs, Some, None, arith, refl, ap, ◌∙◌, subst, slice_get}
+use Rattle.std.specs.Prelude.{pos, unsigned_abs, nat_le}
 use Rattle.std.specs.List.{list_all}
 use Rattle.std.proofs.lemmas.Bool.{and_from, and_parts, leb-true, ne_eqb}
 use Rattle.std.proofs.lemmas.List.Elements.{All-head, All-tail}
-use Rattle.pc_num.specs.Put.{scaled_text}
 use Rattle.pc_model.specs.declared.schema.Column.{Column}
 use Rattle.pc_model.specs.declared.schema.Schema.{Schema}
 use Rattle.pc_model.specs.Texts.{is_name}
@@ -14,7 +13,7 @@ use Rattle.pc_model.proofs.Names.{is_name_of}
 use Rattle.pc_token.specs.declared.token.Token.{Token}
 use Rattle.pc_token.specs.declared.token.Token.TheVariants as tokens
 use Rattle.pc_token.specs.Lexing.{tokens_of}
-use Rattle.pc_token.specs.Spelling.{is_bare, name_text}
+use Rattle.pc_token.specs.Spelling.{is_bare}
 use Rattle.pc_token.specs.Texts.{are_spelled, is_spelled, texts_after, token_text, tokens_text}
 use Rattle.pc_token.proofs.Fronts.{bare_is_name, text_bare}
 use Rattle.pc_token.proofs.TextBytes.{tokens_text_printed}
@@ -22,7 +21,7 @@ use Rattle.pc_token.proofs.TokensBack.{tokens_read_back}
 use Rattle.pc_lang.specs.Canonical.{name_at}
 use Rattle.pc_lang.proofs.QueriesAgain.{name_at-suc, name_at-zero}
 use Rattle.pc_format.specs.Lines.{feeds_in}
-use Rattle.pc_document.specs.Numbers.{count_text, likely_count, likely_number}
+use Rattle.pc_document.specs.Numbers.{count_text, likely_count}
 use Rattle.pc_document.specs.TokenLines.{Tokens, column_in, place_in, tokens_if}
 use Rattle.pc_document.proofs.NumbersBack.{numbers_again}
 
