@@ -1,10 +1,12 @@
 pub mod CutsBack
 pub mod GroupsBack
+pub mod Keeping
 pub mod LineStarts
 pub mod NodesBack
 pub mod NumbersBack
 pub mod NumbersInLines
 pub mod QueriesBack
+pub mod RunReading
 pub mod RunSteps
 pub mod RunsBack
 pub mod TokensOf

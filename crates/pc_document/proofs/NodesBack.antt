@@ -64,7 +64,7 @@ words_ink : (node : TreeNode) → IsFormedNode node → All (All IsInk) (other_w
 unfolding other_words
 words_ink (nodes.Split cell at less more) formed =
     All-cons (All IsInk) (count_text cell) (count_text at ∷ []) (whole_ink (pos cell) (omega (arith, formed.0)))
-        (All-cons (All IsInk) (count_text at) [] (whole_ink (pos at) (omega (arith, formed.1))) (All-nil (All IsInk)))
+    (All-cons (All IsInk) (count_text at) [] (whole_ink (pos at) (omega (arith, formed.1))) (All-nil (All IsInk)))
 words_ink (nodes.Bound m) formed =
     let den : unsigned_abs m.den < 2 ^ 127 = formed.1 in
     All-cons (All IsInk) (whole_text m.den) (map whole_text m.by) (whole_ink m.den (omega (arith, den))) (numbers_ink m.by formed.2)
@@ -131,8 +131,8 @@ unfolding node_of_pieces
 pieces_placeless [] = no_node
 pieces_placeless (first ∷ rest) =
     one_of_both (bytes_eq first (codes "split")) (split_of rest) _ (split_placeless rest)
-        (one_of_both (bytes_eq first (codes "bound")) (bound_of rest) _ (bound_placeless rest)
-            (one_of_both (bytes_eq first (codes "void")) (void_of rest) None (some_node _ refl) no_node))
+    (one_of_both (bytes_eq first (codes "bound")) (bound_of rest) _ (bound_placeless rest)
+    (one_of_both (bytes_eq first (codes "void")) (void_of rest) None (some_node _ refl) no_node))
 
 -- ---- sizes
 

@@ -1,10 +1,11 @@
 -- The text of a number is read as that number at every scale, and of what bytes it is.
-use Rattle.std.proofs.Common.{◌≡◌, ◌≤◌, ◌<◌, inl, inr, ℕ, zero, suc, ◌+◌, ◌-◌, ◌*◌, ◌/◌, ◌%◌, ◌^◌, ◌==◌, List, [], ◌∷◌, ◌++◌, arith, refl, ap, sym, ◌∙◌, Bool, true, false, append_assoc}
+use Rattle.std.proofs.Common.{add-one, drop, drop-cons, get_or, length, ◌≡◌, ◌≤◌, ◌<◌, inl, inr, ℕ, zero, suc, ◌+◌, ◌-◌, ◌*◌, ◌/◌, ◌%◌, ◌^◌, ◌==◌, List, [], ◌∷◌, ◌++◌, arith, refl, ap, sym, ◌∙◌, Bool, true, false, append_assoc}
 use Rattle.std.specs.Prelude.{ℤ, pos, negsuc, unsigned_abs, decimal, if◌then◌else◌}
 use Rattle.std.specs.Char.{is_ascii_digit}
 use Rattle.std.specs.List.{All}
 use Rattle.std.proofs.lemmas.Bool.{cases_Bool, ne_eqb}
 use Rattle.std.proofs.lemmas.Fmt.{decimal_by_steps_wide}
+use Rattle.std.proofs.lemmas.List.{drop_all}
 use Rattle.std.proofs.lemmas.List.Elements.{All-append, All-cons, All-nil}
 use Rattle.std.proofs.lemmas.Nat.{div-add-mod'}
 use Rattle.std.proofs.Math.Arith.{mod-mul}
@@ -127,3 +128,32 @@ pub number_bytes : (value : ℤ) (scale : ℕ) → unsigned_abs value < 10 ^ 64 
 unfolding scaled_text
 number_bytes (pos n) scale small = size_bytes scale n small
 number_bytes (negsuc n) scale small = All-cons IsNumberByte 45 (size_text scale (suc n)) (omega arith, λ e. omega (arith, e)) (size_bytes scale (suc n) small)
+
+-- ---- the digits, as far as a loop has come
+
+digits_value-least : (text : List ℕ) (n : ℕ) → n ≤ digits_value n text
+unfolding digits_value
+digits_value-least [] n = omega arith
+digits_value-least (byte ∷ text) n =
+    elim (cases_Bool (is_ascii_digit byte)) [
+      | inl is ↦ rw is (omega (arith, digits_value-least text (10 * n + (byte - 48))))
+      | inr other ↦ rw other (digits_value-least text n)
+    ]
+
+digits_value-cons : (n byte : ℕ) (rest : List ℕ) → digits_value n (byte ∷ rest) ≡ digits_value (digits_value n (byte ∷ [])) rest
+digits_value-cons n byte rest = digits_value-append (byte ∷ []) rest n
+
+pub digits_more : (text : List ℕ) (i n : ℕ) → i < length text → digits_value (digits_value n (get_or text i 0 ∷ [])) (drop (i + 1) text) ≡ digits_value n (drop i text)
+digits_more text i n inside = rw (add-one, drop-cons text i 0) (sym (digits_value-cons n (get_or text i 0) (drop (suc i) text)))
+
+pub digits_end : (text : List ℕ) (i n : ℕ) → length text ≤ i → digits_value n (drop i text) ≡ n
+unfolding digits_value
+digits_end text i n past = rw (drop_all i text past) refl
+
+pub digits_past : (text : List ℕ) (i n most : ℕ) → i < length text → most ≤ digits_value n (get_or text i 0 ∷ []) → most ≤ digits_value n (drop i text)
+digits_past text i n most inside past =
+    let least = digits_value-least (drop (i + 1) text) (digits_value n (get_or text i 0 ∷ [])) in
+    let same = digits_more text i n inside in
+    omega (arith, past, least, same)
+
+pub ruleset digits_steps = (digits_more, digits_end, digits_past)

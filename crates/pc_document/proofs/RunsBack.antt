@@ -138,14 +138,14 @@ next_spelled [] cells are formed = refl
 next_spelled (column ∷ columns) [] are formed = refl
 next_spelled (column ∷ columns) (cell ∷ cells) are formed =
     and_from (is_spelled (field_token column.kind cell)) (list_all is_spelled (next_tokens columns cells))
-        (field_spelled column.kind cell (All-head IsColumn column columns are).kind formed.0) (next_spelled columns cells (All-tail IsColumn column columns are) formed.1)
+    (field_spelled column.kind cell (All-head IsColumn column columns are).kind formed.0) (next_spelled columns cells (All-tail IsColumn column columns are) formed.1)
 
 fields_spelled : (columns : List Column) (cells : List ℤ) → All IsColumn columns → AllZip IsFormedCellOf columns cells → AreSpelled (fields_tokens columns cells)
 fields_spelled [] cells are formed = refl
 fields_spelled (column ∷ columns) [] are formed = refl
 fields_spelled (column ∷ columns) (cell ∷ cells) are formed =
     and_from (is_spelled (field_token column.kind cell)) (list_all is_spelled (next_tokens columns cells))
-        (field_spelled column.kind cell (All-head IsColumn column columns are).kind formed.0) (next_spelled columns cells (All-tail IsColumn column columns are) formed.1)
+    (field_spelled column.kind cell (All-head IsColumn column columns are).kind formed.0) (next_spelled columns cells (All-tail IsColumn column columns are) formed.1)
 
 run_spelled : (schema : Schema) (run : Run) → IsWellFormed schema → IsFormedRun schema run → AreSpelled (run_tokens schema run)
 run_spelled schema run formed is =
@@ -179,7 +179,7 @@ next_again [] (cell ∷ cells) are formed = absurd formed
 next_again (column ∷ columns) [] are formed = absurd formed
 next_again (column ∷ columns) (cell ∷ cells) are formed =
     ap₂ (λ (x : ℤ) (xs : List ℤ). x ∷ xs) (field_again column.kind cell (All-head IsColumn column columns are).kind formed.0)
-        (fields_past columns 1 _ _ (next_tokens columns cells) ∙ next_again columns cells (All-tail IsColumn column columns are) formed.1)
+    (fields_past columns 1 _ _ (next_tokens columns cells) ∙ next_again columns cells (All-tail IsColumn column columns are) formed.1)
 
 fields_again : (times : ℕ) (columns : List Column) (cells : List ℤ) → All IsColumn columns → AllZip IsFormedCellOf columns cells → fields_at columns 3 (head_tokens times (fields_tokens columns cells)) ≡ cells
 unfolding fields_at
@@ -188,14 +188,14 @@ fields_again times [] (cell ∷ cells) are formed = absurd formed
 fields_again times (column ∷ columns) [] are formed = absurd formed
 fields_again times (column ∷ columns) (cell ∷ cells) are formed =
     ap₂ (λ (x : ℤ) (xs : List ℤ). x ∷ xs) (field_again column.kind cell (All-head IsColumn column columns are).kind formed.0)
-        (fields_past columns 3 _ _ _ ∙ fields_past columns 1 _ _ (next_tokens columns cells) ∙ next_again columns cells (All-tail IsColumn column columns are) formed.1)
+    (fields_past columns 3 _ _ _ ∙ fields_past columns 1 _ _ (next_tokens columns cells) ∙ next_again columns cells (All-tail IsColumn column columns are) formed.1)
 
 run_again : (schema : Schema) (run : Run) → IsWellFormed schema → IsFormedRun schema run → run_of_tokens schema (run_tokens schema run) ≡ Some run
 unfolding run_of_tokens
 run_again schema run formed is =
     let few = is.times in
     ap₂ (λ (cells : List ℤ) (times : ℕ). Some (record { row = record { cells = cells }; times = times }))
-        (fields_again run.times schema.columns run.row.cells formed.columns.all is.cells) (count_again run.times (omega (arith, few)))
+    (fields_again run.times schema.columns run.row.cells formed.columns.all is.cells) (count_again run.times (omega (arith, few)))
 
 run_back : (schema : Schema) (run : Run) → IsWellFormed schema → IsFormedRun schema run → likely_run schema (run_text schema run) ≡ Some run
 unfolding likely_run

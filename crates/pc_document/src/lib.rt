@@ -8,13 +8,15 @@ mod ends;
 mod halt;
 mod lack;
 mod line_readers;
+mod line_tokens;
 mod name_laws;
 mod number_laws;
+mod numbers;
 mod places;
 mod proof;
 mod relation;
+mod run_lines;
 mod runs;
 mod tags;
 mod tree;
 mod words;
-

@@ -2,26 +2,12 @@ ghost use Rattle.std.specs.Prelude.{◌≡◌, IfOk, IfSome};
 ghost use Rattle.pc_model.specs.WellFormed.{IsWellFormed};
 ghost use Rattle.pc_model.specs.Accepted.{IsQuery};
 ghost use Rattle.pc_document.specs.ValueLines.{read_proof_line, read_outer_line, read_end_line};
-ghost use Rattle.pc_document.specs.TokenLines.{read_run, begins_run, read_group, read_query_line};
+ghost use Rattle.pc_document.specs.TokenLines.{read_group, read_query_line};
 
 use crate::tags::{EndLine, ProofLine, Side};
-use pc_model::{Query, Run, Schema};
+use pc_model::{Query, Schema};
 use pc_num::{Frac, Memory};
 use std::alloc::Global;
-
-pub(crate) fn read_run(alloc: Global, schema: &Schema, line: &[u8]) -> Result<Option<Run>, Memory>
-    requires well_formed { IsWellFormed schema.now }
-    ensures { IfOk result (λ run. run ≡ read_run schema.now line.now) }
-{
-    Err(Memory)
-}
-
-#[tactic(auto, unfolding(std::specs::Prelude::bytes_eq))]
-pub(crate) fn begins_run(line: &[u8]) -> bool
-    ensures { result ≡ begins_run line.now }
-{
-    line.starts_with(b"run ")
-}
 
 pub(crate) fn read_proof_line(
     alloc: Global,

@@ -68,12 +68,12 @@ frac_back f g r s small less stop end e =
 
 -- ---- averages in the unit of their column
 
-signed_size : (minus : Bool) (n : ℕ) → unsigned_abs (signed minus n) ≡ n
+pub signed_size : (minus : Bool) (n : ℕ) → unsigned_abs (signed minus n) ≡ n
 signed_size true zero = refl
 signed_size true (suc n) = refl
 signed_size false n = refl
 
-den_above : (value : Frac) (scale : ℕ) → IsFrac value → 0 < unsigned_abs value.den * 10 ^ scale
+pub den_above : (value : Frac) (scale : ℕ) → IsFrac value → 0 < unsigned_abs value.den * 10 ^ scale
 den_above value scale is =
     let above = is.above in
     one-le-mul (omega (arith, ints)) (one-le-pow scale 10 (omega arith))
@@ -111,7 +111,7 @@ num_same (pos n) (negsuc m) d e x sizes some same =
 num_same (negsuc n) (pos m) d e x sizes some same =
     let above : 0 < x = some (omega arith) in absurd (omega (arith, ints, above, same))
 
-above_zero : (x n y k : ℕ) → 0 < y → 0 < n → x * k ≡ n * y → 0 < x
+pub above_zero : (x n y k : ℕ) → 0 < y → 0 < n → x * k ≡ n * y → 0 < x
 above_zero zero n y k some more e = let least : 1 ≤ n * y = one-le-mul more some in absurd (omega (arith, e, least))
 above_zero (suc x) n y k some more e = omega arith
 

@@ -42,7 +42,7 @@ few_at [] place have = omega arith
 few_at (column ∷ columns) zero have = few_in column.kind (All-head (λ (column : Column). HasScale column.kind) column columns have)
 few_at (column ∷ columns) (suc place) have = few_at columns place (All-tail (λ (column : Column). HasScale column.kind) column columns have)
 
-few_for : (schema : Schema) (column : Option ℕ) → IsWellFormed schema → scale_for schema column ≤ 6
+pub few_for : (schema : Schema) (column : Option ℕ) → IsWellFormed schema → scale_for schema column ≤ 6
 few_for schema None formed = omega arith
 few_for schema (Some place) formed = few_at schema.columns place (HaveScales-from_well_formed schema formed)
 

@@ -11,7 +11,7 @@ use std::alloc::Global;
 /// Appends a value of a query: a count as a whole number, an average as a fraction in the unit of the query's column, and
 /// any other with the decimals of that column.
 #[tactic(auto, unfolding(crate::specs::Report::value_text))]
-pub(crate) fn put_value(
+pub fn put_value(
     alloc: Global,
     schema: &Schema,
     out: &mut Vec<u8>,
@@ -70,8 +70,8 @@ fn power_of_ten(exponent: u8) -> i128
     10i128.pow(u32::from(exponent))
 }
 
-// The decimals of a column, and none where there is no column.
-fn scale_for(schema: &Schema, column: Option<u8>) -> u8
+/// The decimals of a column, and none where there is no column.
+pub fn scale_for(schema: &Schema, column: Option<u8>) -> u8
     requires { HaveScales schema.now.columns }
     ensures value { result ≡ scale_for schema.now column }
     ensures few { result ≤ 6 }
