@@ -1,4 +1,5 @@
 pub mod CutsBack
+pub mod GroupReading
 pub mod GroupsBack
 pub mod Keeping
 pub mod LineStarts
@@ -6,6 +7,7 @@ pub mod NodesBack
 pub mod NumbersBack
 pub mod NumbersInLines
 pub mod QueriesBack
+pub mod QueryReading
 pub mod RunReading
 pub mod RunSteps
 pub mod RunsBack

@@ -1,8 +1,7 @@
-ghost use Rattle.std.specs.Prelude.{◌≡◌, IfOk, IfSome};
+ghost use Rattle.std.specs.Prelude.{◌≡◌, IfOk};
 ghost use Rattle.pc_model.specs.WellFormed.{IsWellFormed};
 ghost use Rattle.pc_model.specs.Accepted.{IsQuery};
 ghost use Rattle.pc_document.specs.ValueLines.{read_proof_line, read_outer_line, read_end_line};
-ghost use Rattle.pc_document.specs.TokenLines.{read_group, read_query_line};
 
 use crate::tags::{EndLine, ProofLine, Side};
 use pc_model::{Query, Schema};
@@ -46,30 +45,6 @@ pub(crate) fn read_end_line(
     requires well_formed { IsWellFormed schema.now }
     requires query { IsQuery schema.now query.now }
     ensures { IfOk result (λ found. found ≡ read_end_line schema.now query.now side line.now) }
-{
-    Err(Memory)
-}
-
-pub(crate) fn read_group(
-    alloc: Global,
-    schema: &Schema,
-    group: u8,
-    line: &[u8],
-) -> Result<Option<u32>, Memory>
-    requires well_formed { IsWellFormed schema.now }
-    ensures { IfOk result (λ found. found ≡ read_group schema.now group line.now) }
-{
-    Err(Memory)
-}
-
-pub(crate) fn read_query_line(
-    alloc: Global,
-    schema: &Schema,
-    line: &[u8],
-) -> Result<Option<Query>, Memory>
-    requires well_formed { IsWellFormed schema.now }
-    ensures found { IfOk result (λ found. found ≡ read_query_line schema.now line.now) }
-    ensures accepted { IfOk result (λ found. IfSome found (IsQuery schema.now)) }
 {
     Err(Memory)
 }
