@@ -30,7 +30,7 @@ use Rattle.pc_format.specs.Formats.{IsLine, IsSpelled}
 use Rattle.pc_format.specs.Lines.{feeds_in}
 use Rattle.pc_format.proofs.Spelled.{spelled_line}
 use Rattle.pc_proof.specs.Form.{IsFormedCut, IsFormedCutNode, IsFormedCutOf, IsFormedMarkOf, greatest_number_size}
-use Rattle.pc_document.specs.TokenLines.{IsBareCut, Tokens, bare_cut, column_in, cut_by, cut_node_of_tokens, cut_node_text, cut_node_tokens, divided_tokens, is_cut_node, is_cut_of, kind_at, kind_of, likely_cut_node, mark_tokens, more_names, names_in, names_of, read_cut_node, scale_at, set_tokens, side_token, token_at}
+use Rattle.pc_document.specs.TokenLines.{IsBareCut, Tokens, bare_cut, column_in, cut_at, cut_by, cut_node_of_tokens, cut_node_text, cut_node_tokens, divided_tokens, is_cut_node, is_cut_of, kind_at, kind_of, likely_cut_node, mark_tokens, more_names, names_in, names_of, read_cut_node, scale_at, set_tokens, side_token, token_at}
 use Rattle.pc_document.proofs.NumbersBack.{numbers_again}
 use Rattle.pc_document.proofs.TokensOf.{AreSpelled, IsColumnAt, bare_name, column_at, count_again, spelled_more, tokens_again, tokens_plain}
 
@@ -41,8 +41,8 @@ record IsCutAt (schema : Schema) (cut : Cut) (column : Column) : Type 0 where
   place : IsColumnAt schema (column_of cut) column
   formed : IsFormedCutOf cut column.kind
 
-cut_at : (schema : Schema) (cut : Cut) → IsWellFormed schema → IsFormedCut schema cut → (column : Column) × IsCutAt schema cut column
-cut_at schema cut formed is = by_column (slice_get schema.columns (column_of cut)) refl is
+cut_column : (schema : Schema) (cut : Cut) → IsWellFormed schema → IsFormedCut schema cut → (column : Column) × IsCutAt schema cut column
+cut_column schema cut formed is = by_column (slice_get schema.columns (column_of cut)) refl is
   where
     by_column : (found : Option Column) → slice_get schema.columns (column_of cut) ≡ found → IsSomeAnd found (λ (column : Column). IsFormedCutOf cut column.kind) → (column : Column) × IsCutAt schema cut column
     by_column None e has = absurd has
@@ -111,7 +111,7 @@ mark_spelled (Class mask chosen) = and_from _ _ (numbers_are_spelled (pos mask) 
 node_spelled : (schema : Schema) (node : CutNode) → IsWellFormed schema → IsFormedCutNode schema node → AreSpelled (cut_node_tokens schema node)
 node_spelled schema (cut_nodes.Leaf mark) formed is = spelled_more (mark_tokens mark) (codes "leaf") (bare_name (codes "leaf") leaf_is_bare) (mark_spelled mark)
 node_spelled schema (cut_nodes.Inner cut first second) formed is =
-    let at = cut_at schema cut formed is in
+    let at = cut_column schema cut formed is in
     let rest = spelled_more (divided_tokens schema cut) (name_at schema.columns (column_of cut)) at.1.place.named (divided_spelled schema cut at.0 at.1) in
     spelled_more (tokens.Name (name_at schema.columns (column_of cut)) ∷ divided_tokens schema cut) (codes "cut") (bare_name (codes "cut") cut_is_bare) rest
 
@@ -122,7 +122,7 @@ unfolding names_of more_names
 more_named [] = refl
 more_named (name ∷ rest) = ap (λ names. name ∷ names) (more_named rest)
 
-set_again : (schema : Schema) (column : ℕ) (a b : Token) (names : List (List ℕ)) → cut_by schema column (token_at (a ∷ b ∷ set_tokens names) 2) (drop 3 (a ∷ b ∷ set_tokens names)) ≡ Among column (bits_of names (names_in (kind_at schema column)))
+set_again : (schema : Schema) (column : ℕ) (a b : Token) (names : List (List ℕ)) → cut_at schema column (a ∷ b ∷ set_tokens names) ≡ Among column (bits_of names (names_in (kind_at schema column)))
 unfolding set_tokens names_of
 set_again schema column a b [] = refl
 set_again schema column a b (name ∷ rest) = ap (λ names. Among column (bits_of (name ∷ names) (names_in (kind_at schema column)))) (more_named rest)
@@ -138,7 +138,7 @@ kind_bits column bits (Int low high) is formed = absurd formed
 kind_bits column bits (Dec scale low high) is formed = absurd formed
 kind_bits column bits (Cat names) is formed = whole_bits names bits is.own.different formed.1
 
-cut_again : (schema : Schema) (cut : Cut) (column : Column) (a b : Token) → IsCutAt schema cut column → cut_by schema (column_of cut) (token_at (a ∷ b ∷ divided_tokens schema cut) 2) (drop 3 (a ∷ b ∷ divided_tokens schema cut)) ≡ cut
+cut_again : (schema : Schema) (cut : Cut) (column : Column) (a b : Token) → IsCutAt schema cut column → cut_at schema (column_of cut) (a ∷ b ∷ divided_tokens schema cut) ≡ cut
 cut_again schema (At column at) found a b is = ap (At column) (numbers_again at (scale_at (kind_at schema column)) (small found.kind is.formed))
   where
     small : (kind : Kind) → IsFormedCutOf (At column at) kind → nat_abs at < 10 ^ 64
@@ -154,14 +154,14 @@ mark_again schema (Class mask true) is = rw (count_again mask (omega (arith, is)
 mark_again schema (Class mask false) is = rw (count_again mask (omega (arith, is))) refl
 
 inner_opens : (schema : Schema) (name : List ℕ) (list : Tokens) →
-    cut_node_of_tokens schema (tokens.Name (codes "cut") ∷ tokens.Name name ∷ list) ≡ Some (cut_nodes.Inner (cut_by schema (column_in schema.columns name) (token_at (tokens.Name (codes "cut") ∷ tokens.Name name ∷ list) 2) (drop 3 (tokens.Name (codes "cut") ∷ tokens.Name name ∷ list))) 0 0)
+    cut_node_of_tokens schema (tokens.Name (codes "cut") ∷ tokens.Name name ∷ list) ≡ Some (cut_nodes.Inner (cut_at schema (column_in schema.columns name) (tokens.Name (codes "cut") ∷ tokens.Name name ∷ list)) 0 0)
 unfolding cut_node_of_tokens
 inner_opens schema name list = refl
 
 node_again : (schema : Schema) (node : CutNode) → IsWellFormed schema → IsFormedCutNode schema node → cut_node_of_tokens schema (cut_node_tokens schema node) ≡ Some (bare_cut node)
 node_again schema (cut_nodes.Leaf mark) formed is = mark_again schema mark is
 node_again schema (cut_nodes.Inner cut first second) formed is =
-    let at = cut_at schema cut formed is in
+    let at = cut_column schema cut formed is in
     let name = name_at schema.columns (column_of cut) in
     inner_opens schema name (divided_tokens schema cut)
     ∙ rw at.1.place.again (ap (λ (again : Cut). Some (cut_nodes.Inner again 0 0)) (cut_again schema cut at.0 (tokens.Name (codes "cut")) (tokens.Name name) at.1))

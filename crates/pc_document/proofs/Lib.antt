@@ -1,3 +1,4 @@
+pub mod CutReading
 pub mod CutsBack
 pub mod GroupReading
 pub mod GroupsBack

@@ -3,6 +3,8 @@
 
 mod answer;
 mod block;
+mod cut_lines;
+mod cut_tokens;
 mod cuts;
 mod ends;
 mod group_lines;

@@ -1,5 +1,8 @@
 ghost use Rattle.std.specs.Prelude.{◌≡◌, ◌≤◌, ◌^◌, IfOk, MatchOption, unsigned_abs};
 ghost use Rattle.pc_token.specs.Lexing.{tokens_of};
+ghost use Rattle.pc_proof.specs.Form.{greatest_number_size};
+ghost use Rattle.pc_document.specs.Kept.{IsKept};
+ghost use Rattle.pc_document.specs.Numbers.{is_within, likely_number};
 ghost use Rattle.pc_document.specs.TokenLines.{name_of, number_of, token_at, tokens_if};
 
 use crate::numbers::likely_number;
@@ -56,4 +59,33 @@ fn name_of(token: &Token) -> &[u8]
         Token::Name(name) => name.as_bytes(),
         Token::Symbol(_) | Token::Reserved(_) | Token::Number(_) => b"",
     }
+}
+
+/// The number of the token at a place, if it is small enough for a column.
+pub(crate) fn small_number_at(list: &[Token], place: usize) -> Option<i64>
+    ensures { IsKept (is_within greatest_number_size) (number_of (token_at list.now place)) result }
+{
+    match number_at(list, place) {
+        Some(number) => small(number),
+        None => None,
+    }
+}
+
+/// The only number whose text this can be, if it is small enough for a column.
+pub(crate) fn small_number(text: &[u8]) -> Option<i64>
+    ensures { IsKept (is_within greatest_number_size) (likely_number text.now) result }
+{
+    match likely_number(text) {
+        Some(number) => small(number),
+        None => None,
+    }
+}
+
+fn small(number: i128) -> Option<i64>
+    ensures { IsKept (is_within greatest_number_size) number result }
+{
+    if number.unsigned_abs() > 1_000_000_000_000_000 {
+        return None;
+    }
+    Some(number as i64)
 }

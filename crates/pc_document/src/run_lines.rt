@@ -2,12 +2,10 @@ ghost use Rattle.std.specs.Prelude.{◌≡◌, ◌++◌, ◌≤◌, ◌^◌, len
 ghost use Rattle.pc_model.specs.Places.{is_below};
 ghost use Rattle.pc_model.specs.WellFormed.{HasFewNames, HaveFewNames, IsWellFormed};
 ghost use Rattle.pc_format.specs.Formats.{if_spelled};
-ghost use Rattle.pc_proof.specs.Form.{greatest_number_size};
 ghost use Rattle.pc_document.specs.Kept.{IsKept, IsLikelyKept};
-ghost use Rattle.pc_document.specs.Numbers.{is_within};
 ghost use Rattle.pc_document.specs.TokenLines.{are_cells, begins_run, field_number, fields_at, is_cell, is_run, number_of, place_in, read_run, run_of_tokens, run_text, token_at};
 
-use crate::line_tokens::{name_at, number_at, tokens_of};
+use crate::line_tokens::{name_at, number_at, small_number_at, tokens_of};
 use pc_list::{Seq, Text};
 use pc_model::{Column, Kind, Row, Run, Schema};
 use pc_num::Memory;
@@ -130,19 +128,6 @@ fn cell_at(kind: &Kind, list: &[Token], place: usize) -> Option<i64>
         Kind::Int { .. } | Kind::Dec { .. } => small_number_at(list, place),
         Kind::Cat { names } => place_of(names.as_slice(), name_at(list, place)),
     }
-}
-
-/// The number of the token at a place, if it is small enough for a column.
-pub(crate) fn small_number_at(list: &[Token], place: usize) -> Option<i64>
-    ensures { IsKept (is_within greatest_number_size) (number_of (token_at list.now place)) result }
-{
-    let Some(number) = number_at(list, place) else {
-        return None;
-    };
-    if number.unsigned_abs() > 1_000_000_000_000_000 {
-        return None;
-    }
-    Some(number as i64)
 }
 
 #[tactic(auto, using(crate::proofs::RunReading::place_steps))]
