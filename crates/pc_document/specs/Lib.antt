@@ -6,6 +6,7 @@ pub mod Numbers
 pub mod Parts
 pub mod Places
 pub mod Reading
+pub mod Spans
 pub mod Told
 pub mod TokenLines
 pub mod ValueLines

@@ -1,7 +1,7 @@
 -- What a reader of lines tells by its place in the bytes, against a definition over lines.
-use Rattle.std.specs.Prelude.{◌≡◌, ℕ, ◌≤◌, ⊤, List, [], drop, length, ◌++◌, Result, Ok, Err}
+use Rattle.std.specs.Prelude.{◌≡◌, ℕ, ◌≤◌, ⊤, List, [], drop, length, Result, Ok, Err}
 use Rattle.pc_format.specs.Lines.{whole_lines, rest_after}
-use Rattle.pc_format.specs.Formats.{Lines, Found, ◌>>=◌}
+use Rattle.pc_format.specs.Formats.{Lines, Found}
 use Rattle.pc_document.specs.declared.halt.Halt.{Halt}
 use Rattle.pc_document.specs.declared.halt.Halt.TheVariants as halts
 
@@ -22,7 +22,3 @@ HaltsAs bytes halts.Memory wanted = ⊤
 abbrev pub Reads : {A : Type 0} → List ℕ → Result (A × ℕ) Halt → Found A → Type 0
 Reads bytes (Ok p) wanted = IsLineStart bytes p.1 × (wanted ≡ Ok (p.0, lines_at bytes p.1))
 Reads bytes (Err halt) wanted = HaltsAs bytes halt wanted
-
--- the items that were read before others
-abbrev pub after_items : {A : Type 0} → List A → Found (List A) → Found (List A)
-after_items before found = found >>= λ last. Ok (before ++ last.0, last.1)

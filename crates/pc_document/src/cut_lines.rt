@@ -29,8 +29,7 @@ pub(crate) fn put_cut_node(
     node: &CutNode,
 ) -> Result<(), Memory>
     requires well_formed { IsWellFormed schema.now }
-    ensures text { OnOk result (out.new.items ≡ out.old.items ++ cut_node_text schema.now (bare_cut node.now)) }
-    ensures same { cut_node_text schema.now (bare_cut node.now) ≡ cut_node_text schema.now node.now }
+    ensures { OnOk result (out.new.items ≡ out.old.items ++ cut_node_text schema.now (bare_cut node.now)) }
 {
     let list = node_tokens(alloc, schema, node)?;
     put_tokens(alloc, out, list.as_slice())
@@ -54,6 +53,7 @@ pub(crate) fn read_cut_node(
 }
 
 // The node, if this is its line.
+#[tactic(auto, using(crate::proofs::CutReading::bare_text))]
 fn if_spelled(
     alloc: Global,
     schema: &Schema,

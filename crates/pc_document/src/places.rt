@@ -1,4 +1,4 @@
-ghost use Rattle.std.specs.Prelude.{◌≡◌, [], ◌∷◌, ◌<◌, MatchOption, MatchResult, IfSome};
+ghost use Rattle.std.specs.Prelude.{◌≡◌, [], ◌∷◌, ◌<◌, MatchOption, MatchResult, IfOk, IfSome};
 ghost use Rattle.pc_document.specs.declared.halt.Halt.TheVariants as halts;
 ghost use Rattle.pc_document.specs.Places.{IsLineStart, lines_at};
 
@@ -19,7 +19,8 @@ pub(crate) fn line_at(bytes: &[u8], at: usize) -> Option<(&[u8], usize)>
 /// The line that begins at a place, and the place after it.
 pub(crate) fn first_line_at(bytes: &[u8], at: usize) -> Result<(&[u8], usize), Halt>
     requires { IsLineStart bytes.now at }
-    ensures { MatchResult result (λ found. (lines_at bytes.now at ≡ found.0.now ∷ lines_at bytes.now found.1) × IsLineStart bytes.now found.1) (λ halt. (halt ≡ halts.Fault at) × (lines_at bytes.now at ≡ [])) }
+    ensures found { MatchResult result (λ found. (lines_at bytes.now at ≡ found.0.now ∷ lines_at bytes.now found.1) × IsLineStart bytes.now found.1) (λ halt. (halt ≡ halts.Fault at) × (lines_at bytes.now at ≡ [])) }
+    ensures later { IfOk result (λ found. at < found.1) }
 {
     match line_at(bytes, at) {
         Some(found) => Ok(found),

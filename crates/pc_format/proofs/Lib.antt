@@ -2,6 +2,7 @@ pub mod As
 pub mod ByPlace
 pub mod Joined
 pub mod LinesOf
+pub mod Loops
 pub mod Many
 pub mod Nodes
 pub mod OneLine

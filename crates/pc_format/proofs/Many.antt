@@ -1,5 +1,5 @@
 -- The format of as many values as lines begin so.
-use Rattle.std.proofs.Common.{◌≡◌, ◌⊎◌, ⊎_elim, ℕ, zero, suc, ◌≤◌, Bool, List, [], ◌∷◌, ◌++◌, length, Ok, Err, refl, sym, ap, ◌∙◌, subst, arith, append_assoc, if◌then◌else◌, inr}
+use Rattle.std.proofs.Common.{◌≡◌, ◌⊎◌, ⊎_elim, ℕ, zero, suc, ◌≤◌, Bool, true, List, [], ◌∷◌, ◌++◌, length, Ok, Err, refl, sym, ap, ◌∙◌, subst, arith, append_assoc, if◌then◌else◌, inr}
 use Rattle.std.specs.List.{All}
 use Rattle.std.proofs.lemmas.List.{append-nil, length-append}
 use Rattle.std.proofs.lemmas.List.Elements.{All-nil, All-cons, All-head, All-tail, All-append}
@@ -167,6 +167,36 @@ module _ {A : Type 0} (Good : A → Type 0) (text : A → Lines) (read : Lines �
   many_fault lines left e =
       let f = fault_in (length lines) lines left e in
       record { before = f.before; parts = f.parts; value = f.value; good = f.good; after = f.after; goes_on = f.goes_on; stays = λ line more other same. f.stays line more other (length (f.before ++ line ∷ other)) same (omega arith) }
+
+  none_begin : (ls : Lines) → length ls ≤ 0 → Ends {A = A} begins [] (first_line ls)
+  none_begin [] few = tt
+  none_begin (line ∷ lines) few = absurd (omega arith)
+
+  -- how many values there may be does not matter, where it is enough
+  same_in : (n m : ℕ) (lines : Lines) → length lines ≤ n → length lines ≤ m → read_many_in begins read n lines ≡ read_many_in begins read m lines
+  same_in zero m lines few more = many_end zero lines (none_begin lines few) ∙ sym (many_end m lines (none_begin lines few))
+  same_in (suc n) zero lines few more = many_end (suc n) lines (none_begin lines more) ∙ sym (many_end zero lines (none_begin lines more))
+  same_in (suc n) (suc m) lines few more =
+      ⊎_elim (λ is. many_step n lines is ∙ joined_same (same_in n m) is (read lines) refl ∙ sym (many_step m lines is))
+        (λ (ends : Ends {A = A} begins [] (first_line lines)). many_end (suc n) lines ends ∙ sym (many_end (suc m) lines ends)) (begins_or_ends lines)
+    where
+      joined_same : ((ls : Lines) → length ls ≤ n → length ls ≤ m → read_many_in begins read n ls ≡ read_many_in begins read m ls) → Begins begins (first_line lines)
+          → (found : Found A) → read lines ≡ found → read_joined read (others n) with_first lines ≡ read_joined read (others m) with_first lines
+      joined_same again is (Err left) e = rw e refl
+      joined_same again is (Ok (x, left)) e =
+          let one : Good x × (lines ≡ text x ++ left) × Unit {0} = format.sound lines left x e in
+          let few_n = fewer begins (text x) left n (starts x one.0) (subst (λ (ls : Lines). length ls ≤ suc n) one.1 few) in
+          let few_m = fewer begins (text x) left m (starts x one.0) (subst (λ (ls : Lines). length ls ≤ suc m) one.1 more) in
+          let same = again left few_n few_m in
+          rw e (rw same refl)
+
+  -- after a value it does not matter how many there might have been with it
+  pub many_fuel : (x : A) (lines : Lines) (line : List ℕ) (rest left : Lines) → lines ≡ line ∷ rest → begins line ≡ true → read lines ≡ Ok (x, left)
+      → read_many_in begins read (length rest) left ≡ read_many begins read left
+  many_fuel x lines line rest left is first found =
+      let one : Good x × (lines ≡ text x ++ left) × Unit {0} = format.sound lines left x found in
+      let whole : length (text x ++ left) ≤ suc (length rest) = subst (λ (ls : Lines). length ls ≤ suc (length rest)) (sym is ∙ one.1) (omega arith) in
+      same_in (length rest) (length left) left (fewer begins (text x) left (length rest) (starts x one.0) whole) (omega arith)
 
   plain_in : (xs : List A) → All Good xs → ArePlain (lines_of xs)
   plain_in [] good = All-nil IsPlain

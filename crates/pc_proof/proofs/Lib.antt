@@ -1,5 +1,6 @@
 pub mod Averages
 pub mod BlockLines
+pub mod Caps
 pub mod Closed
 pub mod DocumentLines
 pub mod EndLines
@@ -11,6 +12,7 @@ pub mod Gains
 pub mod Groups
 pub mod Kept
 pub mod Lacks
+pub mod Masks
 pub mod Numbers
 pub mod Parts
 pub mod Seen

@@ -1,6 +1,8 @@
 pub mod Demands
 pub mod Documents
 pub mod Form
+pub mod Masks
+pub mod Observed
 pub mod Samples
 pub mod Setting
 pub mod Table

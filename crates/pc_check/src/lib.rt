@@ -1,0 +1,10 @@
+//! The checker: it goes through the lines of a document, and finds the first one that breaks a rule.
+#![tactic(auto)]
+
+mod cells;
+mod cuts;
+mod settled;
+#[cfg(test)]
+mod tests;
+mod tree_line;
+mod walk;

@@ -1,0 +1,18 @@
+-- The nodes of a search tree, line by line.
+use Rattle.std.proofs.Common.{◌≡◌, ℕ, ◌+◌, ◌-◌, ◌<◌, ◌≤◌, List, [], ◌∷◌, ◌++◌, Ok, Err, if◌then◌else◌}
+use Rattle.pc_model.specs.declared.tree.TreeNode.{TreeNode}
+use Rattle.pc_format.specs.Formats.{Lines, after_items, read_line, read_nodes}
+use Rattle.pc_format.proofs.Loops.{nodes_done, nodes_refused, nodes_more}
+use Rattle.pc_document.specs.NodeLines.{is_split, read_node}
+
+pub split_more : (before : List TreeNode) (owed : ℕ) (lines rest : Lines) (node : TreeNode) → 0 < owed → read_line read_node lines ≡ Ok (node, rest)
+    → after_items before (read_nodes is_split read_node owed lines) ≡ after_items (before ++ node ∷ []) (read_nodes is_split read_node (if is_split node then owed + 1 else owed - 1) rest)
+split_more = nodes_more is_split read_node
+
+pub split_refused : (before : List TreeNode) (owed : ℕ) (lines left : Lines) → 0 < owed → read_line read_node lines ≡ Err left → after_items before (read_nodes is_split read_node owed lines) ≡ Err left
+split_refused = nodes_refused is_split read_node
+
+pub splits_done : (before : List TreeNode) (owed : ℕ) (lines : Lines) → owed ≤ 0 → after_items before (read_nodes is_split read_node owed lines) ≡ Ok (before, lines)
+splits_done = nodes_done is_split read_node
+
+pub ruleset steps = (split_more, split_refused, splits_done)

@@ -1,0 +1,87 @@
+ghost use Rattle.std.specs.Prelude.{◌≡◌, ◌+◌, ◌<◌, get_or, map, length, IfOk};
+ghost use Rattle.pc_model.specs.declared.tree.TreeNode.{TreeNode};
+ghost use Rattle.pc_format.specs.Formats.{AreTrees};
+ghost use Rattle.pc_document.specs.NodeLines.{IsBareNode, is_split};
+ghost use Rattle.pc_document.specs.Reading.{placed};
+ghost use Rattle.pc_document.specs.Spans.{ArePast, placed_from, placed_node};
+
+use crate::spans::past_of;
+use pc_list::Seq;
+use pc_model::{Tree, TreeNode};
+use pc_num::Memory;
+use std::alloc::Global;
+
+/// The tree of nodes in the order of their lines, with the places of their parts. Of 2^32 nodes or more there is none.
+#[tactic(auto, using(crate::proofs::PlacedTrees::flags_of, crate::proofs::PlacedTrees::placed_spelled))]
+pub(crate) fn placed(alloc: Global, nodes: Seq<TreeNode>) -> Result<Tree, Memory>
+    requires { AreTrees IsBareNode is_split 1 nodes }
+    ensures { IfOk result (λ tree. tree ≡ placed nodes) }
+{
+    let flags = flags_of(alloc, nodes.as_slice())?;
+    let past = past_of(alloc, flags.as_slice())?;
+    let nodes = with_places(alloc, nodes, past.as_slice())?;
+    Ok(Tree { nodes })
+}
+
+#[tactic(auto, using(std::proofs::lemmas::List::map_more))]
+fn flags_of(alloc: Global, nodes: &[TreeNode]) -> Result<Seq<bool>, Memory>
+    ensures { IfOk result (λ flags. flags ≡ map (λ (node : TreeNode). is_split node) nodes.now) }
+{
+    let mut flags = Seq::new(alloc);
+    for node in nodes {
+        flags.push(is_split(node))?;
+    }
+    Ok(flags)
+}
+
+fn is_split(node: &TreeNode) -> bool
+    ensures { result ≡ is_split node.now }
+{
+    match node {
+        TreeNode::Split { .. } => true,
+        TreeNode::Bound { .. } | TreeNode::Void { .. } => false,
+    }
+}
+
+/// The nodes with the places of their parts, of which it is known where each tree ends.
+#[tactic(auto, using(crate::proofs::PlacingSteps::place_end))]
+fn with_places(alloc: Global, nodes: Seq<TreeNode>, past: &[usize]) -> Result<Seq<TreeNode>, Memory>
+    requires { ArePast (map is_split nodes) past.now 0 }
+    ensures { IfOk result (λ list. list ≡ placed_from 0 nodes) }
+{
+    let mut list = Seq::new(alloc);
+    for node in nodes.into_vec() {
+        let node = with_place(node, list.len(), past)?;
+        list.push(node)?;
+    }
+    Ok(list)
+}
+
+/// A node with the places of its parts: the first stands next, the second where the tree that begins there ends.
+fn with_place(node: TreeNode, place: usize, past: &[usize]) -> Result<TreeNode, Memory>
+    requires { place < length past.now }
+    ensures { IfOk result (λ more. more ≡ placed_node (place + 1) (get_or past.now (place + 1) (place + 1)) node) }
+{
+    let next = place + 1;
+    let second = past.get(next).copied().unwrap_or(next);
+    match node {
+        TreeNode::Split { cell, at, .. } => Ok(TreeNode::Split {
+            cell,
+            at,
+            less: place_number(next)?,
+            more: place_number(second)?,
+        }),
+        TreeNode::Bound { mult } => Ok(TreeNode::Bound { mult }),
+        TreeNode::Void { mult } => Ok(TreeNode::Void { mult }),
+    }
+}
+
+/// A place as a node has it, where it is not too great.
+pub(crate) fn place_number(place: usize) -> Result<u32, Memory>
+    ensures { IfOk result (λ number. number ≡ place) }
+{
+    if place >= 1 << 32 {
+        return Err(Memory);
+    }
+    Ok(place as u32)
+}
