@@ -10,7 +10,7 @@ use Rattle.pc_document.proofs.PlacingSteps.{second_is}
 pub cut_more : (before rest list whole : List CutNode) (node : CutNode) (past : List ℕ) → ArePast (map is_inner (before ++ node ∷ rest)) past 0 → length list ≡ length before
     → list ++ placed_cuts_from (length list) (node ∷ rest) ≡ whole
     → (list ++ placed_cut (length list + 1) (get_or past (length list + 1) (length list + 1)) node ∷ [])
-      ++ placed_cuts_from (length (list ++ placed_cut (length list + 1) (get_or past (length list + 1) (length list + 1)) node ∷ [])) rest ≡ whole
+    ++ placed_cuts_from (length (list ++ placed_cut (length list + 1) (get_or past (length list + 1) (length list + 1)) node ∷ [])) rest ≡ whole
 unfolding placed_cuts_from
 cut_more before rest list whole node past known same so_far =
     let second : get_or past (length list + 1) (length list + 1) ≡ length list + 1 + span 1 (map is_inner rest) = subst (λ (n : ℕ). get_or past (n + 1) (n + 1) ≡ n + 1 + span 1 (map is_inner rest)) (sym same) (second_is is_inner before node rest past known) in

@@ -42,10 +42,10 @@ leaf_spelled node t n xs ts bare one alone kept s = record {
   many = ap suc s.many;
   spans = spans;
   places = λ k.
-    let here = kept (k + 1) (k + 1 + span 1 (map is_inner xs)) in
-    let later = s.places (k + 1) in
-    let listed = alone k in
-    rw (here, later, listed, one) refl;
+      let here = kept (k + 1) (k + 1 + span 1 (map is_inner xs)) in
+      let later = s.places (k + 1) in
+      let listed = alone k in
+      rw (here, later, listed, one) refl;
 }
   where
     spans : (j : ℕ) → span j (map is_inner (node ∷ xs)) ≡ sizes j (t ∷ ts)

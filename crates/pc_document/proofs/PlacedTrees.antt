@@ -40,10 +40,10 @@ leaf_spelled node t n xs ts leaf one alone kept s = record {
   many = ap suc s.many;
   spans = spans;
   places = λ k.
-    let here = kept (k + 1) (k + 1 + span 1 (map is_split xs)) in
-    let later = s.places (k + 1) in
-    let nodes = alone k in
-    rw (here, later, nodes, one) refl;
+      let here = kept (k + 1) (k + 1 + span 1 (map is_split xs)) in
+      let later = s.places (k + 1) in
+      let nodes = alone k in
+      rw (here, later, nodes, one) refl;
 }
   where
     spans : (j : ℕ) → span j (map is_split (node ∷ xs)) ≡ sizes j (t ∷ ts)

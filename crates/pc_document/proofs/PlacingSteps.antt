@@ -34,7 +34,7 @@ second_is f before x (y ∷ rest) past known =
 pub place_more : (before rest list whole : List TreeNode) (node : TreeNode) (past : List ℕ) → ArePast (map is_split (before ++ node ∷ rest)) past 0 → length list ≡ length before
     → list ++ placed_from (length list) (node ∷ rest) ≡ whole
     → (list ++ placed_node (length list + 1) (get_or past (length list + 1) (length list + 1)) node ∷ [])
-      ++ placed_from (length (list ++ placed_node (length list + 1) (get_or past (length list + 1) (length list + 1)) node ∷ [])) rest ≡ whole
+    ++ placed_from (length (list ++ placed_node (length list + 1) (get_or past (length list + 1) (length list + 1)) node ∷ [])) rest ≡ whole
 unfolding placed_from
 place_more before rest list whole node past known same so_far =
     let second : get_or past (length list + 1) (length list + 1) ≡ length list + 1 + span 1 (map is_split rest) = subst (λ (n : ℕ). get_or past (n + 1) (n + 1) ≡ n + 1 + span 1 (map is_split rest)) (sym same) (second_is is_split before node rest past known) in

@@ -91,7 +91,7 @@ parts_after flags k trees inside is =
     let later : Trees (suc (suc here.0)) (drop (k + 1) flags) = at_front.1 in
     let some : 0 < length (drop (k + 1) flags) = some_left (suc here.0) (drop (k + 1) flags) later in
     let left : 0 < length (drop (span 1 (drop (k + 1) flags)) (drop (k + 1) flags)) =
-        some_left here.0 (drop (span 1 (drop (k + 1) flags)) (drop (k + 1) flags)) (trees_left (drop (k + 1) flags) 1 (suc here.0) (suc (suc here.0)) (omega arith) later) in
+    some_left here.0 (drop (span 1 (drop (k + 1) flags)) (drop (k + 1) flags)) (trees_left (drop (k + 1) flags) 1 (suc here.0) (suc (suc here.0)) (omega arith) later) in
     let long = length-drop (k + 1) flags in
     let left_long = length-drop (span 1 (drop (k + 1) flags)) (drop (k + 1) flags) in
     let joined = spans_join (drop (k + 1) flags) 1 1 2 refl in

@@ -1,4 +1,5 @@
 pub mod DocumentLines
+pub mod Kept
 pub mod Kinds
 pub mod Likely
 pub mod NodeLines

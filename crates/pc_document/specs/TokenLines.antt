@@ -175,11 +175,21 @@ names_of (tokens.Reserved word ∷ rest) = names_of rest
 names_of (tokens.Number text ∷ rest) = names_of rest
 names_of (tokens.Name name ∷ rest) = name ∷ names_of rest
 
-abbrev pub cut_by : Schema → ℕ → Token → Tokens → Cut
-cut_by schema column (tokens.Symbol which) rest = Among column (bits_of (names_of rest) (names_in (kind_at schema column)))
-cut_by schema column (tokens.Reserved word) rest = Among column 0
-cut_by schema column (tokens.Number text) rest = At column (likely_number text)
-cut_by schema column (tokens.Name name) rest = Among column 0
+abbrev pub is_name_token : List ℕ → Token → Bool
+is_name_token name (tokens.Symbol which) = false
+is_name_token name (tokens.Reserved word) = false
+is_name_token name (tokens.Number text) = false
+is_name_token name (tokens.Name other) = bytes_eq other name
+
+-- the cut of a column of a kind by these tokens
+abbrev pub cut_by : Option Kind → ℕ → Token → Tokens → Cut
+cut_by kind column (tokens.Symbol which) rest = Among column (bits_of (names_of rest) (names_in kind))
+cut_by kind column (tokens.Reserved word) rest = Among column 0
+cut_by kind column (tokens.Number text) rest = At column (likely_number text)
+cut_by kind column (tokens.Name name) rest = Among column 0
+
+abbrev pub cut_at : Schema → ℕ → Tokens → Cut
+cut_at schema column list = cut_by (kind_at schema column) column (token_at list 2) (drop 3 list)
 
 abbrev pub is_in : Token → Bool
 is_in (tokens.Symbol which) = false
@@ -196,7 +206,7 @@ mark_by (tokens.Name name) side = Barren
 unfoldable pub cut_node_of_tokens : Schema → Tokens → Option CutNode
 cut_node_of_tokens schema list =
     if bytes_eq (name_of (token_at list 0)) (codes "leaf") then Some (cut_nodes.Leaf (mark_by (token_at list 1) (token_at list 2)))
-    else Some (cut_nodes.Inner (cut_by schema (column_in schema.columns (name_of (token_at list 1))) (token_at list 2) (drop 3 list)) 0 0)
+    else Some (cut_nodes.Inner (cut_at schema (column_in schema.columns (name_of (token_at list 1))) list) 0 0)
 
 unfoldable pub likely_cut_node : Schema → List ℕ → Option CutNode
 likely_cut_node schema line = cut_node_of_tokens schema (tokens_if (tokens_of line))

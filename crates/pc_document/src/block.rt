@@ -8,9 +8,10 @@ ghost use Rattle.pc_document.specs.TokenLines.{read_group, read_query_line};
 
 use crate::answer::answer_at;
 use crate::cuts::cuts_at;
+use crate::group_lines::read_group;
 use crate::halt::Halt;
-use crate::line_readers::{read_group, read_query_line};
 use crate::places::first_line_at;
+use crate::query_lines::read_query_line;
 use crate::tags::TreeLine;
 use crate::words::read_tree_line;
 use pc_model::{Query, Schema};

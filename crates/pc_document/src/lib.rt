@@ -3,16 +3,19 @@
 
 mod answer;
 mod block;
+mod cut_lines;
+mod cut_tokens;
 mod cuts;
 mod end_lines;
 mod ends;
+mod group_lines;
 mod halt;
 mod lack;
 mod laws;
-mod line_readers;
 #[cfg(test)]
 mod line_tests;
-mod line_writers;
+mod line_tokens;
+mod name_laws;
 mod nodes;
 mod number_laws;
 mod numbers;
@@ -25,7 +28,9 @@ mod proof_line;
 mod put_answer;
 mod put_document;
 mod put_proof;
+mod query_lines;
 mod relation;
+mod run_lines;
 mod runs;
 mod spans;
 mod tags;
@@ -34,3 +39,4 @@ mod values;
 mod words;
 
 pub use laws::{documents_read_back, one_document, reading_tells};
+pub use put_document::put_document;

@@ -11,7 +11,7 @@ mod tests;
 mod value;
 
 pub use laws::reports_tell_their_blocks;
-pub use report::put_report;
-pub use runs::put_runs;
+pub use report::{kind_name, put_report};
+pub use runs::{put_fields, put_runs};
 pub use summary::put_summary;
 pub use value::{in_column, put_value, scale_for};

@@ -111,7 +111,8 @@ fn put_group_line(
     Ok(())
 }
 
-fn kind_name(kind: &Kind, place: u32) -> &str
+/// The name at a place of a column of names, or no text where there is none.
+pub fn kind_name(kind: &Kind, place: u32) -> &str
     ensures { result.now ≡ kind_name kind.now place }
 {
     match kind {

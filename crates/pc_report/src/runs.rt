@@ -54,7 +54,8 @@ fn put_run(alloc: Global, out: &mut Vec<u8>, schema: &Schema, run: &Run) -> Resu
     Ok(())
 }
 
-fn put_fields(
+/// Appends the fields of a row in the order of the columns, with a comma and a space between two.
+pub fn put_fields(
     alloc: Global,
     out: &mut Vec<u8>,
     columns: &[Column],
