@@ -68,7 +68,7 @@ returns-then-not-is_empty c =
       owes =
           IfOk-weaker c.between.result _ _
           (λ answer is asking.
-          owes c.args.schema.now c.args.constraints.now c.args.query.now c.args.seen.now nodes asked.formed asked.limited asked.found.tree c.args.nodes asking c.requires.has_value
+          owes c.args.schema.now c.args.constraints.now c.args.query.now c.args.seen.now nodes asked.formed asked.limited asked.found.tree c.args.nodes asking asked.few_seen asked.small_seen c.requires.has_value
           c.in_ok-settled.settled settled c.in-At.aim c.in-At-2.aim low high
           (rw (c.in_ok-settled.ensures, c.in_ok-found.ensures) (low_among c.args.schema.now c.args.constraints.now c.args.query.now nodes asked.limited c.args.query.now.agg c.args.nodes Low High c.in-At.aim c.in-At-2.aim low high))
           (rw (c.in_ok-settled.ensures, c.in_ok-found.ensures) (high_among c.args.schema.now c.args.constraints.now c.args.query.now nodes asked.limited c.args.query.now.agg c.args.nodes Low High c.in-At.aim c.in-At-2.aim low high))
@@ -93,7 +93,7 @@ returns c =
       owes =
           IfOk-weaker c.between-2.result _ _
           (λ answer is asking.
-          owes c.args.schema.now c.args.constraints.now c.args.query.now c.args.seen.now nodes asked.formed asked.limited asked.found.tree c.args.nodes asking c.requires.has_value
+          owes c.args.schema.now c.args.constraints.now c.args.query.now c.args.seen.now nodes asked.formed asked.limited asked.found.tree c.args.nodes asking asked.few_seen asked.small_seen c.requires.has_value
           c.in_ok-settled-2.settled c.in_ok-settled-2.ensures.settled c.in-At.aim c.in-At-2.aim low high among.0 among.1
           (λ disjoint. (
             c.in_ok-settled-2.ensures.disjoint disjoint,
