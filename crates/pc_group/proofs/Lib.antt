@@ -1,3 +1,5 @@
+mod FormedBlocks
+mod FormedCuts
 mod GroupNames
 mod Inner
 mod Narrowed

@@ -18,7 +18,3 @@ fit_settled p counts multipliers settled =
 
 pub fit_minus_one : (n place : ℕ) → All IsFit (set (replicate n (pos 0)) place (negsuc 0))
 fit_minus_one n place = All-set IsFit (replicate n (pos 0)) place (negsuc 0) (omega (arith, ints)) (All-replicate IsFit n (pos 0) (omega (arith, ints)))
-
--- the denominator of multipliers of whole numbers
-pub one_fits : (den : ℤ) → den ≡ pos 1 → IsFit den
-one_fits den is = rw is (omega (arith, ints))
