@@ -72,7 +72,7 @@ least_num v n d lowest same below =
     let sizes = ap unsigned_abs same in
     let products : unsigned_abs d * unsigned_abs v.num ≡ unsigned_abs v.den * unsigned_abs n = omega (arith, left, right, sizes) in
     let divides : unsigned_abs v.num ∣ unsigned_abs n = gauss (unsigned_abs v.num) (unsigned_abs v.den) (unsigned_abs n) lowest.reduced
-        (subst (λ (k : ℕ). unsigned_abs v.num ∣ k) products (dvd-mul_left (unsigned_abs v.num) (unsigned_abs d))) in
+    (subst (λ (k : ℕ). unsigned_abs v.num ∣ k) products (dvd-mul_left (unsigned_abs v.num) (unsigned_abs d))) in
     let some : 0 < unsigned_abs n = omega (arith, ints, below) in
     let less = le_of_dvd some divides in
     omega (arith, ints, less)

@@ -85,20 +85,21 @@ block_formed schema observed constraints query name nodes answer formed limited 
   answer = answered;
 }
 
--- ---- blocks over one tree
+-- ---- blocks as they are told
 
-blocks_told : (P : Block → Type 0) (blocks : List Block) (before : Option (List CutNode)) → All (λ (t : Told). P t.block) (told_after blocks before) → All P blocks
+all_told_with : (P : Block → Type 0) (block : Block) (nodes : Option (List CutNode)) (later : Option (List CutNode) → List Told) → All (λ (t : Told). P t.block) (told_with block nodes later) → P block × All (λ (t : Told). P t.block) (later nodes)
+all_told_with P block None later each = (All-head (λ (t : Told). P t.block) (record { block = block; nodes = [] }) (later None) each, All-tail (λ (t : Told). P t.block) (record { block = block; nodes = [] }) (later None) each)
+all_told_with P block (Some nodes) later each = (All-head (λ (t : Told). P t.block) (record { block = block; nodes = nodes }) (later (Some nodes)) each, All-tail (λ (t : Told). P t.block) (record { block = block; nodes = nodes }) (later (Some nodes)) each)
+
+-- what holds of each block as it is told holds of each block
+pub all_blocks : (P : Block → Type 0) (blocks : List Block) (before : Option (List CutNode)) → All (λ (t : Told). P t.block) (told_after blocks before) → All P blocks
 unfolding told_after
-blocks_told P [] before each = All-nil P
-blocks_told P (block ∷ blocks) before each = by_nodes (nodes_after before block.tree) each
-  where
-    by_nodes : (nodes : Option (List CutNode)) → All (λ (t : Told). P t.block) (told_with block nodes (told_after blocks)) → All P (block ∷ blocks)
-    by_nodes None all =
-        let t : Told = record { block = block; nodes = [] } in
-        All-cons P block blocks (All-head (λ (t : Told). P t.block) t (told_after blocks None) all) (blocks_told P blocks None (All-tail (λ (t : Told). P t.block) t (told_after blocks None) all))
-    by_nodes (Some nodes) all =
-        let t : Told = record { block = block; nodes = nodes } in
-        All-cons P block blocks (All-head (λ (t : Told). P t.block) t (told_after blocks (Some nodes)) all) (blocks_told P blocks (Some nodes) (All-tail (λ (t : Told). P t.block) t (told_after blocks (Some nodes)) all))
+all_blocks P [] before each = All-nil P
+all_blocks P (block ∷ blocks) before each =
+    let parts = all_told_with P block (nodes_after before block.tree) (told_after blocks) each in
+    All-cons P block blocks parts.0 (all_blocks P blocks (nodes_after before block.tree) parts.1)
+
+-- ---- blocks over one tree
 
 module _ (budget : ℕ) (schema : Schema) (observed : List Row) (constraints : List Constraint) (shared : List CutNode) (seen : AllPass (in_domain schema) observed) (own : HasOwnCuts schema shared) where
   each_formed : (ws : List Wanted) (ts : List Told) → AllZip (AnswersWanted budget schema observed constraints) ws ts → AreOfTree shared ts → All (λ (t : Told). IsFormedBlock schema t.block) ts
@@ -111,4 +112,4 @@ module _ (budget : ℕ) (schema : Schema) (observed : List Row) (constraints : L
       (each_formed ws ts answers.1 (All-tail (λ (t : Told). HasCutsAt shared 0 (shape_of t.nodes)) t ts cuts))
 
   pub all_formed : (ws : List Wanted) (blocks : List Block) → AllZip (AnswersWanted budget schema observed constraints) ws (told blocks) → AreOfTree shared (told blocks) → All (IsFormedBlock schema) blocks
-  all_formed ws blocks answers cuts = blocks_told (IsFormedBlock schema) blocks None (each_formed ws (told blocks) answers cuts)
+  all_formed ws blocks answers cuts = all_blocks (IsFormedBlock schema) blocks None (each_formed ws (told blocks) answers cuts)

@@ -1,10 +1,10 @@
 -- The cuts of a tree that is cut along regions are in form.
-use Rattle.std.proofs.Common.{◌≡◌, ℕ, zero, suc, ◌+◌, ◌<◌, ◌≤◌, ◌^◌, ◌&&◌, ◌==◌, nat_lt, Bool, true, false, true≢false, List, [], ◌∷◌, ◌++◌, length, get_or, All, Any, ◌⊎◌, inl, inr, Option, Some, None, refl, sym, ap, subst, ◌∙◌, arith, ltb-true, cases_lt}
+use Rattle.std.proofs.Common.{◌≡◌, ℕ, zero, suc, ◌+◌, ◌<◌, ◌≤◌, ◌^◌, ◌&&◌, ◌==◌, nat_lt, not, Bool, true, false, true≢false, List, [], ◌∷◌, ◌++◌, length, get_or, All, Any, ◌⊎◌, inl, inr, Option, Some, None, refl, sym, ap, subst, ◌∙◌, arith, ltb-true}
 use Rattle.std.specs.Prelude.{ℤ, pos, ◌-ℤ◌, ◌≤ℤ◌, int_le, int_lt, nat_abs, slice_get, slice_index_or, IfSome, IsSomeAnd, if◌then◌else◌}
 use Rattle.std.specs.Cmp.Lexicographic.{pointwise}
 use Rattle.std.specs.Int.Bits.{bit_and}
 use Rattle.std.proofs.Math.Pow.{pow_mono}
-use Rattle.std.proofs.lemmas.Bool.{and_parts}
+use Rattle.std.proofs.lemmas.Bool.{and_parts, cases_lt}
 use Rattle.std.proofs.lemmas.Int.{ints}
 use Rattle.std.proofs.lemmas.List.{get_or_past, get_or_append_left, get_or-append-add, length-append}
 use Rattle.std.proofs.lemmas.List.Elements.{All-nil, All-cons, All-append, All-head, All-tail}
@@ -14,7 +14,6 @@ use Rattle.pc_model.specs.declared.schema.Kind.{Kind}
 use Rattle.pc_model.specs.declared.schema.Kind.TheVariants.{Int, Dec, Cat}
 use Rattle.pc_model.specs.declared.schema.Column.{Column}
 use Rattle.pc_model.specs.declared.schema.Schema.{Schema}
-use Rattle.pc_model.specs.declared.row.Row.{Row}
 use Rattle.pc_model.specs.declared.region.Side.{Side}
 use Rattle.pc_model.specs.declared.region.Side.TheVariants.{Span, Names}
 use Rattle.pc_model.specs.declared.region.Region.{Region}
@@ -28,7 +27,7 @@ use Rattle.pc_model.specs.declared.tree.LeafMark.TheVariants as marks
 use Rattle.pc_model.specs.declared.tree.Leaf.{Leaf}
 use Rattle.pc_model.specs.Boxes.{IsServable}
 use Rattle.pc_model.specs.Cells.{IsSettled, IsSettledAs, IsSettledTree, AreSettled}
-use Rattle.pc_model.specs.CutTrees.{CutShape, leaf, inner, size_of, nodes_from, leaves_of, shape_of, column_of, first_part, second_part, IsInside, IsProper, HasProperCuts, side_at}
+use Rattle.pc_model.specs.CutTrees.{CutShape, leaf, inner, size_of, nodes_from, leaves_of, shape_of, column_of, first_part, second_part, IsProper, HasProperCuts, side_at}
 use Rattle.pc_model.specs.Membership.{has}
 use Rattle.pc_model.specs.Places.{places_outside}
 use Rattle.pc_model.specs.Regions.{is_side_of, is_region_of, whole_region}
@@ -40,7 +39,7 @@ use Rattle.pc_box.proofs.Proper.{Divides-from_proper}
 use Rattle.pc_box.proofs.Schemas.{IsBox-from_schema, is_region-from_inside}
 use Rattle.pc_tree.specs.Decisions.{IsCutFor, IsNeeded}
 use Rattle.pc_tree.specs.Linked.{IsTree, IsDone, HasKept, HasNeededCuts, box_at, node_at, is_leaf_node}
-use Rattle.pc_tree.specs.Stances.{side_cut, span_cut, set_cut, IsAlong}
+use Rattle.pc_tree.specs.Stances.{side_cut, IsAlong, IsCutThrough}
 use Rattle.pc_tree.specs.Walking.{HasCutsAt}
 use Rattle.pc_proof.specs.Form.{IsFormedCut, IsFormedCutOf, IsFormedMarkOf, IsFormedCutNode, IsFormedCutTree}
 use Rattle.pc_group.specs.Trees.{HasBitsOf, HasOwnBits, HasOwnShape, IsOwnNode, HasOwnCuts}
@@ -100,7 +99,7 @@ module _ (schema : Schema) (constraints : List Constraint) (chosen : Region) (se
   needed_bits : (area : Region) (cut : Cut) → IsNeeded constraints chosen area cut → HasOwnBits schema cut
   needed_bits area cut needed = by_part needed.through
     where
-      by_part : Any (IsCutFor area cut) constraints ⊎ _ → HasOwnBits schema cut
+      by_part : Any (IsCutFor area cut) constraints ⊎ IsCutThrough area chosen cut → HasOwnBits schema cut
       by_part (inl found) = cut_bits area cut found.1 (subst (IsServable schema) found.3 (servable found.0 found.1 found.2)) found.4
       by_part (inr through) = along_bits schema area chosen cut asked through.along
 
@@ -175,9 +174,9 @@ parts_regions schema box cut h proper =
     let divided = Divides-from_proper box cut proper in
     let filled = IsBox-from_schema schema box h in (
       is_region-from_inside schema box (first_part box cut) h (first_alike box cut divided (first_part box cut) filled refl)
-      (λ row held. (and_parts (has box row) (is_first cut row) (sym (first_rows box cut divided (first_part box cut) refl row) ∙ held)).0),
+          (λ row held. (and_parts (has box row) (is_first cut row) (sym (first_rows box cut divided (first_part box cut) refl row) ∙ held)).0),
       is_region-from_inside schema box (second_part box cut) h (second_alike box cut divided (second_part box cut) filled refl)
-      (λ row held. (and_parts (has box row) _ (sym (second_rows box cut divided (second_part box cut) refl row) ∙ held)).0),
+          (λ row held. (and_parts (has box row) (not (is_first cut row)) (sym (second_rows box cut divided (second_part box cut) refl row) ∙ held)).0),
     )
 
 -- ---- trees

@@ -1,4 +1,4 @@
-mod FormedBlocks
+pub mod FormedBlocks
 mod FormedCuts
 mod GroupNames
 mod Inner
