@@ -81,7 +81,7 @@ module _ (u : Setting) (gain : Class → ℤ) (want : Want) (budget : ℕ) (foun
 
 module _ (u : Setting) (budget : ℕ) (found : List (List ℕ)) (probed : Probed) (is : IsProbed (fewest_chosen u) wants.Without budget found probed) where
   pub fewest_short : (tree : Tree) → probed.verdict ≡ verdicts.Short tree → IsLacking u false budget probed.found (lackings.Never (nevers.Tree tree))
-  fewest_short tree same = 
+  fewest_short tree same =
       let short = probed_short u (on_chosen minus_one) wants.Without budget found probed is tree same in
       (refl, shows_some_row (fewest_chosen u) budget tree short, fit_short (fewest_chosen u) wants.Without budget tree short)
 
@@ -158,9 +158,8 @@ module _ (schema : Schema) (constraints : List Constraint) (query : Query) (own 
     where
       flat : FallsShort (most_chosen u) wants.Gaining budget (flat_tree (length constraints))
       flat =
-        (flat_none schema constraints query own.tree.nodes formed limited are.tree budget some
-        (subst (All (λ (class : Class). class.chosen ≡ true → ⊥)) classes (All-map (λ (class : Class). class.chosen ≡ true → ⊥) class_of_cell own.cells never)));
-  }
+          flat_none schema constraints query own.tree.nodes formed limited are.tree budget some
+          (subst (All (λ (class : Class). class.chosen ≡ true → ⊥)) classes (All-map (λ (class : Class). class.chosen ≡ true → ⊥) class_of_cell own.cells never))
 
 -- ---- what the totals settle
 
