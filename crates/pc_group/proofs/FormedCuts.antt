@@ -106,17 +106,17 @@ module _ (schema : Schema) (constraints : List Constraint) (chosen : Region) (se
   -- a tree that is cut on has such cuts where it had them before
   pub own_more : (before after : List CutNode) → IsTree schema before → IsTree schema after → HasKept schema constraints chosen before after → HasNeededCuts schema constraints chosen before after →
       HasOwnCuts schema before → HasOwnCuts schema after
-  own_more before after old tree kept needed own k = by_node (node_at after k) refl
+  own_more before after boxed tree kept needed mine k = by_node (node_at after k) refl
     where
-      stays : (node : CutNode) → node_at before k ≡ node → is_leaf_node node ≡ false → k < length before → IsDone constraints chosen (box_at old.0 k) (node_at before k)
-      stays (forms.Leaf mark) is no inside = absurd (true≢false no)
-      stays (forms.Inner cut first second) is no inside = subst (IsDone constraints chosen (box_at old.0 k)) (sym is) tt
+      stays : (node : CutNode) → node_at before k ≡ node → is_leaf_node node ≡ false → k < length before → IsDone constraints chosen (box_at boxed.0 k) (node_at before k)
+      stays (forms.Leaf mark) is inner_is inside = absurd (true≢false inner_is)
+      stays (forms.Inner cut first second) is inner_is inside = subst (IsDone constraints chosen (box_at boxed.0 k)) (sym is) tt
 
       by_place : (cut : Cut) (first second : ℕ) → node_at after k ≡ forms.Inner cut first second → is_leaf_node (node_at before k) ≡ false → (k < length before) ⊎ (length before ≤ k) → IsOwnNode schema (forms.Inner cut first second)
-      by_place cut first second is no (inl inside) =
-          let same = kept.same old.0 old.1 k inside (stays (node_at before k) refl no inside) in
-          subst (IsOwnNode schema) (sym same ∙ is) (own k)
-      by_place cut first second is no (inr past) = absurd (true≢false (ap is_leaf_node (sym (get_or_past before k (forms.Leaf marks.Barren) past)) ∙ no))
+      by_place cut first second is inner_is (inl inside) =
+          let same = kept.same boxed.0 boxed.1 k inside (stays (node_at before k) refl inner_is inside) in
+          subst (IsOwnNode schema) (sym same ∙ is) (mine k)
+      by_place cut first second is inner_is (inr past) = absurd (true≢false (ap is_leaf_node (sym (get_or_past before k (forms.Leaf marks.Barren) past)) ∙ inner_is))
 
       by_test : (cut : Cut) (first second : ℕ) → node_at after k ≡ forms.Inner cut first second → (test : Bool) → is_leaf_node (node_at before k) ≡ test → IsOwnNode schema (forms.Inner cut first second)
       by_test cut first second is true test_is = needed_bits (box_at tree.0 k) cut (needed tree.0 tree.1 k cut first second test_is is)
