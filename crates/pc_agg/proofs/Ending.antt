@@ -47,12 +47,15 @@ use Rattle.pc_search.specs.declared.extreme.Extreme.TheVariants.{Low, High}
 use Rattle.pc_agg.specs.Answered.{IsEnd}
 use Rattle.pc_search.specs.Asked.{Asking, setting_for}
 use Rattle.pc_search.specs.Ends.{gain_towards, signed, HoldsEnd, program_towards}
+use Rattle.pc_search.specs.Fitting.{AreObserved, IsFitEnd}
 use Rattle.pc_search.specs.Limits.{IsLimit, IsReached, IsCutShort}
 use Rattle.pc_agg.specs.Marks.{IsMarked, IsAim, IsAmong}
 use Rattle.pc_agg.specs.Observed.{folded_value}
 use Rattle.pc_search.specs.Settings.{unseen}
 use Rattle.pc_agg.proofs.Attained.{attained, of_cells, counted_runs}
 use Rattle.pc_search.proofs.ProgramEnds.{is_program}
+use Rattle.pc_search.proofs.Shorts.{fit_limit}
+use Rattle.pc_agg.proofs.EndSizes.{end_value}
 use Rattle.pc_agg.proofs.Questions.{folded_is, posed, tree_for}
 
 -- ---- a tree whose bound is within a limit
@@ -136,6 +139,7 @@ pub record IsEndDone (extreme : Extreme) (s : Setting) (budget : ℕ) (agg : Agg
   pub formed : IsFormed end.value end.proof
   pub shows : ShowsEnd extreme s agg (ratio_of end.value) end.proof
   pub searched : SearchedEnd extreme s budget agg (ratio_of end.value) end.proof
+  pub fits : AreObserved s → IsFitEnd agg end
   pub licensed : (answer : Answer) → ShownFrom s found answer → IfOuter end.mark (LicensedEnd extreme s budget answer agg (ratio_of end.value) end.proof)
   pub from : All (λ runs. Contains found (counts_of_runs s runs)) (runs_of_mark end.mark)
 
@@ -185,6 +189,7 @@ end_attained Low s most number runs posed tree valued greatest is attains =
 module _ (schema : Schema) (constraints : List Constraint) (query : Query) (seen : Folded) (nodes : List CutNode) (formed : IsWellFormed schema) (limited : AreConstraints schema constraints)
     (tree : IsSettledTree schema constraints query.chosen nodes) (always : always_has_value query.agg ≡ true) (budget : ℕ)
     (found : List (List ℕ)) (lawful : All (AreLawful (unseen schema constraints query nodes)) found) (asking : Asking schema constraints query seen)
+    (few_seen : seen.count ≤ 1_000_000) (small_seen : nat_abs seen.sum ≤ 2 ^ 83)
     (extreme : Extreme) (aim : Aim) (is_aim : IsAim (unseen schema constraints query nodes) query.agg budget extreme aim) (among : IsAmong found aim.limit) where
   abbrev u : Setting
   u = unseen schema constraints query nodes
@@ -284,6 +289,7 @@ module _ (schema : Schema) (constraints : List Constraint) (query : Query) (seen
       formed = record { positive = omega (arith, ints); ratio = tt };
       shows = shown_end;
       searched = searched_end;
+      fits = λ seen_rows. record { value = end_value schema constraints query nodes formed limited tree budget extreme aim is_aim seen few_seen small_seen always; proof = fit_limit p budget aim.limit is_aim.limit };
       licensed = λ answer from. licensed_end answer mark marked;
       from = mark_from mark marked;
     };

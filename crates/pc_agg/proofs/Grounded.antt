@@ -18,7 +18,7 @@ use Rattle.pc_proof.specs.declared.answer.Relation.{Relation}
 use Rattle.pc_proof.specs.declared.answer.Relation.TheVariants as relations
 use Rattle.pc_proof.specs.declared.answer.Why.{Why}
 use Rattle.pc_proof.specs.Setting.{Setting, cells, on_chosen, program_for}
-use Rattle.pc_proof.specs.Table.{none, one, minus_one, ShowsNone}
+use Rattle.pc_proof.specs.Table.{one, minus_one}
 use Rattle.pc_proof.specs.Unbroken.{IsDecided}
 use Rattle.pc_licence.specs.Pools.{AreLawful}
 use Rattle.pc_agg.specs.declared.grounds.Lacking.{Lacking}
@@ -28,17 +28,18 @@ use Rattle.pc_search.specs.declared.probes.Verdict.TheVariants as verdicts
 use Rattle.pc_search.specs.declared.want.Want.{Want}
 use Rattle.pc_search.specs.declared.want.Want.TheVariants as wants
 use Rattle.pc_search.specs.Asked.{AreCells}
+use Rattle.pc_search.specs.Fitting.{IsVoidTree}
 use Rattle.pc_search.specs.Flat.{flat_tree}
 use Rattle.pc_search.specs.Wants.{want_for, most_chosen, fewest_chosen}
 use Rattle.pc_agg.specs.Grounds.{HasValues, AreGrounds, AreAlways, AreGroundsSurely, IsLacking, IsLackingSurely, IsUnlistedIfNone}
 use Rattle.pc_search.specs.Settings.{unseen}
 use Rattle.pc_agg.specs.Settling.{IsRelation, IsUnlisted}
 use Rattle.pc_search.specs.Wants.{FallsShort, IsDoubt, IsFound, IsProbed, IsSure, IsVerdict}
-use Rattle.pc_search.proofs.Empty.{shows_none}
+use Rattle.pc_search.proofs.Empty.{void_tree}
 use Rattle.pc_agg.proofs.Flat.{flat_none}
 use Rattle.pc_agg.proofs.Lacking.{unlisted_grown, lacking_grown, surely_grown}
 use Rattle.pc_search.proofs.SettledPrograms.{classes_are}
-use Rattle.pc_search.proofs.Shorts.{shows_no_gain, shows_some_row, short_empty}
+use Rattle.pc_search.proofs.Shorts.{shows_no_gain, shows_some_row, short_empty, fit_short}
 
 any_map : {X Y : Type 0} (P : Y → Type 0) (f : X → Y) (xs : List X) → Any (λ x. P (f x)) xs → Any P (map f xs)
 any_map P f xs some = (some.0, f some.1, omega (arith, some.2, length-map xs f), get_or-map f xs some.0 some.1 (f some.1) some.2 ∙ ap f some.3, some.4)
@@ -64,8 +65,8 @@ module _ (u : Setting) (gain : Class → ℤ) (want : Want) (budget : ℕ) (foun
   pub probed_some : 0 < length found → 0 < length probed.found
   probed_some some = subst (λ l. 0 < length l) (sym is.grown) (omega (arith, some, length-append found is.more))
 
-  pub probed_empty : (tree : Tree) → probed.verdict ≡ verdicts.Empty tree → ShowsNone (program_for u none) tree
-  probed_empty tree same = shows_none u (map gain (cells u)) budget tree (subst (IsVerdict (program_for u gain) want budget probed.found) same is.verdict)
+  pub probed_empty : (tree : Tree) → probed.verdict ≡ verdicts.Empty tree → IsVoidTree u tree
+  probed_empty tree same = void_tree u (map gain (cells u)) budget tree (subst (IsVerdict (program_for u gain) want budget probed.found) same is.verdict)
 
   pub probed_short : (tree : Tree) → probed.verdict ≡ verdicts.Short tree → FallsShort (program_for u gain) want budget tree
   probed_short tree same = subst (IsVerdict (program_for u gain) want budget probed.found) same is.verdict
@@ -80,7 +81,9 @@ module _ (u : Setting) (gain : Class → ℤ) (want : Want) (budget : ℕ) (foun
 
 module _ (u : Setting) (budget : ℕ) (found : List (List ℕ)) (probed : Probed) (is : IsProbed (fewest_chosen u) wants.Without budget found probed) where
   pub fewest_short : (tree : Tree) → probed.verdict ≡ verdicts.Short tree → IsLacking u false budget probed.found (lackings.Never (nevers.Tree tree))
-  fewest_short tree same = (refl, shows_some_row (fewest_chosen u) budget tree (probed_short u (on_chosen minus_one) wants.Without budget found probed is tree same))
+  fewest_short tree same =
+      let short = probed_short u (on_chosen minus_one) wants.Without budget found probed is tree same in
+      (refl, shows_some_row (fewest_chosen u) budget tree short, fit_short (fewest_chosen u) wants.Without budget tree short)
 
   pub fewest_open : probed.verdict ≡ verdicts.Open → IsLacking u false budget probed.found lackings.Open
   fewest_open same = (refl, probed_open u (on_chosen minus_one) wants.Without budget found probed is same)
@@ -98,10 +101,10 @@ most_sure u observed probed p want same wanted is = subst (λ q. IsSure q (want_
 module _ (u : Setting) (observed : Bool) (budget : ℕ) (found : List (List ℕ)) (lawful : All (AreLawful u) found) (totals : IsUnlistedIfNone u budget found) (probed : Probed)
     (is : IsProbed (most_chosen u) (want_for observed) budget found probed) where
   -- where rows were observed, any list would do
-  pub most_none : (tree : Tree) → probed.verdict ≡ verdicts.Short tree → observed ≡ true → ShowsNone (program_for u none) tree
+  pub most_none : (tree : Tree) → probed.verdict ≡ verdicts.Short tree → observed ≡ true → IsVoidTree u tree
   most_none tree same seen =
       let short = probed_short u (on_chosen one) (want_for observed) budget found probed is tree same in
-      shows_none u (most_chosen u).gain budget tree (short_empty (most_chosen u) budget tree (subst (λ o. FallsShort (most_chosen u) (want_for o) budget tree) seen short))
+      void_tree u (most_chosen u).gain budget tree (short_empty (most_chosen u) budget tree (subst (λ o. FallsShort (most_chosen u) (want_for o) budget tree) seen short))
 
   pub most_always : (tree : Tree) → probed.verdict ≡ verdicts.Short tree → observed ≡ false → AreAlways u observed budget tree probed.found
   most_always tree same unseen =
@@ -111,6 +114,7 @@ module _ (u : Setting) (observed : Bool) (budget : ℕ) (found : List (List ℕ)
         lawful = probed_lawful u (on_chosen one) (want_for observed) budget found probed is lawful;
         totals = probed_totals u (on_chosen one) (want_for observed) budget found probed is totals;
         shows = shows_no_gain (most_chosen u) budget tree (subst (λ o. FallsShort (most_chosen u) (want_for o) budget tree) unseen short);
+        fits = fit_short (most_chosen u) (want_for observed) budget tree short;
       }
 
   pub most_open : (lack : Lacking) → probed.verdict ≡ verdicts.Open → HasValues u observed → IsLacking u observed budget found lack → AreGrounds u observed budget (record { lacking = lack; found = probed.found })
@@ -148,11 +152,14 @@ module _ (schema : Schema) (constraints : List Constraint) (query : Query) (own 
     unseen = refl;
     lawful = lawful;
     totals = totals;
-    shows =
-        shows_no_gain (most_chosen u) budget (flat_tree (length constraints))
-        (flat_none schema constraints query own.tree.nodes formed limited are.tree budget some
-        (subst (All (λ (class : Class). class.chosen ≡ true → ⊥)) classes (All-map (λ (class : Class). class.chosen ≡ true → ⊥) class_of_cell own.cells never)));
+    shows = shows_no_gain (most_chosen u) budget (flat_tree (length constraints)) flat;
+    fits = fit_short (most_chosen u) wants.Gaining budget (flat_tree (length constraints)) flat;
   }
+    where
+      flat : FallsShort (most_chosen u) wants.Gaining budget (flat_tree (length constraints))
+      flat =
+          flat_none schema constraints query own.tree.nodes formed limited are.tree budget some
+          (subst (All (λ (class : Class). class.chosen ≡ true → ⊥)) classes (All-map (λ (class : Class). class.chosen ≡ true → ⊥) class_of_cell own.cells never))
 
 -- ---- what the totals settle
 

@@ -10,8 +10,8 @@ use Rattle.pc_bound.specs.Sums.{nat_at, int_at}
 use Rattle.pc_bound.specs.Allocation.{IsAllocation}
 use Rattle.pc_bound.specs.CellPrograms.{cap_of}
 use Rattle.pc_bound.proofs.CellPlaces.{no_class}
-use Rattle.pc_proof.specs.Setting.{Setting, cells, counting, open_cap, program_for}
-use Rattle.pc_proof.specs.Table.{none, ShowsNone}
+use Rattle.pc_proof.specs.Setting.{Setting, cells, counting, open_cap}
+use Rattle.pc_search.specs.Fitting.{IsVoidTree}
 use Rattle.pc_licence.specs.Pools.{AreLawful}
 use Rattle.pc_search.specs.declared.extreme.Extreme.{Extreme}
 use Rattle.pc_agg.specs.declared.ladder.Test.{Test}
@@ -27,7 +27,7 @@ use Rattle.pc_search.specs.Limits.{IsEmpty}
 use Rattle.pc_search.specs.Keys.{key_of}
 use Rattle.pc_agg.specs.Rungs.{reaches, rung_program, program_at, IsStanding}
 use Rattle.pc_search.specs.Wants.{IsDoubt, IsFound, IsMet, IsProbed, IsSure, IsUnder, IsVerdict, FallsShort}
-use Rattle.pc_search.proofs.Empty.{shows_none}
+use Rattle.pc_search.proofs.Empty.{void_tree}
 
 -- ---- what was found stays found
 
@@ -45,6 +45,7 @@ short_of_empty p want budget tree empty = record {
   proves = empty.proves;
   under = subst (λ o. MatchOption o ⊤ (IsUnder want)) (sym empty.none) tt;
   search = empty.search;
+  fits = empty.fits;
 }
 
 -- ---- counts of a rung's program are lawful, and lawful ones meet its constraints
@@ -76,8 +77,8 @@ module _ (s : Setting) where
     met = allowed.met;
   }
 
-  none_by : (extreme : Extreme) (key : ℤ) (budget : ℕ) (tree : Tree) → IsEmpty (reaches s extreme key) budget tree → ShowsNone (program_for s none) tree
-  none_by extreme key budget tree empty = shows_none s (map (counting (λ class. int_le key (key_of s extreme class))) (cells s)) budget tree empty
+  none_by : (extreme : Extreme) (key : ℤ) (budget : ℕ) (tree : Tree) → IsEmpty (reaches s extreme key) budget tree → IsVoidTree s tree
+  none_by extreme key budget tree empty = void_tree s (map (counting (λ class. int_le key (key_of s extreme class))) (cells s)) budget tree empty
 
   module _ (budget : ℕ) (ladder : Ladder) (want : Want) where
     pub all_met : (place : ℕ) (found : List (List ℕ)) → All (AreLawful s) found → All (IsMet (program_at s ladder place)) found

@@ -47,7 +47,7 @@ use Rattle.pc_agg.specs.Stands.{IsWanted, IsStand}
 use Rattle.pc_search.specs.Wants.{IsFound, IsDoubt, IsMet}
 use Rattle.pc_agg.proofs.Ending.{IsDone}
 use Rattle.pc_agg.proofs.Lacking.{any_grown, doubt_grown, unlisted_grown, lacking_grown, surely_grown, relation_is, relation_may, relation_decided, IsObserving, lack_done, lack_settled}
-use Rattle.pc_agg.proofs.Owing.{IsLackDone, owes_always, owes_both, crossing, do_cross}
+use Rattle.pc_agg.proofs.Owing.{IsLackDone, owes_always, owes_both, both_fit, crossing, do_cross}
 use Rattle.pc_agg.proofs.SeenNumbers.{observed_some, observed_none}
 use Rattle.pc_agg.proofs.StandEnds.{stand_done, stand_exact}
 
@@ -90,7 +90,7 @@ module _ (schema : Schema) (constraints : List Constraint) (query : Query) (seen
   owes_none observed by_tree found picks answer lacks observing rows always sure is =
       subst (Owes s budget) (sym is)
       (owes_always schema constraints query seen nodes formed limited tree budget asking found (relation_from picks found) (alwayses.Tree by_tree) always.lawful (relation_may picks found)
-      (relation_is u budget picks found rows always.totals) lacks (observing.none always.unseen, always.shows) tt (λ disjoint. relation_decided picks found (sure disjoint)))
+      (relation_is u budget picks found rows always.totals) lacks (observing.none always.unseen, always.shows) tt (λ seen_rows. always.fits) (λ disjoint. relation_decided picks found (sure disjoint)))
 
   -- ---- both ends
 
@@ -154,7 +154,8 @@ module _ (schema : Schema) (constraints : List Constraint) (query : Query) (seen
               observing.none none,
               do_cross schema constraints query seen nodes formed limited tree budget asking found lawful is.low_end is.high_end low_done high_done crossed',
               subst IsExtreme (sym agg_is) (is_extreme far),
-            ) (low_done.base.searched, high_done.base.searched) (λ disjoint. relation_decided low.picks found (listed disjoint))
+            ) (low_done.base.searched, high_done.base.searched)
+            (both_fit schema constraints query seen nodes formed limited tree budget asking found lawful is.low_end is.high_end low_done high_done) (λ disjoint. relation_decided low.picks found (listed disjoint))
 
         by_test : (test : Bool) → int_lt is.high_end.value.num is.low_end.value.num ≡ test →
             Owes s budget (cond test (crossed observed (relation_from low.picks found) is.low_end is.high_end) (record { relation = relation_from low.picks found; lack = is.lack; ends = Some (is.low_end, is.high_end) }))

@@ -128,8 +128,8 @@ module _ (schema : Schema) (constraints : List Constraint) (query : Query) (seen
         (giving s picks some.1 (posed schema constraints query seen nodes formed asking) (tree_for schema constraints query seen nodes formed asking tree) of_cells own some.4.0.1)
 
     never_done : (by' : NeverBy) → IsLacking u observed budget found (lackings.Never by') → IsLackDone s budget found (lacks.Never by')
-    never_done nevers.Rows is = record { holds = observing.some is; silent = sym lacks_value; given = refl; from = All-nil IsThere; licensed = λ answer from. tt; searched = tt }
-    never_done (nevers.Tree t) is = record { holds = is.1; silent = sym lacks_value; given = refl; from = All-nil IsThere; licensed = λ answer from. tt; searched = tt }
+    never_done nevers.Rows is = record { holds = observing.some is; silent = sym lacks_value; given = refl; from = All-nil IsThere; licensed = λ answer from. tt; searched = tt; fits = tt }
+    never_done (nevers.Tree t) is = record { holds = is.1; silent = sym lacks_value; given = refl; from = All-nil IsThere; licensed = λ answer from. tt; searched = tt; fits = is.2 }
 
     undecided_by : (answer : Answer) → ShownFrom s found answer → seen_count s.question ≡ pos 0 → IsDoubt (fewest_chosen u) wants.Without budget found → IsDoubt (most_chosen u) wants.Gaining budget found →
         All (λ counts. IsFound (fewest_chosen u) wants.Without counts → ⊥) found ⊎ All (λ counts. IsFound (most_chosen u) wants.Gaining counts → ⊥) found → LicensedLack s budget answer lacks.Undecided
@@ -150,6 +150,7 @@ module _ (schema : Schema) (constraints : List Constraint) (query : Query) (seen
           (All-cons IsThere given [] (listed (most_chosen u) wants.Gaining given is.1) (All-nil IsThere));
       licensed = λ answer from. tt;
       searched = tt;
+      fits = tt;
     }
     open_done lacks.Undecided none fewest most is = record {
       holds = tt;
@@ -158,6 +159,7 @@ module _ (schema : Schema) (constraints : List Constraint) (query : Query) (seen
       from = All-nil IsThere;
       licensed = λ answer from. undecided_by answer from none fewest most is;
       searched = tt;
+      fits = tt;
     }
     open_done lacks.Silent none fewest most is = absurd is
     open_done (lacks.Never by') none fewest most is = absurd is

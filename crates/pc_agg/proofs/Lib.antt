@@ -1,6 +1,7 @@
 pub mod Aiming
 pub mod Asking
 pub mod Attained
+pub mod EndSizes
 pub mod Ending
 pub mod FallingSteps
 pub mod Filling

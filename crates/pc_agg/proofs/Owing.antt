@@ -1,6 +1,6 @@
 -- Answers over a settled relation and two ends owe what they must.
 use Rattle.std.proofs.Common.{◌≡◌, ℕ, Bool, true, false, ◌&&◌, cond, inl, List, [], ◌++◌, get_or, All, Any, Contains, Some, None, refl, sym, ap, ap₂, subst, ◌∙◌, true≢false, arith}
-use Rattle.std.specs.Prelude.{◌||◌, int_lt}
+use Rattle.std.specs.Prelude.{◌||◌, ◌≤◌, ◌^◌, nat_abs, int_lt}
 use Rattle.std.proofs.lemmas.Bool.{and_parts}
 use Rattle.std.proofs.lemmas.Int.{ints}
 use Rattle.std.proofs.lemmas.List.Elements.{All-append, All-cons, All-head, All-nil, All-contains}
@@ -32,7 +32,7 @@ use Rattle.pc_bound.specs.declared.program.Program.{Program}
 use Rattle.pc_bound.specs.Allocation.{IsAllocation}
 use Rattle.pc_proof.specs.Setting.{Setting, region_of, leaves, program_for}
 use Rattle.pc_proof.specs.Table.{ratio_of, one, minus_one, EndsCross, HasValue, ShowsAlways, ShowsImpossible}
-use Rattle.pc_proof.specs.Unbroken.{HoldsRelation, HoldsLack, IsDecided, IsExact, MayStand, plain_relation, plain_lack}
+use Rattle.pc_proof.specs.Unbroken.{HoldsRelation, HoldsLack, HasForm, IsUnbroken, IsDecided, IsExact, MayStand, plain_relation, plain_lack}
 use Rattle.pc_licence.specs.Licensed.{LicensedRelation, LicensedLack, IfOuter, IsSettledLack}
 use Rattle.pc_licence.specs.Pools.{AreLawful, ShownFrom}
 use Rattle.pc_licence.specs.Searched.{WhySearched, AlwaysSearched, RelationSearched, LackSearched}
@@ -44,11 +44,13 @@ use Rattle.pc_search.specs.declared.extreme.Extreme.TheVariants.{Low, High}
 use Rattle.pc_agg.specs.Answered.{impossible_by, answer_between, bounded_by, is_open, IsAnswer, IsBetween}
 use Rattle.pc_search.specs.Asked.{Asking, setting_for}
 use Rattle.pc_search.specs.Ends.{program_towards}
+use Rattle.pc_search.specs.Fitting.{AreObserved, IsFitBounded, IsFitWhy, IsFitAlways, IsFitRelation, IsFitLack}
 use Rattle.pc_search.specs.Limits.{IsReached}
 use Rattle.pc_agg.specs.Marks.{IsAim, IsAmong}
 use Rattle.pc_agg.specs.Owed.{Owes, OwesSettled, answer_of, HasEnds, CanGive, IsGiving, MayGiveOne, LeavesLack}
 use Rattle.pc_search.specs.Settings.{unseen}
 use Rattle.pc_agg.specs.Settling.{IsListed, IsUnlisted, IsOfCells, IsRelation, IsSettled}
+use Rattle.pc_search.proofs.FormedAnswers.{formed_relation, formed_lack, formed_answer}
 use Rattle.pc_agg.proofs.Attained.{lawful_runs, counted_runs}
 use Rattle.pc_agg.proofs.Ending.{IsEndDone, IsDone, end_done, end_exact}
 use Rattle.pc_agg.proofs.Questions.{tree_for}
@@ -67,6 +69,7 @@ pub record IsLackDone (s : Setting) (budget : ℕ) (found : List (List ℕ)) (la
   pub from : All (λ runs. Contains found (counts_of_runs s runs)) (runs_of_lack lack)
   pub licensed : (answer : Answer) → ShownFrom s found answer → LicensedLack s budget answer lack
   pub searched : LackSearched s budget lack
+  pub fits : IsFitLack s.question.query.agg lack
 
 -- a relation that breaks no rule, whose lists were found
 pub record IsRelationDone (s : Setting) (budget : ℕ) (found : List (List ℕ)) (relation : Relation) : Type 0 where
@@ -74,6 +77,7 @@ pub record IsRelationDone (s : Setting) (budget : ℕ) (found : List (List ℕ))
   pub from : All (λ runs. Contains found (counts_of_runs s runs)) (runs_of_relation relation)
   pub licensed : (answer : Answer) → ShownFrom s found answer → LicensedRelation s budget answer relation
   pub searched : RelationSearched s budget relation
+  pub fits : IsFitRelation s.question.query.agg relation
   pub undecided : relation ≡ relations.Undecided → found ≡ []
 
 or_true : (b : Bool) → (b || true) ≡ true
@@ -160,12 +164,22 @@ module _ (schema : Schema) (constraints : List Constraint) (query : Query) (seen
   relation_searched found (relations.Impossible why) is = why_searched why is.1
   relation_searched found relations.Undecided is = tt
 
+  pub fit_of_cells : (why : Why) → IsOfCells why → IsFitWhy query.agg why
+  fit_of_cells (whys.Void t) of = of
+  fit_of_cells (whys.Cross t v) of = of
+  fit_of_cells (whys.Ends low high) of = absurd of
+
+  relation_fits : (found : List (List ℕ)) (relation : Relation) → IsRelation u budget found relation → IsFitRelation query.agg relation
+  relation_fits found (relations.Possible runs) is = tt
+  relation_fits found (relations.Impossible why) is = fit_of_cells why is.1
+  relation_fits found relations.Undecided is = tt
+
   pub settled_with : (found : List (List ℕ)) (relation : Relation) (lack : Lack) → All (AreLawful u) found → IsRelation u budget found relation →
-      plain.is_silent (plain_lack lack) ≡ (always_has_value query.agg || plain.is_impossible (plain_relation relation)) → HoldsLack s lack → LackSearched s budget lack → All (IsThere found) (runs_of_lack lack) →
+      plain.is_silent (plain_lack lack) ≡ (always_has_value query.agg || plain.is_impossible (plain_relation relation)) → HoldsLack s lack → LackSearched s budget lack → IsFitLack query.agg lack → All (IsThere found) (runs_of_lack lack) →
       ((answer : Answer) → ShownFrom s found answer → LicensedLack s budget answer lack) → (AreDisjoint schema constraints → IsDecided relation × IsSettledLack lack) →
       (always_has_value query.agg ≡ false → HasEnds relation lack → CanGive s × MayGiveOne s budget found) → (lack ≡ lacks.Undecided → LeavesLack s budget found) →
       (AreDisjoint schema constraints → always_has_value query.agg ≡ false → HasEnds relation lack → Any (IsGiving s) found) → OwesSettled s budget relation lack found
-  settled_with found relation lack lawful is silent lack_holds lack_searched lack_from lack_licensed decided gives open_lack surely =
+  settled_with found relation lack lawful is silent lack_holds lack_searched lack_fits lack_from lack_licensed decided gives open_lack surely =
       let shown = shown_settled found relation lack lawful is lack_from in
       record {
         relation_holds = relation_holds found relation lawful is;
@@ -180,6 +194,11 @@ module _ (schema : Schema) (constraints : List Constraint) (query : Query) (seen
           high_unshown = tt;
         };
         searched = record { relation = relation_searched found relation is; lack = lack_searched; low = tt; high = tt };
+        fits = (relation_fits found relation is, lack_fits);
+        formed = (
+          formed_relation s formed limited tree_at relation (relation_holds found relation lawful is) (relation_fits found relation is),
+          formed_lack s formed limited tree_at lack lack_holds lack_fits,
+        );
         lawful = lawful;
         shown = shown;
         undecided = nothing_found found relation is;
@@ -196,7 +215,7 @@ module _ (schema : Schema) (constraints : List Constraint) (query : Query) (seen
   settled_as : (found : List (List ℕ)) (relation : Relation) → always_has_value query.agg ≡ true → All (AreLawful u) found → IsRelation u budget found relation → (AreDisjoint schema constraints → IsDecided relation) →
       OwesSettled s budget relation lacks.Silent found
   settled_as found relation always lawful is decided =
-      settled_with found relation lacks.Silent lawful is (sym (ap (λ test. test || plain.is_impossible (plain_relation relation)) always)) tt tt (All-nil (IsThere found)) (λ answer from. tt)
+      settled_with found relation lacks.Silent lawful is (sym (ap (λ test. test || plain.is_impossible (plain_relation relation)) always)) tt tt tt (All-nil (IsThere found)) (λ answer from. tt)
       (λ disjoint. (decided disjoint, tt)) (λ no ends. absurd (true≢false (sym always ∙ no))) (silent_left found) (λ disjoint no ends. absurd (true≢false (sym always ∙ no)))
 
   pub owes_settled : (settled : Settled) → always_has_value query.agg ≡ true → IsSettled u budget settled → (AreDisjoint schema constraints → IsDecided settled.relation) → OwesSettled s budget settled.relation settled.lack settled.found
@@ -206,7 +225,7 @@ module _ (schema : Schema) (constraints : List Constraint) (query : Query) (seen
   -- nothing is possible, whatever the aggregate
   pub settled_impossible : (why : Why) → ShowsImpossible u why → IsOfCells why → OwesSettled s budget (relations.Impossible why) lacks.Silent []
   settled_impossible why shows of =
-      settled_with [] (relations.Impossible why) lacks.Silent (All-nil (AreLawful u)) (shows, of) (sym (or_true (always_has_value query.agg))) tt tt (All-nil (IsThere [])) (λ answer from. tt) (λ disjoint. (tt, tt))
+      settled_with [] (relations.Impossible why) lacks.Silent (All-nil (AreLawful u)) (shows, of) (sym (or_true (always_has_value query.agg))) tt tt tt (All-nil (IsThere [])) (λ answer from. tt) (λ disjoint. (tt, tt))
       (λ no ends. absurd (true≢false ends.0)) (silent_left []) (λ disjoint no ends. absurd (true≢false ends.0))
 
   relation_done : (found : List (List ℕ)) (relation : Relation) → All (AreLawful u) found → IsRelation u budget found relation → IsRelationDone s budget found relation
@@ -215,6 +234,7 @@ module _ (schema : Schema) (constraints : List Constraint) (query : Query) (seen
     from = relation_from found relation lawful is;
     licensed = λ answer from. relation_licensed found relation answer is from;
     searched = relation_searched found relation is;
+    fits = relation_fits found relation is;
     undecided = nothing_found found relation is;
   }
 
@@ -223,19 +243,26 @@ module _ (schema : Schema) (constraints : List Constraint) (query : Query) (seen
   settled_here : AreSettled constraints (region_of s.question) (leaves s)
   settled_here = tree_at.settled
 
-  pub owes_impossible : (why : Why) → ShowsImpossible s why → WhySearched s budget why → Owes s budget (impossible_by why)
-  owes_impossible why shows searched = record {
-    form = record {
-      named = asking.named;
-      preorder = tree.preorder;
-      silent = sym (or_true (always_has_value query.agg));
-      absent = refl;
-      low = tt;
-      high = tt;
-    };
-    unbroken = record { allowed = asking.allowed; proper = tree.proper; settled = settled_here; relation = shows; lack = tt; low = tt; high = tt };
+  impossible_form : (why : Why) → HasForm s (impossible_by why)
+  impossible_form why = record {
+    named = asking.named;
+    preorder = tree.preorder;
+    silent = sym (or_true (always_has_value query.agg));
+    absent = refl;
+    low = tt;
+    high = tt;
+  }
+
+  impossible_unbroken : (why : Why) → ShowsImpossible s why → IsUnbroken s (impossible_by why)
+  impossible_unbroken why shows = record { allowed = asking.allowed; proper = tree.proper; settled = settled_here; relation = shows; lack = tt; low = tt; high = tt }
+
+  pub owes_impossible : (why : Why) → ShowsImpossible s why → WhySearched s budget why → (AreObserved s → IsFitWhy query.agg why) → Owes s budget (impossible_by why)
+  owes_impossible why shows searched fits = record {
+    form = impossible_form why;
+    unbroken = impossible_unbroken why shows;
     licensed = record { relation = tt; lack = tt; low = tt; high = tt; low_unshown = tt; high_unshown = tt };
     searched = record { relation = searched; lack = tt; low = tt; high = tt };
+    formed = λ seen_rows. formed_answer s formed limited tree_at (impossible_by why) (impossible_form why) (impossible_unbroken why shows) (record { relation = fits seen_rows; lack = tt; ends = tt });
     sharp = λ disjoint. (record { decided = tt; ends = tt }, tt);
   }
 
@@ -244,7 +271,7 @@ module _ (schema : Schema) (constraints : List Constraint) (query : Query) (seen
   -- ---- the lack beside a relation that may hold
 
   pub silent_done : (found : List (List ℕ)) → always_has_value query.agg ≡ true → IsLackDone s budget found lacks.Silent
-  silent_done found always = record { holds = tt; silent = sym always; given = refl; from = All-nil (IsThere found); licensed = λ answer from. tt; searched = tt }
+  silent_done found always = record { holds = tt; silent = sym always; given = refl; from = All-nil (IsThere found); licensed = λ answer from. tt; searched = tt; fits = tt }
 
   -- ---- no list gives a value
 
@@ -252,17 +279,10 @@ module _ (schema : Schema) (constraints : List Constraint) (query : Query) (seen
   always_as relation by' = record { relation = relation; lack = lacks.Always by'; ends = None }
 
   pub owes_always : (found : List (List ℕ)) (relation : Relation) (by' : AlwaysBy) → All (AreLawful u) found → plain.is_impossible (plain_relation relation) ≡ false → IsRelation u budget found relation →
-      always_has_value query.agg ≡ false → ShowsAlways s by' → AlwaysSearched s budget by' → (AreDisjoint schema constraints → IsDecided relation) → Owes s budget (always_as relation by')
-  owes_always found relation by' lawful may is lacks_value shows searched decided = record {
-    form = record {
-      named = asking.named;
-      preorder = tree.preorder;
-      silent = sym (ap₂ ◌||◌ lacks_value may);
-      absent = sym (or_true (plain.is_impossible (plain_relation relation)));
-      low = tt;
-      high = tt;
-    };
-    unbroken = record { allowed = asking.allowed; proper = tree.proper; settled = settled_here; relation = relation_holds found relation lawful is; lack = shows; low = tt; high = tt };
+      always_has_value query.agg ≡ false → ShowsAlways s by' → AlwaysSearched s budget by' → (AreObserved s → IsFitAlways query.agg by') → (AreDisjoint schema constraints → IsDecided relation) → Owes s budget (always_as relation by')
+  owes_always found relation by' lawful may is lacks_value shows searched fits decided = record {
+    form = form;
+    unbroken = unbroken;
     licensed = record {
       relation = relation_licensed found relation (always_as relation by') is (shown_settled found relation (lacks.Always by') lawful is (All-nil (IsThere found)));
       lack = tt;
@@ -272,8 +292,22 @@ module _ (schema : Schema) (constraints : List Constraint) (query : Query) (seen
       high_unshown = tt;
     };
     searched = record { relation = relation_searched found relation is; lack = searched; low = tt; high = tt };
+    formed = λ seen_rows. formed_answer s formed limited tree_at (always_as relation by') form unbroken (record { relation = relation_fits found relation is; lack = fits seen_rows; ends = tt });
     sharp = λ disjoint. (record { decided = decided disjoint; ends = tt }, tt);
   }
+    where
+      form : HasForm s (always_as relation by')
+      form = record {
+        named = asking.named;
+        preorder = tree.preorder;
+        silent = sym (ap₂ ◌||◌ lacks_value may);
+        absent = sym (or_true (plain.is_impossible (plain_relation relation)));
+        low = tt;
+        high = tt;
+      }
+
+      unbroken : IsUnbroken s (always_as relation by')
+      unbroken = record { allowed = asking.allowed; proper = tree.proper; settled = settled_here; relation = relation_holds found relation lawful is; lack = shows; low = tt; high = tt }
 
   -- ---- both ends
 
@@ -306,23 +340,8 @@ module _ (schema : Schema) (constraints : List Constraint) (query : Query) (seen
     owes_ends relation lack may is done low_unshown high_unshown decided =
         let shown = shown_from relation lack is done in
         record {
-          form = record {
-            named = asking.named;
-            preorder = tree.preorder;
-            silent = done.silent ∙ sym (ap (λ test. always_has_value query.agg || test) may ∙ or_false (always_has_value query.agg));
-            absent = sym (ap₂ ◌||◌ may done.given);
-            low = low_end.formed;
-            high = high_end.formed;
-          };
-          unbroken = record {
-            allowed = asking.allowed;
-            proper = tree.proper;
-            settled = settled_here;
-            relation = is.holds;
-            lack = done.holds;
-            low = (low_end.holds, stands relation low is low_end.from);
-            high = (high_end.holds, stands relation high is high_end.from);
-          };
+          form = form;
+          unbroken = unbroken;
           licensed = record {
             relation = is.licensed (with_ends relation lack) shown;
             lack = done.licensed (with_ends relation lack) shown;
@@ -332,7 +351,29 @@ module _ (schema : Schema) (constraints : List Constraint) (query : Query) (seen
             high_unshown = high_unshown;
           };
           searched = record { relation = is.searched; lack = done.searched; low = low_end.searched; high = high_end.searched };
+          formed = λ seen_rows. formed_answer s formed limited tree_at (with_ends relation lack) form unbroken (record { relation = is.fits; lack = done.fits; ends = (low_end.fits seen_rows, high_end.fits seen_rows) });
           sharp = λ disjoint. let all = decided disjoint in (record { decided = all.0; ends = (all.1, all.2) }, all.3);
+        }
+      where
+        form : HasForm s (with_ends relation lack)
+        form = record {
+          named = asking.named;
+          preorder = tree.preorder;
+          silent = done.silent ∙ sym (ap (λ test. always_has_value query.agg || test) may ∙ or_false (always_has_value query.agg));
+          absent = sym (ap₂ ◌||◌ may done.given);
+          low = low_end.formed;
+          high = high_end.formed;
+        }
+
+        unbroken : IsUnbroken s (with_ends relation lack)
+        unbroken = record {
+          allowed = asking.allowed;
+          proper = tree.proper;
+          settled = settled_here;
+          relation = is.holds;
+          lack = done.holds;
+          low = (low_end.holds, stands relation low is low_end.from);
+          high = (high_end.holds, stands relation high is high_end.from);
         }
 
   module _ (found : List (List ℕ)) (lawful : All (AreLawful u) found) (low high : End) (low_done : IsDone Low s budget query.agg found low) (high_done : IsDone High s budget query.agg found high) where
@@ -353,9 +394,15 @@ module _ (schema : Schema) (constraints : List Constraint) (query : Query) (seen
         not_at_most : IsAtMost (ratio_of low.value) (ratio_of high.value) → ⊥
         not_at_most less = omega (arith, ints, (rw (low_done.is_whole, high_done.is_whole) at less), crossed)
 
+    pub both_fit : AreObserved s → IsFitBounded query.agg (bounded_by low) × IsFitBounded query.agg (bounded_by high)
+    both_fit seen_rows =
+        let first = low_done.base.fits seen_rows in
+        let second = high_done.base.fits seen_rows in
+        (record { value = first.value; proof = first.proof }, record { value = second.value; proof = second.proof })
+
     -- leave nothing possible where each list has a value
     pub crossing : HasValue s.question → int_lt high.value.num low.value.num ≡ true → Owes s budget (impossible_by (whys.Ends (bounded_by low) (bounded_by high)))
-    crossing valued crossed = owes_impossible (whys.Ends (bounded_by low) (bounded_by high)) (do_cross crossed, valued) (low_done.base.searched, high_done.base.searched)
+    crossing valued crossed = owes_impossible (whys.Ends (bounded_by low) (bounded_by high)) (do_cross crossed, valued) (low_done.base.searched, high_done.base.searched) both_fit
 
     pub owes_between : (relation : Relation) → always_has_value query.agg ≡ true → plain.is_impossible (plain_relation relation) ≡ false → IsRelation u budget found relation →
         (AreDisjoint schema constraints → IsDecided relation × IsExact low.mark × IsExact high.mark) → Owes s budget (answer_between relation low high)
@@ -368,27 +415,27 @@ module _ (schema : Schema) (constraints : List Constraint) (query : Query) (seen
 
   -- ---- an answer of a count or a sum
 
-  module _ (always : always_has_value query.agg ≡ true) (settled : Settled) (is : IsSettled u budget settled) (low high : Aim) (is_low : IsAim u query.agg budget Low low) (is_high : IsAim u query.agg budget High high)
+  module _ (few_seen : seen.count ≤ 1_000_000) (small_seen : nat_abs seen.sum ≤ 2 ^ 83) (always : always_has_value query.agg ≡ true) (settled : Settled) (is : IsSettled u budget settled) (low high : Aim) (is_low : IsAim u query.agg budget Low low) (is_high : IsAim u query.agg budget High high)
       (low_among : IsAmong settled.found low.limit) (high_among : IsAmong settled.found high.limit)
       (decided : AreDisjoint schema constraints → IsDecided settled.relation × IsReached (program_towards u query.agg Low) low.limit.most low.limit.found × IsReached (program_towards u query.agg High) high.limit.most high.limit.found) where
     owes_from : (relation : Relation) (answer : Answer) → settled.relation ≡ relation → plain.is_impossible (plain_relation relation) ≡ false → IsBetween seen query.agg relation settled.found low high answer → Owes s budget answer
     owes_from relation answer same may between =
-        let low_done = end_done schema constraints query seen nodes formed limited tree always budget settled.found is.lawful asking Low low is_low low_among between.low_end between.low_is in
-        let high_done = end_done schema constraints query seen nodes formed limited tree always budget settled.found is.lawful asking High high is_high high_among between.high_end between.high_is in
+        let low_done = end_done schema constraints query seen nodes formed limited tree always budget settled.found is.lawful asking few_seen small_seen Low low is_low low_among between.low_end between.low_is in
+        let high_done = end_done schema constraints query seen nodes formed limited tree always budget settled.found is.lawful asking few_seen small_seen High high is_high high_among between.high_end between.high_is in
         subst (Owes s budget) (sym between.answer_is)
         (owes_between settled.found is.lawful between.low_end between.high_end low_done high_done relation always may (subst (IsRelation u budget settled.found) same is.relation)
         (λ disjoint.
         let all = decided disjoint in (
           subst IsDecided same all.0,
-          end_exact schema constraints query seen nodes formed limited tree always budget settled.found is.lawful asking Low low is_low low_among between.low_end between.low_is all.1,
-          end_exact schema constraints query seen nodes formed limited tree always budget settled.found is.lawful asking High high is_high high_among between.high_end between.high_is all.2,
+          end_exact schema constraints query seen nodes formed limited tree always budget settled.found is.lawful asking few_seen small_seen Low low is_low low_among between.low_end between.low_is all.1,
+          end_exact schema constraints query seen nodes formed limited tree always budget settled.found is.lawful asking few_seen small_seen High high is_high high_among between.high_end between.high_is all.2,
         )))
 
     owes_as : (relation : Relation) (answer : Answer) → settled.relation ≡ relation → IsAnswer seen query.agg relation settled.found low high answer → Owes s budget answer
     owes_as (relations.Possible runs) answer same answers = owes_from (relations.Possible runs) answer same refl answers
     owes_as (relations.Impossible why) answer same answers =
         let shown = subst (IsRelation u budget settled.found) same is.relation in
-        subst (Owes s budget) (sym answers) (owes_impossible why (impossible_here why shown.0 shown.1) (why_searched why shown.1))
+        subst (Owes s budget) (sym answers) (owes_impossible why (impossible_here why shown.0 shown.1) (why_searched why shown.1) (λ seen_rows. fit_of_cells why shown.1))
     owes_as relations.Undecided answer same answers = owes_from relations.Undecided answer same refl answers
 
     pub owes : (answer : Answer) → IsAnswer seen query.agg settled.relation settled.found low high answer → Owes s budget answer

@@ -33,6 +33,7 @@ use Rattle.pc_agg.specs.declared.grounds.Grounded.{Grounded}
 use Rattle.pc_agg.specs.declared.grounds.Grounded.TheVariants as grounded
 use Rattle.pc_agg.specs.declared.settling.Settled.{Settled}
 use Rattle.pc_search.specs.Asked.{Asking, setting_for}
+use Rattle.pc_search.specs.Fitting.{IsFitLack}
 use Rattle.pc_agg.specs.Extremes.{relation_from, HasLawful, IsLackFrom, IsSettledOver, IsSettledFrom}
 use Rattle.pc_agg.specs.Grounds.{IsGrounded, IsGroundedSurely, IsUnlistedIfNone}
 use Rattle.pc_agg.specs.Owed.{OwesSettled, CanGive, IsGiving, MayGiveOne, LeavesLack}
@@ -86,13 +87,13 @@ module _ (schema : Schema) (constraints : List Constraint) (query : Query) (seen
 
   -- a list of the first counts, and a lack that is known
   settled_over : (found : List (List ℕ)) (settled : Settled) (lack : Lack) → IsSettledOver u found settled → settled.lack ≡ lack → All (AreLawful u) found → IsUnlistedIfNone u budget found →
-      plain.is_silent (plain_lack lack) ≡ false → HoldsLack s lack → LackSearched s budget lack → All (IsThere found) (runs_of_lack lack) → ((answer : Answer) → ShownFrom s found answer → LicensedLack s budget answer lack) →
+      plain.is_silent (plain_lack lack) ≡ false → HoldsLack s lack → LackSearched s budget lack → IsFitLack query.agg lack → All (IsThere found) (runs_of_lack lack) → ((answer : Answer) → ShownFrom s found answer → LicensedLack s budget answer lack) →
       (AreDisjoint schema constraints → (0 < length found) × IsSettledLack lack) → (plain.is_always (plain_lack lack) ≡ false → CanGive s × MayGiveOne s budget found) → (lack ≡ lacks.Undecided → LeavesLack s budget found) →
       (AreDisjoint schema constraints → plain.is_always (plain_lack lack) ≡ false → Any (IsGiving s) found) → OwesSettled s budget settled.relation settled.lack settled.found
-  settled_over found settled lack is same lawful totals silent holds searched from licensed sure gives open_lack surely =
+  settled_over found settled lack is same lawful totals silent holds searched fits from licensed sure gives open_lack surely =
       let owed =
       settled_with schema constraints query seen nodes formed limited tree budget asking found (relation_from is.picks found) lack lawful (relation_is u budget is.picks found is.rows totals)
-      (silent ∙ sym (ap₂ ◌||◌ lacks_value (relation_may is.picks found))) holds searched from licensed
+      (silent ∙ sym (ap₂ ◌||◌ lacks_value (relation_may is.picks found))) holds searched fits from licensed
       (λ disjoint. let own = sure disjoint in (relation_decided is.picks found own.0, own.1)) (λ no ends. gives ends.1) open_lack (λ disjoint no ends. surely disjoint ends.1) in
       subst (OwesSettled s budget settled.relation settled.lack) (sym is.found_is)
       (subst (λ relation. OwesSettled s budget relation settled.lack found) (sym is.relation_is)
@@ -107,13 +108,13 @@ module _ (schema : Schema) (constraints : List Constraint) (query : Query) (seen
       subst (λ (x : Settled). OwesSettled s budget x.relation x.lack x.found) (sym from)
       (settled_impossible schema constraints query seen nodes formed limited tree budget asking why is.0 is.1)
   owes_grounded observed observing (grounded.Always by_tree found) settled is sure from =
-      settled_over found settled (lacks.Always (alwayses.Tree by_tree)) from.0 from.1 is.lawful is.totals refl (observing.none is.unseen, is.shows) tt (All-nil (IsThere found)) (λ answer shown. tt)
+      settled_over found settled (lacks.Always (alwayses.Tree by_tree)) from.0 from.1 is.lawful is.totals refl (observing.none is.unseen, is.shows) tt is.fits (All-nil (IsThere found)) (λ answer shown. tt)
       (λ disjoint. (sure disjoint, tt)) (λ may. absurd (true≢false may)) (settled_lack_left (lacks.Always (alwayses.Tree by_tree)) found refl) (λ disjoint may. absurd (true≢false may))
   owes_grounded observed observing (grounded.Open grounds) settled is sure from =
       let done =
       lack_done schema constraints query seen nodes formed tree budget asking lacks_value observed observing from.0.picks from.0.rows grounds.found is.lawful grounds.lacking settled.lack
       is.lacking_is is.doubt from.1 in
-      settled_over grounds.found settled settled.lack from.0 refl is.lawful is.totals (done.silent ∙ lacks_value) done.holds done.searched done.from done.licensed
+      settled_over grounds.found settled settled.lack from.0 refl is.lawful is.totals (done.silent ∙ lacks_value) done.holds done.searched done.fits done.from done.licensed
       (λ disjoint.
       let own = sure disjoint in
       (own.listed, lack_settled u observed budget from.0.picks grounds.found grounds.lacking settled.lack is.lacking_is own.lacking_surely own.found_some from.1))

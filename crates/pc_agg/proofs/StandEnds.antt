@@ -1,6 +1,6 @@
 -- The end that a stand gives breaks no rule, and where it stays outer it is licensed.
-use Rattle.std.proofs.Common.{◌≡◌, ℕ, ℤ, pos, ◌≤ℤ◌, inl, inr, ◌⊎◌, List, [], ◌∷◌, get_or, All, Any, Contains, Option, refl, sym, ap, ap₂, subst, ◌∙◌, arith}
-use Rattle.std.specs.Prelude.{IfSome, IsSomeAnd, is_some}
+use Rattle.std.proofs.Common.{◌≡◌, ℕ, ◌≤◌, ◌^◌, ℤ, pos, ◌≤ℤ◌, inl, inr, ◌⊎◌, List, [], ◌∷◌, get_or, All, Any, Contains, Option, refl, sym, ap, ap₂, subst, ◌∙◌, arith}
+use Rattle.std.specs.Prelude.{IfSome, IsSomeAnd, is_some, nat_abs}
 use Rattle.std.specs.List.{AllZip}
 use Rattle.std.proofs.lemmas.Int.{ints}
 use Rattle.std.proofs.lemmas.List.Elements.{All-contains, All-head, All-nil, All-cons}
@@ -27,6 +27,7 @@ use Rattle.pc_proof.specs.declared.answer.End.{End}
 use Rattle.pc_proof.specs.declared.answer.Answer.{Answer}
 use Rattle.pc_proof.specs.Setting.{Setting, cells, program_for}
 use Rattle.pc_proof.specs.Table.{one, HasRatio}
+use Rattle.pc_proof.specs.Form.{IsFormedValue}
 use Rattle.pc_proof.specs.Unbroken.{HoldsMark, MayShow, IsExact}
 use Rattle.pc_licence.specs.Licensed.{IfOuter, IsSpent, BothTotals}
 use Rattle.pc_licence.specs.Pools.{AreLawful, ShownFrom, HoldsNone}
@@ -42,6 +43,7 @@ use Rattle.pc_search.specs.declared.want.Want.{Want}
 use Rattle.pc_search.specs.declared.want.Want.TheVariants as wants
 use Rattle.pc_search.specs.Asked.{Asking, setting_for}
 use Rattle.pc_search.specs.Ends.{signed, HoldsEnd}
+use Rattle.pc_search.specs.Fitting.{IsFitProof, IsFitEnd}
 use Rattle.pc_agg.specs.Extremes.{agg_of, seen_number, test_at, key_at}
 use Rattle.pc_search.specs.Wants.{want_for}
 use Rattle.pc_agg.specs.Grounds.{IsUnlistedIfNone}
@@ -85,6 +87,22 @@ may_show_tree s budget extreme Reach seen key mark (proofs.At r t) proved = absu
 may_show_tree s budget extreme Avoid seen key mark (proofs.At r t) proved = absurd proved
 may_show_tree s budget extreme Reach seen key mark proofs.Values proved = absurd proved
 may_show_tree s budget extreme Avoid seen key mark proofs.Values proved = absurd proved
+
+-- ---- the value and the tree of an end fit
+
+signed_few : (extreme : Extreme) (key : ℤ) → nat_abs key ≤ 2 ^ 63 → nat_abs (signed extreme key) ≤ 10 ^ 31
+signed_few Low key few = omega (arith, ints, few)
+signed_few High key few = omega (arith, few)
+
+key_value : (far : Extreme) (number : ℤ) → nat_abs number ≤ 10 ^ 31 → IsFormedValue (agg_of far) (record { num = number; den = pos 1 })
+key_value Low number small = record { one = refl; small = small }
+key_value High number small = record { one = refl; small = small }
+
+proof_fits : (u : Setting) (budget : ℕ) (extreme : Extreme) (test : Test) (seen : Option ℤ) (key : ℤ) (proof : Proof) → IsProved u budget extreme test seen key proof → IsFitProof proof
+proof_fits u budget extreme test seen key proofs.Rows proved = tt
+proof_fits u budget extreme test seen key proofs.Values proved = tt
+proof_fits u budget extreme test seen key (proofs.Tree tree) proved = record { preorder = proved.preorder; leaves = proved.fits }
+proof_fits u budget extreme test seen key (proofs.At r t) proved = absurd proved
 
 module _ (schema : Schema) (constraints : List Constraint) (query : Query) (seen : Folded) (nodes : List CutNode) (formed : IsWellFormed schema) (limited : AreConstraints schema constraints)
     (tree : IsSettledTree schema constraints query.chosen nodes) (budget : ℕ) (asking : Asking schema constraints query seen) (IsNumbered : ℕ → Type 0) (numbered : IsSomeAnd query.column IsNumbered)
@@ -303,6 +321,13 @@ module _ (schema : Schema) (constraints : List Constraint) (query : Query) (seen
         (subst (Contains found) (sym (ap (counts_of_runs s) marked.4.1 ∙ counted)) (marked.0, marked.2, marked.3))
         (All-nil (λ r. Contains found (counts_of_runs s r)))
 
+    -- its value is the key, and its tree fits
+    fits_end : (mark : Mark) → IsFitEnd query.agg (end_with mark)
+    fits_end mark = subst (λ agg. IsFitEnd agg (end_with mark)) (sym agg_is) (record {
+      value = key_value far (signed extreme stand.key) (signed_few extreme stand.key is.few);
+      proof = proof_fits u budget extreme (test_at far extreme) (key_at extreme number) stand.key stand.proof is.proved;
+    })
+
     done_with : (mark : Mark) → IsMarkedBy stand found mark → IsDone extreme s budget query.agg found (end_with mark)
     done_with mark marked = record {
       base = record {
@@ -310,6 +335,7 @@ module _ (schema : Schema) (constraints : List Constraint) (query : Query) (seen
         formed = record { positive = omega (arith, ints); ratio = ratio_here extreme stand is };
         shows = shows_as;
         searched = subst (λ agg. SearchedEnd extreme s budget agg v stand.proof) (sym agg_is) (searched_end schema constraints query seen nodes asking IsNumbered numbered budget far extreme stand.key stand.proof is.proved);
+        fits = λ seen_rows. fits_end mark;
         licensed = λ answer from. licensed_mark answer mark marked from;
         from = mark_from mark marked;
       };

@@ -1,8 +1,7 @@
 -- The rungs among which an end stands, as halving leaves them.
 use Rattle.std.specs.Prelude.{◌≡◌, ⊤, ℕ, suc, ◌+◌, ◌-◌, ◌<◌, ◌≤◌, List, length, ◌++◌, All, Any, Option, Some}
 use Rattle.pc_model.specs.declared.tree.Tree.{Tree}
-use Rattle.pc_proof.specs.Setting.{Setting, program_for}
-use Rattle.pc_proof.specs.Table.{none, ShowsNone}
+use Rattle.pc_proof.specs.Setting.{Setting}
 use Rattle.pc_licence.specs.Pools.{AreLawful}
 use Rattle.pc_agg.specs.declared.ladder.Test.{Test}
 use Rattle.pc_agg.specs.declared.ladder.Test.TheVariants.{Reach, Avoid}
@@ -13,6 +12,7 @@ use Rattle.pc_agg.specs.declared.climb.Halved.TheVariants as halves
 use Rattle.pc_search.specs.declared.probes.Verdict.{Verdict}
 use Rattle.pc_search.specs.declared.probes.Verdict.TheVariants as verdicts
 use Rattle.pc_search.specs.declared.want.Want.{Want}
+use Rattle.pc_search.specs.Fitting.{IsVoidTree}
 use Rattle.pc_agg.specs.Rungs.{program_at, IsStep}
 use Rattle.pc_search.specs.Wants.{IsDoubt, IsFound}
 
@@ -32,7 +32,7 @@ IsSureSpan s ladder want span = suc span.to < length ladder.rungs → Any (IsFou
 -- fewer rungs, or a tree that shows that there is no list
 abbrev pub IsHalved : Setting → ℕ → Ladder → Want → List (List ℕ) → Span → Halved → Type 0
 IsHalved s budget ladder want found old (halves.Within span) = IsSpan s budget ladder want found span × (span.to - span.from < old.to - old.from)
-IsHalved s budget ladder want found old (halves.Empty tree) = ShowsNone (program_for s none) tree
+IsHalved s budget ladder want found old (halves.Empty tree) = IsVoidTree s tree
 
 abbrev pub IsSureHalf : Setting → Ladder → Want → Halved → Type 0
 IsSureHalf s ladder want (halves.Within span) = IsSureSpan s ladder want span

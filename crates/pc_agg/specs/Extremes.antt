@@ -16,8 +16,7 @@ use Rattle.pc_proof.specs.declared.answer.Lack.{Lack}
 use Rattle.pc_proof.specs.declared.answer.Lack.TheVariants as lacks
 use Rattle.pc_proof.specs.declared.answer.End.{End}
 use Rattle.pc_proof.specs.declared.answer.Answer.{Answer}
-use Rattle.pc_proof.specs.Setting.{Setting, program_for}
-use Rattle.pc_proof.specs.Table.{none, ShowsNone}
+use Rattle.pc_proof.specs.Setting.{Setting}
 use Rattle.pc_licence.specs.Pools.{AreLawful}
 use Rattle.pc_search.specs.declared.extreme.Extreme.{Extreme}
 use Rattle.pc_search.specs.declared.extreme.Extreme.TheVariants.{Low, High}
@@ -34,6 +33,7 @@ use Rattle.pc_agg.specs.declared.stand.Stand.{Stand}
 use Rattle.pc_search.specs.declared.want.Want.TheVariants as wants
 use Rattle.pc_agg.specs.Answered.{impossible_by, bounded_by}
 use Rattle.pc_search.specs.Ends.{signed}
+use Rattle.pc_search.specs.Fitting.{IsVoidTree}
 use Rattle.pc_search.specs.Wants.{fewest_chosen, most_chosen}
 use Rattle.pc_agg.specs.Settling.{AreRowsOfCells}
 use Rattle.pc_agg.specs.Stands.{IsStand, IsEndAt}
@@ -67,7 +67,7 @@ pub record AreStands (s : Setting) (budget : ℕ) (far : Extreme) (number : Opti
 
 abbrev pub IsPair : Setting → ℕ → Extreme → Option ℤ → List (List ℕ) → Pair → Type 0
 IsPair s budget far number before (pairs.At low high found) = AreStands s budget far number before low high found
-IsPair s budget far number before (pairs.Empty tree) = ShowsNone (program_for s none) tree
+IsPair s budget far number before (pairs.Empty tree) = IsVoidTree s tree
 
 abbrev pub IsPairSurely : Pair → Type 0
 IsPairSurely (pairs.At low high found) = Any (IsFound low.program low.want) found × Any (IsFound high.program high.want) found

@@ -10,14 +10,14 @@ use Rattle.pc_proof.specs.declared.answer.Mark.{Mark}
 use Rattle.pc_proof.specs.declared.answer.Mark.TheVariants as marks
 use Rattle.pc_proof.specs.declared.answer.Proof.TheVariants as proofs
 use Rattle.pc_proof.specs.declared.answer.End.{End}
-use Rattle.pc_proof.specs.Setting.{Setting, cells, program_for}
-use Rattle.pc_proof.specs.Table.{none, ShowsNone}
+use Rattle.pc_proof.specs.Setting.{Setting, cells}
 use Rattle.pc_search.specs.declared.limit.Limit.{Limit}
 use Rattle.pc_agg.specs.declared.aim.Aim.{Aim}
 use Rattle.pc_agg.specs.declared.aim.Aimed.{Aimed}
 use Rattle.pc_agg.specs.declared.aim.Aimed.TheVariants.{At, Nothing}
 use Rattle.pc_search.specs.declared.extreme.Extreme.{Extreme}
 use Rattle.pc_search.specs.Ends.{IsPick, program_towards}
+use Rattle.pc_search.specs.Fitting.{IsVoidTree}
 use Rattle.pc_search.specs.Limits.{IsLimit, IsReached}
 
 -- the runs are those of counts that were found and are worth the most; or none of those that were found is
@@ -42,7 +42,7 @@ IsAmong found limit = IfSome limit.found (Contains found)
 -- an aim, or a tree that shows that there is no list
 abbrev pub IsAimed : Setting → Agg → ℕ → Extreme → Aimed → Type 0
 IsAimed s agg budget extreme (At aim) = IsAim s agg budget extreme aim
-IsAimed s agg budget extreme (Nothing tree) = ShowsNone (program_for s none) tree
+IsAimed s agg budget extreme (Nothing tree) = IsVoidTree s tree
 
 -- the search was not cut short
 abbrev pub IsAimReached : Setting → Agg → Extreme → Aimed → Type 0

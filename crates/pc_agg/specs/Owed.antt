@@ -12,22 +12,26 @@ use Rattle.pc_proof.specs.declared.answer.Lack.TheVariants as lacks
 use Rattle.pc_proof.specs.declared.answer.Answer.{Answer}
 use Rattle.pc_proof.specs.Setting.{Setting, cells, seen_count}
 use Rattle.pc_proof.specs.Unbroken.{HoldsRelation, HoldsLack, HasForm, IsUnbroken, IsSharp, IsDecided, plain_relation, plain_lack}
+use Rattle.pc_proof.specs.Form.{IsFormedRelation, IsFormedLack, IsFormedAnswer}
 use Rattle.pc_licence.specs.Licensed.{IsLicensed, IsSettledLack}
 use Rattle.pc_licence.specs.Pools.{AreLawful, ShownFrom}
 use Rattle.pc_licence.specs.Searched.{AreSearched}
 use Rattle.pc_licence.specs.Wanted.{some, without, LeavesOpen}
+use Rattle.pc_search.specs.Fitting.{AreObserved, IsFitRelation, IsFitLack}
 use Rattle.pc_search.specs.Wants.{most_chosen, fewest_chosen}
 
 -- disjoint predicates leave nothing open
 abbrev pub DisjointIsSharp : Setting → Answer → Type 0
 DisjointIsSharp s answer = AreDisjoint s.question.schema s.question.constraints → IsSharp answer × IsSettledLack answer.lack
 
--- an answer with its form that breaks no rule; what it leaves open is licensed at the budget, and its ends' trees are of a search
+-- an answer that breaks no rule, in form where the observed rows are of the schema; what it leaves open is licensed at the budget,
+-- and its ends' trees are of a search
 pub record Owes (s : Setting) (budget : ℕ) (answer : Answer) : Type 0 where
   pub form : HasForm s answer
   pub unbroken : IsUnbroken s answer
   pub licensed : IsLicensed s budget answer
   pub searched : AreSearched s budget answer
+  pub formed : AreObserved s → IsFormedAnswer s.question.schema s.question.query.agg answer
   pub sharp : DisjointIsSharp s answer
 
 -- the relation and the lack as an answer without ends
@@ -67,6 +71,8 @@ pub record OwesSettled (s : Setting) (budget : ℕ) (relation : Relation) (lack 
   pub silent : plain.is_silent (plain_lack lack) ≡ (always_has_value s.question.query.agg || plain.is_impossible (plain_relation relation))
   pub licensed : IsLicensed s budget (answer_of relation lack)
   pub searched : AreSearched s budget (answer_of relation lack)
+  pub fits : IsFitRelation s.question.query.agg relation × IsFitLack s.question.query.agg lack
+  pub formed : IsFormedRelation s.question.schema s.question.query.agg relation × IsFormedLack s.question.schema s.question.query.agg lack
   pub lawful : All (AreLawful s) found
   pub shown : ShownFrom s found (answer_of relation lack)
   pub undecided : relation ≡ relations.Undecided → found ≡ []

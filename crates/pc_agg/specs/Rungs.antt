@@ -5,7 +5,6 @@ use Rattle.pc_model.specs.Cells.{Class}
 use Rattle.pc_bound.specs.declared.program.Program.{Program}
 use Rattle.pc_bound.specs.Sums.{int_at}
 use Rattle.pc_proof.specs.Setting.{Setting, cells, on_chosen, counting, program_for, program_without}
-use Rattle.pc_proof.specs.Table.{none, ShowsNone}
 use Rattle.pc_licence.specs.Pools.{AreLawful}
 use Rattle.pc_search.specs.declared.extreme.Extreme.{Extreme}
 use Rattle.pc_agg.specs.declared.ladder.Test.{Test}
@@ -15,6 +14,7 @@ use Rattle.pc_agg.specs.declared.climb.Climbed.{Climbed}
 use Rattle.pc_agg.specs.declared.climb.Climbed.TheVariants as climbs
 use Rattle.pc_agg.specs.declared.climb.Standing.{Standing}
 use Rattle.pc_search.specs.declared.want.Want.{Want}
+use Rattle.pc_search.specs.Fitting.{IsVoidTree}
 use Rattle.pc_search.specs.Keys.{key_of}
 use Rattle.pc_search.specs.Wants.{IsDoubt, IsFound, FallsShort}
 
@@ -105,7 +105,7 @@ pub record IsStanding (s : Setting) (budget : ℕ) (ladder : Ladder) (want : Wan
 -- where an end stands, or that there is no list
 abbrev pub IsClimbed : Setting → ℕ → Ladder → Want → List (List ℕ) → Climbed → Type 0
 IsClimbed s budget ladder want found (climbs.At standing) = IsStanding s budget ladder want found standing
-IsClimbed s budget ladder want found (climbs.Empty tree) = ShowsNone (program_for s none) tree
+IsClimbed s budget ladder want found (climbs.Empty tree) = IsVoidTree s tree
 
 -- no search was cut short
 abbrev pub IsClimbedSurely : Setting → Ladder → Want → Climbed → Type 0

@@ -1,5 +1,5 @@
 -- What settles a relation: a list that was found, that there is none, or both totals whose searches were cut short.
-use Rattle.std.specs.Prelude.{◌≡◌, ℕ, ℤ, pos, neg_ℤ, ◌<ℤ◌, int_lt, cond, ⊤, List, [], All, Contains, Some, None}
+use Rattle.std.specs.Prelude.{◌≡◌, ℕ, ℤ, pos, neg_ℤ, ◌<ℤ◌, int_lt, cond, List, [], All, Contains, Some, None}
 use Rattle.std.specs.List.{AllZip}
 use Rattle.pc_model.specs.declared.row.Row.{Row}
 use Rattle.pc_model.specs.declared.row.Run.{Run}
@@ -20,6 +20,7 @@ use Rattle.pc_agg.specs.declared.settling.Settled.{Settled}
 use Rattle.pc_agg.specs.declared.settling.Total.{Total}
 use Rattle.pc_agg.specs.declared.settling.Total.TheVariants as totals
 use Rattle.pc_search.specs.declared.limit.Limit.{Limit}
+use Rattle.pc_search.specs.Fitting.{IsFitTree}
 use Rattle.pc_search.specs.Limits.{IsLimit}
 
 -- a row of each cell
@@ -43,10 +44,10 @@ pub record IsUnlisted (s : Setting) (budget : ℕ) (found : List (List ℕ)) : T
   pub by_fewest : LeavesOpen (program_for s minus_one) budget fewest any
   pub meet : most <ℤ neg_ℤ fewest → ⊥
 
--- what shows that nothing is possible looks at no observed rows
+-- what shows that nothing is possible looks at no observed rows, and its trees fit
 abbrev pub IsOfCells : Why → Type 0
-IsOfCells (whys.Void t) = ⊤
-IsOfCells (whys.Cross t u) = ⊤
+IsOfCells (whys.Void t) = IsFitTree t
+IsOfCells (whys.Cross t u) = IsFitTree t × IsFitTree u
 IsOfCells (whys.Ends low high) = ⊥
 
 abbrev pub IsRelation : Setting → ℕ → List (List ℕ) → Relation → Type 0

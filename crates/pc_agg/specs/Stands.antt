@@ -14,7 +14,7 @@ use Rattle.pc_proof.specs.declared.answer.Mark.{Mark}
 use Rattle.pc_proof.specs.declared.answer.Mark.TheVariants as marks
 use Rattle.pc_proof.specs.declared.answer.End.{End}
 use Rattle.pc_proof.specs.Setting.{Setting, cells, counting, program_for, program_without}
-use Rattle.pc_proof.specs.Table.{none, one, ShowsNone}
+use Rattle.pc_proof.specs.Table.{one}
 use Rattle.pc_licence.specs.Pools.{AreLawful}
 use Rattle.pc_search.specs.declared.extreme.Extreme.{Extreme}
 use Rattle.pc_agg.specs.declared.climb.Standing.{Standing}
@@ -27,6 +27,7 @@ use Rattle.pc_agg.specs.declared.stand.Stand.{Stand}
 use Rattle.pc_agg.specs.declared.stand.Stood.{Stood}
 use Rattle.pc_agg.specs.declared.stand.Stood.TheVariants as stoods
 use Rattle.pc_search.specs.Ends.{signed}
+use Rattle.pc_search.specs.Fitting.{IsVoidTree}
 use Rattle.pc_search.specs.Flat.{flat_tree}
 use Rattle.pc_search.specs.Wants.{want_for}
 use Rattle.pc_search.specs.Keys.{key_of, IsAtEnd}
@@ -103,7 +104,7 @@ pub record IsStoodAt (s : Setting) (budget : ℕ) (extreme : Extreme) (test : Te
 
 abbrev pub IsStood : Setting → ℕ → Extreme → Test → Option ℤ → List (List ℕ) → Stood → Type 0
 IsStood s budget extreme test seen before (stoods.At on) = IsStoodAt s budget extreme test seen before on.stand on.found
-IsStood s budget extreme test seen before (stoods.Empty tree) = ShowsNone (program_for s none) tree
+IsStood s budget extreme test seen before (stoods.Empty tree) = IsVoidTree s tree
 
 -- no search was cut short, and some list was found
 abbrev pub IsStoodSurely : Stood → Type 0

@@ -151,6 +151,7 @@ module _ (s : Setting) (budget : ℕ) (relation : Relation) (lack : Lack) (found
     from = there (runs_of_relation relation) relation_found;
     licensed = λ answer from. by_relation relation settled.undecided settled.licensed.relation answer from;
     searched = settled.searched.relation;
+    fits = settled.fits.0;
     undecided = λ is. none_at_all (settled.undecided is);
   }
     where
@@ -197,4 +198,5 @@ module _ (s : Setting) (budget : ℕ) (relation : Relation) (lack : Lack) (found
     from = there (runs_of_lack lack) lack_found;
     licensed = λ answer from. lack_licensed answer from lack settled.open_lack;
     searched = settled.searched.lack;
+    fits = settled.fits.1;
   }

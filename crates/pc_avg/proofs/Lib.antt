@@ -1,3 +1,4 @@
+pub mod AverageSizes
 pub mod BothEnds
 pub mod CellNumbers
 pub mod ChosenFractions

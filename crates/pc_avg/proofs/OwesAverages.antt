@@ -99,6 +99,7 @@ module _ (schema : Schema) (constraints : List Constraint) (query : Query) (seen
     };
     licensed = settled.licensed;
     searched = settled.searched;
+    formed = λ seen_rows. record { relation = settled.formed.0; lack = settled.formed.1; ends = tt; silent = settled.silent; absent = no_ends relation lack none };
     sharp = λ disjoint. let all = settled.sharp disjoint in (record { decided = all.0; ends = tt }, all.1);
   }
 

@@ -38,6 +38,7 @@ use Rattle.pc_licence.specs.Shown.{runs_of_mark, counts_of_runs}
 use Rattle.pc_search.specs.declared.extreme.Extreme.{Extreme}
 use Rattle.pc_search.specs.Asked.{Asking, setting_for}
 use Rattle.pc_search.specs.Ends.{signed}
+use Rattle.pc_search.specs.Fitting.{AreObserved, IsFitEnd}
 use Rattle.pc_search.specs.Settings.{unseen}
 use Rattle.pc_agg.proofs.Ending.{ShowsEnd, LicensedEnd, SearchedEnd, IsEndDone, within_limit}
 use Rattle.pc_ratio.specs.declared.fractional.Fractional.{Fractional}
@@ -48,6 +49,7 @@ use Rattle.pc_ratio.specs.Steps.{IsRatioOf}
 use Rattle.pc_avg.specs.declared.sides.Side.{Side}
 use Rattle.pc_avg.specs.Ends.{turned, end_of, end_by_values}
 use Rattle.pc_avg.specs.Sides.{IsSide}
+use Rattle.pc_avg.proofs.AverageSizes.{turned_formed, ratio_formed, whole_formed, value_formed, key_small}
 use Rattle.pc_avg.proofs.SideCounts.{made_attain, made_counts}
 use Rattle.pc_avg.proofs.SideNumbers.{outermost_number, side_outermost, side_sum_within}
 use Rattle.pc_avg.proofs.SidePrograms.{turned_ratio, seen_over, side_count, side_sum, side_program, over_is}
@@ -105,14 +107,15 @@ module _ (schema : Schema) (constraints : List Constraint) (query : Query) (seen
 
   module _ (all : List (List ℕ)) where
     done_from : (end : End) → HoldsMark s end.value end.mark → MayShow end.mark end.proof → IsFormed end.value end.proof → ShowsEnd extreme s Avg (ratio_of end.value) end.proof →
-        SearchedEnd extreme s budget Avg (ratio_of end.value) end.proof →
+        SearchedEnd extreme s budget Avg (ratio_of end.value) end.proof → (AreObserved s → IsFitEnd Avg end) →
         ((answer : Answer) → ShownFrom s all answer → IfOuter end.mark (LicensedEnd extreme s budget answer Avg (ratio_of end.value) end.proof)) →
         All (λ runs. Contains all (counts_of_runs s runs)) (runs_of_mark end.mark) → IsEndDone extreme s budget query.agg all end
-    done_from end marked kind well shows searched licensed from = record {
+    done_from end marked kind well shows searched fits licensed from = record {
       holds = holds_as extreme s end agg_is marked kind shows;
       formed = well;
       shows = subst (λ (agg : Agg). ShowsEnd extreme s agg (ratio_of end.value) end.proof) (sym agg_is) shows;
       searched = subst (λ (agg : Agg). SearchedEnd extreme s budget agg (ratio_of end.value) end.proof) (sym agg_is) searched;
+      fits = λ inside. subst (λ (agg : Agg). IsFitEnd agg end) (sym agg_is) (fits inside);
       licensed = λ answer found. subst (λ (agg : Agg). IfOuter end.mark (LicensedEnd extreme s budget answer agg (ratio_of end.value) end.proof)) (sym agg_is) (licensed answer found);
       from = from;
     }
@@ -146,7 +149,8 @@ module _ (schema : Schema) (constraints : List Constraint) (query : Query) (seen
           done_from (end_of extreme side.picks (Reached ratio counts t)) reached_attained tt (record { positive = reached.ratio_is.positive; ratio = tt })
           (shows_tree extreme s budget t (turned_ratio extreme r) within_none.0 within (subst (λ n. (n +ℤ within_none.0) ≤ℤ pos 0) (over_at r) within_none.2)
           (subst (λ n. nat_abs n ≤ 10 ^ 37) (over_at r) (over_small r counts reached.ratio_is)))
-          (tree_searched extreme s budget t (turned_ratio extreme r) within_none.0 within) (λ answer found. tt)
+          (tree_searched extreme s budget t (turned_ratio extreme r) within_none.0 within)
+          (λ inside. record { value = turned_formed extreme ratio (ratio_formed f ratio counts reached.lowest reached.ratio_is); proof = record { preorder = within.preorder; leaves = within.fits } }) (λ answer found. tt)
           (All-cons (λ own. Contains all (counts_of_runs s own)) runs [] (subst (Contains all) (sym reached_counts) there) (All-nil (λ own. Contains all (counts_of_runs s own))))
 
     -- what is left over at a ratio
@@ -197,10 +201,15 @@ module _ (schema : Schema) (constraints : List Constraint) (query : Query) (seen
       above_done =
           done_from (end_of extreme side.picks (Above ratio counts t value)) tt tt (record { positive = above.value_lowest.above; ratio = above.ratio_is.positive })
           (shows_at extreme s (turned extreme ratio) t (ratio_of value) (record { num = rate.num *ℤ fewest_rows f +ℤ left; den = rate.den *ℤ fewest_rows f }) key sound number_is raised_is above.value_is)
-          (at_searched extreme s budget t (turned_ratio extreme (ratio_of value)) (turned extreme ratio) above.most within) (λ answer found. above_licensed answer) (All-nil (λ own. Contains all (counts_of_runs s own)))
+          (at_searched extreme s budget t (turned_ratio extreme (ratio_of value)) (turned extreme ratio) above.most within)
+          (λ inside. record {
+            value = turned_formed extreme value (value_formed f key budget first ratio counts t value is.fractional.few (key_small schema constraints query seen nodes formed asking agg_is extreme side is key key_is inside) above);
+            proof = (turned_formed extreme ratio (ratio_formed f ratio counts above.lowest above.ratio_is), record { preorder = within.preorder; leaves = within.fits });
+          }) (λ answer found. above_licensed answer) (All-nil (λ own. Contains all (counts_of_runs s own)))
 
     -- by the numbers that rows can have
     pub values_done : ((answer : Answer) → ShownFrom s all answer → MayGive s budget answer) → IsEndDone extreme s budget query.agg all (end_by_values extreme key)
     values_done may =
         done_from (end_by_values extreme key) tt tt (record { positive = omega (arith, ints); ratio = tt }) (shows_values extreme s key number_is) (values_searched extreme s budget (whole (signed extreme key)))
+        (λ inside. record { value = turned_formed extreme (record { num = key; den = pos 1 }) (whole_formed key (let small = key_small schema constraints query seen nodes formed asking agg_is extreme side is key key_is inside in omega (arith, small))); proof = tt })
         (λ answer found. licensed_values extreme s budget answer key number_is (may answer found)) (All-nil (λ own. Contains all (counts_of_runs s own)))

@@ -64,7 +64,7 @@ turned_over : (number : Option ℤ) (key : ℤ) → IfSome (option_map neg_ℤ n
 turned_over None key under = tt
 turned_over (Some n) key under = omega (arith, ints, under)
 
-turned_is : (number : Option ℤ) (key : ℤ) → option_map neg_ℤ number ≡ Some key → number ≡ Some (neg_ℤ key)
+pub turned_is : (number : Option ℤ) (key : ℤ) → option_map neg_ℤ number ≡ Some key → number ≡ Some (neg_ℤ key)
 turned_is None key is = absurd (none-some key is)
 turned_is (Some n) key is = let same = same_Some (neg_ℤ n) key is in ap Some (omega (arith, ints, same))
 
@@ -91,10 +91,10 @@ module _ (schema : Schema) (constraints : List Constraint) (query : Query) (seen
   abbrev highest : Option ℤ
   highest = reduce int_max (map (high_in s) (chosen_cells s))
 
-  least_seen : seen_least s.question ≡ seen.least
+  pub least_seen : seen_least s.question ≡ seen.least
   least_seen = least_is schema constraints query seen nodes asking (IsColumnWhere IsNumeric schema) (numbered schema constraints query seen nodes asking agg_is)
 
-  greatest_seen : seen_greatest s.question ≡ seen.greatest
+  pub greatest_seen : seen_greatest s.question ≡ seen.greatest
   greatest_seen = greatest_is schema constraints query seen nodes asking (IsColumnWhere IsNumeric schema) (numbered schema constraints query seen nodes asking agg_is)
 
   -- ---- of the chosen cells

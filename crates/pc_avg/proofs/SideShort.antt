@@ -27,7 +27,7 @@ size_turned Low (pos zero) = refl
 size_turned Low (pos (suc n)) = refl
 size_turned Low (negsuc n) = refl
 
-turned_lowest : (extreme : Extreme) (f : Frac) → IsFrac f → IsFrac (turned extreme f)
+pub turned_lowest : (extreme : Extreme) (f : Frac) → IsFrac f → IsFrac (turned extreme f)
 turned_lowest extreme f is = record {
   above = is.above;
   reduced = subst (λ n. IsGcd n (unsigned_abs f.den) 1) (sym (size_turned extreme f.num)) is.reduced;
@@ -35,7 +35,7 @@ turned_lowest extreme f is = record {
   den_fits = is.den_fits;
 }
 
-whole_lowest : (n : ℤ) → unsigned_abs n ≤ 2 ^ 63 → IsFrac (record { num = n; den = pos 1 })
+pub whole_lowest : (n : ℤ) → unsigned_abs n ≤ 2 ^ 63 → IsFrac (record { num = n; den = pos 1 })
 whole_lowest n small = record {
   above = omega (arith, ints);
   reduced = (one-dvd (unsigned_abs n), one-dvd 1, λ d first second. second);

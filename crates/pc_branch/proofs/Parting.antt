@@ -10,6 +10,7 @@ use Rattle.pc_bound.specs.Sums.{nat_at, int_at}
 use Rattle.pc_bound.specs.Allocation.{cells_of, IsBox, IsProgram}
 use Rattle.pc_bound.specs.Bound.{IsFit, IsMultiplier, HasFitWidth, bound_of}
 use Rattle.pc_bound.specs.SplitTrees.{less_caps, more_floors}
+use Rattle.pc_simplex.specs.Vertices.{IsFitMult}
 use Rattle.pc_simplex.proofs.Vertices.{IsVertex-point}
 use Rattle.pc_frontier.specs.declared.node.Node.{Node}
 use Rattle.pc_frontier.specs.declared.node.State.TheVariants as states
@@ -84,7 +85,7 @@ pub record IsPartedPlace (p : Program) (box : Box) (v : Visited) (cell at : ℕ)
   pub high : at < nat_at box.caps cell
   pub by : IsMultiplier p v.mult
   pub bound_is : v.bound ≡ bound_of p box.floors box.caps v.mult
-  pub fits : All IsFit v.mult.by
+  pub fits : IsFitMult v.mult
 
 pub placed_parted : (p : Program) (box : Box) (v : Visited) (cell at : ℕ) → IsProgram p → IsPlaced p box v → IsPartedAt cell at v.known → IsPartedPlace p box v cell at
 placed_parted p box v cell at program placed parted =

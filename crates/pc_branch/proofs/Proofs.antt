@@ -4,8 +4,9 @@ use Rattle.std.specs.Prelude.{ℤ, ◌≤ℤ◌}
 use Rattle.pc_model.specs.declared.tree.Mult.{Mult}
 use Rattle.pc_bound.specs.declared.program.Program.{Program}
 use Rattle.pc_bound.specs.Allocation.{IsBox, IsProgram}
-use Rattle.pc_bound.specs.Bound.{IsFit, IsMultiplier, HasFitWidth}
+use Rattle.pc_bound.specs.Bound.{IsMultiplier, HasFitWidth}
 use Rattle.pc_bound.specs.SplitTrees.{less_caps, more_floors, Proves}
+use Rattle.pc_simplex.specs.Vertices.{IsFitMult}
 use Rattle.pc_simplex.proofs.Vertices.{IsVertex-point, IsVoid-mult}
 use Rattle.pc_frontier.specs.declared.node.Node.{Node}
 use Rattle.pc_frontier.specs.Frontier.{Seen}
@@ -28,7 +29,7 @@ leaf_as-proves p program above limit floors caps box by knowns.Whole mult bound 
 leaf_as-proves p program above limit floors caps box by (knowns.Parted cell at) mult bound h = (IsVertex-point p floors caps program box h.point mult h.relaxed).by
 leaf_as-proves p program above limit floors caps box by knowns.Stuck mult bound h = subst (IsMultiplier p) (sym h.mult_is) by
 
-leaf_as-fits : (known : Known) (mult : Mult) → All IsFit mult.by → AreFitLeaves (leaf_as known mult)
+leaf_as-fits : (known : Known) (mult : Mult) → IsFitMult mult → AreFitLeaves (leaf_as known mult)
 leaf_as-fits knowns.Nothing mult h = h
 leaf_as-fits knowns.Whole mult h = h
 leaf_as-fits (knowns.Parted cell at) mult h = h

@@ -99,10 +99,10 @@ nothing x n e = rw e (zero-mul (pos n))
 
 module _ (p : Program) where
   -- the size of a gain times its cap
-  abbrev gain_size : ℕ → ℤ
+  abbrev pub gain_size : ℕ → ℤ
   gain_size i = pos (nat_abs (int_at p.gain i)) *ℤ pos (nat_at p.cap i)
 
-  abbrev all_gains : ℤ
+  abbrev pub all_gains : ℤ
   all_gains = sum_below (cells_of p) gain_size
 
   -- a relaxed allocation's worth
@@ -181,10 +181,16 @@ module _ (p : Program) where
         (open-within next (more_floors floors cell at) caps u high splits.2 here)
         open_leaf.3
 
+-- the bound of a licence is at most what all gains can come to, in size
+pub licence-within : (p : Program) (budget : ℕ) (e : ℤ) (tree : Splits) → IsProgram p → IsLicence p budget e tree
+    → (neg_ℤ (all_gains p) ≤ℤ e) × (e ≤ℤ all_gains p)
+licence-within p budget e tree program licence =
+    open-within p program (Some e) (budget < nodes_of tree + 2) e (first_bound p) p.floor p.cap tree (start_box p program)
+    licence.search.splits (first-within p program) licence.open_leaf
+
 pub licence-small : (p : Program) (budget : ℕ) (e : ℤ) (tree : Splits) → IsProgram p → HasSmallGains p → IsLicence p budget e tree
     → (neg_ℤ (pos (10 ^ 37)) ≤ℤ e) × (e ≤ℤ pos (10 ^ 37))
 licence-small p budget e tree program small licence =
-    let all = open-within p program (Some e) (budget < nodes_of tree + 2) e (first_bound p) p.floor p.cap tree (start_box p program)
-    licence.search.splits (first-within p program) licence.open_leaf in
+    let all = licence-within p budget e tree program licence in
     let whole = small.sum in
     (omega (arith, ints, all, whole), omega (arith, ints, all, whole))

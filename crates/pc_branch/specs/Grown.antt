@@ -5,10 +5,11 @@ use Rattle.pc_model.specs.declared.tree.Mult.{Mult}
 use Rattle.pc_bound.specs.declared.program.Program.{Program}
 use Rattle.pc_bound.specs.Sums.{nat_at}
 use Rattle.pc_bound.specs.Allocation.{cells_of}
-use Rattle.pc_bound.specs.Bound.{IsFit, bound_of}
+use Rattle.pc_bound.specs.Bound.{bound_of}
 use Rattle.pc_bound.specs.SplitTrees.{SplitTree, less_caps, more_floors}
 use Rattle.pc_bound.specs.SplitTrees as trees
 use Rattle.pc_tableau.specs.Point.{Relaxation, vertex, void, IsRelaxation}
+use Rattle.pc_simplex.specs.Vertices.{IsFitMult}
 use Rattle.pc_frontier.specs.Boxes.{Grown, leaf, split}
 use Rattle.pc_branch.specs.Licence.{IsStuck, IsWhole, IsSplitOf}
 use Rattle.pc_branch.specs.declared.visited.Known.{Known}
@@ -55,7 +56,7 @@ IsKnownAs p above limit floors caps knowns.Stuck mult bound = IsHalt p above lim
 -- what a node says is so in its box; `above` are its parent's multipliers and `limit` is the bound that they prove there
 pub record IsVisited (p : Program) (above : Mult) (limit : ℤ) (floors caps : List ℕ) (v : Visited) : Type 0 where
   pub known : IsKnownAs p above limit floors caps v.known v.mult v.bound
-  pub fits : All IsFit v.mult.by
+  pub fits : IsFitMult v.mult
 
 abbrev pub IsParted : Known → Type 0
 IsParted (knowns.Parted cell at) = ⊤

@@ -2,10 +2,10 @@
 use Rattle.std.specs.Prelude.{◌≡◌, ℕ, ℤ, ◌≤ℤ◌, ◌<ℤ◌, List, Option, Some, None, MatchOption, All, ⊤}
 use Rattle.pc_bound.specs.declared.program.Program.{Program}
 use Rattle.pc_bound.specs.Allocation.{IsAllocation, worth}
-use Rattle.pc_bound.specs.Bound.{IsFit}
 use Rattle.pc_num.specs.declared.Frac.{Frac}
 use Rattle.pc_model.specs.declared.tree.Mult.{Mult}
 use Rattle.pc_tableau.specs.Point.{Relaxation, vertex, IsRelaxation}
+use Rattle.pc_simplex.specs.Vertices.{IsFitMult}
 use Rattle.pc_bound.specs.SplitTrees.{SplitTree, bound, void, less_caps, more_floors, bound_by, Proves, IsInPreorder, tree_of}
 use Rattle.pc_bound.specs.SplitTrees as trees
 use Rattle.pc_branch.specs.Licence.{Splits, leaf, split, IsStuck, no_multipliers, IsSearchTree, IsLicence, HoldsWholePoints}
@@ -18,10 +18,10 @@ splits_of (bound m) = leaf
 splits_of (void m) = leaf
 splits_of (trees.split cell at t u) = split cell at (splits_of t) (splits_of u)
 
--- the numbers of each leaf's multipliers fit
+-- the numbers of each leaf's multipliers and their denominator fit
 abbrev pub AreFitLeaves : SplitTree → Type 0
-AreFitLeaves (bound m) = All IsFit m.by
-AreFitLeaves (void m) = All IsFit m.by
+AreFitLeaves (bound m) = IsFitMult m
+AreFitLeaves (void m) = IsFitMult m
 AreFitLeaves (trees.split cell at t u) = AreFitLeaves t × AreFitLeaves u
 
 -- a leaf that is wide or stalled has its parent's multipliers

@@ -4,6 +4,7 @@ ghost use Rattle.pc_bound.specs.Bound.{IsFit, HasFitWidth};
 ghost use Rattle.pc_bound.specs.SplitTrees.{less_caps, more_floors};
 ghost use Rattle.pc_bound.specs.Sums.{nat_at};
 ghost use Rattle.std.specs.Prelude.{All};
+ghost use Rattle.pc_simplex.specs.Vertices.{IsFitMult};
 ghost use Rattle.pc_frontier.specs.Frontier.{IsInHand};
 ghost use Rattle.pc_frontier.specs.Boxes.{AreOrdered, AreFitting, box_at};
 ghost use Rattle.pc_branch.specs.Licence.{no_multipliers};
@@ -146,7 +147,7 @@ fn visit_less(
     requires cell { cell < cells_of p.now }
     requires low { nat_at place.now.floor cell ≤ at }
     requires high { at < nat_at place.now.cap cell }
-    requires fits { All IsFit above.now.mult.by }
+    requires fits { IsFitMult above.now.mult }
     ensures visited { IfOk result (λ v. IsVisited p.now above.now.mult above.now.bound place.now.floor (less_caps place.now.cap cell at) v.node) }
     ensures counts { IfOk result (λ v. HasCounts p.now place.now.floor (less_caps place.now.cap cell at) v) }
 {
@@ -177,7 +178,7 @@ fn visit_more(
     requires cell { cell < cells_of p.now }
     requires low { nat_at place.now.floor cell ≤ at }
     requires high { at < nat_at place.now.cap cell }
-    requires fits { All IsFit above.now.mult.by }
+    requires fits { IsFitMult above.now.mult }
     ensures visited { IfOk result (λ v. IsVisited p.now above.now.mult above.now.bound (more_floors place.now.floor cell at) place.now.cap v.node) }
     ensures counts { IfOk result (λ v. HasCounts p.now (more_floors place.now.floor cell at) place.now.cap v) }
 {

@@ -1,6 +1,7 @@
 ghost use Rattle.std.specs.Prelude.{◌≡◌, ◌↔◌, ◌≤◌, ◌<◌, ◌≤ℤ◌, pos, length, [], All, IfOk, IsTrue};
 ghost use Rattle.pc_bound.specs.Allocation.{IsProgram, constraints_of};
 ghost use Rattle.pc_bound.specs.Bound.{IsFit, HasFitWidth};
+ghost use Rattle.pc_simplex.specs.Vertices.{IsFitMult};
 ghost use Rattle.pc_branch.specs.Licence.{no_multipliers};
 ghost use Rattle.pc_branch.specs.Steps.{budget_of, IsAt};
 ghost use Rattle.pc_branch.specs.Visits.{rooted};
@@ -61,7 +62,7 @@ fn fits_width(p: &Program, mult: &Mult) -> bool
 /// The multipliers that a leaf has without a parent.
 fn no_multipliers(alloc: Global, p: &Program) -> Result<Mult, Memory>
     ensures value { IfOk result (λ mult. mult ≡ no_multipliers p.now) }
-    ensures fits { IfOk result (λ mult. All IsFit mult.by) }
+    ensures fits { IfOk result IsFitMult }
 {
     let by = vec![in alloc; 0i128; p.least.len()]?;
     Ok(Mult {

@@ -4,7 +4,7 @@ ghost use Rattle.std.specs.Int.{int_div_euclid};
 ghost use Rattle.pc_bound.specs.Allocation.{IsProgram, IsBox};
 ghost use Rattle.pc_bound.specs.Bound.{IsFit, IsMultiplier, bound_of};
 ghost use Rattle.pc_tableau.specs.Point.{vertex, IsRelaxation};
-ghost use Rattle.pc_simplex.specs.Vertices.{IsVertex, count_at};
+ghost use Rattle.pc_simplex.specs.Vertices.{IsVertex, IsFitMult, count_at};
 ghost use Rattle.pc_branch.specs.Grown.{IsVisited};
 ghost use Rattle.pc_branch.specs.Visits.{HasCounts, IsPartingVisit};
 
@@ -36,7 +36,7 @@ pub(crate) fn visit_box(
     requires program { IsProgram p.now }
     requires inside { IsBox p.now floor.now cap.now }
     requires gains { All IsFit p.now.gain }
-    requires fits { All IsFit above.now.by }
+    requires fits { IsFitMult above.now }
     ensures visited { IfOk result (λ v. IsVisited p.now above.now limit floor.now cap.now v.node) }
     ensures counts { IfOk result (λ v. HasCounts p.now floor.now cap.now v) }
 {
@@ -78,7 +78,7 @@ fn at_vertex(
     requires inside { IsBox p.now floor.now cap.now }
     requires relaxed { IsRelaxation p.now floor.now cap.now (vertex point.now mult) }
     requires vertex { IsVertex p.now floor.now cap.now point.now mult }
-    requires fits { All IsFit mult.by }
+    requires fits { IsFitMult mult }
     ensures visited { (above : Mult) (limit : ℤ) → IfOk result (λ v. IsVisited p.now above limit floor.now cap.now v.node) }
     ensures counts { IfOk result (λ v. HasCounts p.now floor.now cap.now v) }
 {

@@ -1,3 +1,5 @@
+pub mod FormedBlocks
+mod FormedCuts
 mod GroupNames
 mod Inner
 mod Narrowed

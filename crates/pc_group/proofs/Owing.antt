@@ -1,5 +1,5 @@
 -- What the answer over the cells of a block is owed makes a block of the query and the name.
-use Rattle.std.proofs.Common.{◌≡◌, ℕ, ◌*◌, ◌^◌, ◌≤◌, List, Option, refl, sym, ap, subst, arith}
+use Rattle.std.proofs.Common.{◌≡◌, ℕ, ◌*◌, ◌^◌, ◌≤◌, List, Option, Some, refl, sym, ap, subst, arith}
 use Rattle.std.specs.Prelude.{is_none, nat_abs}
 use Rattle.pc_model.specs.declared.schema.Schema.{Schema}
 use Rattle.pc_model.specs.declared.row.Row.{Row}
@@ -14,6 +14,7 @@ use Rattle.pc_model.specs.Folds.{IsFold}
 use Rattle.pc_model.specs.WellFormed.{IsWellFormed}
 use Rattle.pc_proof.specs.declared.answer.Answer.{Answer}
 use Rattle.pc_proof.specs.declared.document.BlockTree.{BlockTree}
+use Rattle.pc_proof.specs.Documents.{nodes_after}
 use Rattle.pc_proof.specs.Setting.{Setting}
 use Rattle.pc_proof.specs.Unbroken.{AllowsName, IsWellPosed}
 use Rattle.pc_proof.proofs.Sound.{right_from_unbroken}
@@ -25,6 +26,7 @@ use Rattle.pc_avg.specs.Averages.{HasShortEnds}
 use Rattle.pc_group.specs.Answers.{AnswersWanted}
 use Rattle.pc_group.specs.Trees.{Told}
 use Rattle.pc_group.specs.Wanted.{Wanted}
+use Rattle.pc_group.proofs.FormedBlocks.{block_formed}
 use Rattle.pc_group.proofs.Narrowed.{query_for_is}
 
 -- what is asked of the cells of a block
@@ -43,7 +45,7 @@ are_asked schema seen constraints cells query asked name budget is formed limite
 }
 
 module _ (budget : ℕ) (schema : Schema) (observed : List Row) (constraints : List Constraint) (query : Query) (name : Option ℕ) (nodes : List CutNode) (answer : Answer)
-    (formed : IsWellFormed schema) (well : IsQuery schema query) where
+    (formed : IsWellFormed schema) (limited : AreConstraints schema constraints) (well : IsQuery schema query) where
   abbrev w : Wanted
   w = record { query = query; name = name }
 
@@ -53,8 +55,8 @@ module _ (budget : ℕ) (schema : Schema) (observed : List Row) (constraints : L
   posed : IsWellPosed (question_in schema observed constraints query name)
   posed = record { formed = formed; query = well }
 
-  from_owed : Owes (setting_in schema observed constraints query name nodes) budget answer → (query.agg ≡ Avg → HasShortEnds answer) → (tree : BlockTree) → AnswersWanted budget schema observed constraints w (told_by tree)
-  from_owed owes short tree = record {
+  from_owed : Owes (setting_in schema observed constraints query name nodes) budget answer → (query.agg ≡ Avg → HasShortEnds answer) → (before : Option (List CutNode)) (tree : BlockTree) → nodes_after before tree ≡ Some nodes → AnswersWanted budget schema observed constraints w (told_by tree)
+  from_owed owes short before tree says = record {
     query_is = refl;
     name_is = refl;
     right = right_from_unbroken (setting_in schema observed constraints query name nodes) answer posed owes.form owes.unbroken;
@@ -64,12 +66,13 @@ module _ (budget : ℕ) (schema : Schema) (observed : List Row) (constraints : L
     searched = owes.searched;
     sharp = owes.sharp;
     short = short;
+    formed = λ seen own. block_formed schema observed constraints query name nodes answer formed limited well owes.form owes.unbroken (owes.formed seen) own before tree says;
   }
 
   -- the fold of the observed rows is asked of
   pub answers_wanted : is_none name ≡ is_none query.group → AllowsName query.chosen query.group name → (seen : Folded) → IsFold query name observed seen →
       ((asking : Asking schema constraints (query_for query name) seen) → Owes (setting_for schema constraints (query_for query name) seen nodes asking) budget answer) → (query.agg ≡ Avg → HasShortEnds answer) →
-      (tree : BlockTree) → AnswersWanted budget schema observed constraints w (told_by tree)
-  answers_wanted named allowed seen fold owes short tree =
+      (before : Option (List CutNode)) (tree : BlockTree) → nodes_after before tree ≡ Some nodes → AnswersWanted budget schema observed constraints w (told_by tree)
+  answers_wanted named allowed seen fold owes short before tree says =
       let asking = fold_asks schema constraints query name observed seen nodes well named allowed fold in
-      from_owed (subst (λ (s : Setting). Owes s budget answer) asking.1 (owes asking.0)) short tree
+      from_owed (subst (λ (s : Setting). Owes s budget answer) asking.1 (owes asking.0)) short before tree says

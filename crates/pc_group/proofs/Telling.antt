@@ -48,7 +48,7 @@ module _ (Answers : Wanted → Told → Type 0) (shared : List CutNode) where
   }
 
   pub block_more : (blocks : List Wanted) (w : Wanted) (nodes : List CutNode) (answer : Answer) (before after : Written) → HasBlock before w.query w.name nodes answer after →
-      ((tree : BlockTree) → Answers w (record { block = record { query = w.query; name = w.name; tree = tree; answer = answer }; nodes = nodes })) → HasCutsAt shared 0 (shape_of nodes) →
+      ((tree : BlockTree) → nodes_after before.last tree ≡ Some nodes → Answers w (record { block = record { query = w.query; name = w.name; tree = tree; answer = answer }; nodes = nodes })) → HasCutsAt shared 0 (shape_of nodes) →
       AreBlocksOf Answers shared blocks before → AreBlocksOf Answers shared (blocks ++ w ∷ []) after
   block_more blocks w nodes answer before after has answers cuts each =
       let block : Block = record { query = w.query; name = w.name; tree = has.tree; answer = answer } in
@@ -56,7 +56,7 @@ module _ (Answers : Wanted → Told → Type 0) (shared : List CutNode) where
       let says : nodes_after (last_after before.blocks None) block.tree ≡ Some nodes = subst (λ (o : Option (List CutNode)). nodes_after o has.tree ≡ Some nodes) each.last_is has.says in
       let all : told after.blocks ≡ told before.blocks ++ t ∷ [] = ap told has.blocks ∙ told_push before.blocks block nodes None says in
       record {
-        answers = subst (λ (ts : List Told). AllZip Answers (blocks ++ w ∷ []) ts) (sym all) (all_zipped_more Answers blocks (told before.blocks) w t each.answers (answers has.tree));
+        answers = subst (λ (ts : List Told). AllZip Answers (blocks ++ w ∷ []) ts) (sym all) (all_zipped_more Answers blocks (told before.blocks) w t each.answers (answers has.tree has.says));
         of_tree = subst (λ (ts : List Told). AreOfTree shared ts) (sym all) (All-push (λ (u : Told). HasCutsAt shared 0 (shape_of u.nodes)) (told before.blocks) t each.of_tree cuts);
         own = subst (λ (bs : List Block). AreWrittenAfter bs None) (sym has.blocks) (own_push before.blocks block None each.own (subst (λ (o : Option (List CutNode)). IsWrittenAfter o has.tree) each.last_is has.own));
         last_is = has.last_is ∙ sym (ap (λ (bs : List Block). last_after bs None) has.blocks ∙ last_push before.blocks block None ∙ says);

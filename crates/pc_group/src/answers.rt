@@ -7,8 +7,9 @@ ghost use Rattle.pc_model.specs.Membership.{in_domain};
 ghost use Rattle.pc_model.specs.WellFormed.{IsWellFormed};
 ghost use Rattle.pc_tree.specs.Linked.{IsTree};
 ghost use Rattle.pc_tree.specs.Walking.{bare};
+ghost use Rattle.pc_proof.specs.Form.{IsInForm};
 ghost use Rattle.pc_group.specs.Answers.{AnswersWanted};
-ghost use Rattle.pc_group.specs.Trees.{Told, KeepsInner, AreDividedFor, AreOfTree, AreWritten, told};
+ghost use Rattle.pc_group.specs.Trees.{Told, HasOwnCuts, KeepsInner, AreDividedFor, AreOfTree, AreWritten, told};
 ghost use Rattle.pc_group.specs.Wanted.{wanted};
 
 use crate::answering::answer_queries;
@@ -44,6 +45,7 @@ pub fn answer_with(
     ensures answers { IfOk result (λ document. AllZip (AnswersWanted nodes schema.now rows.now constraints.now) (wanted schema.now queries.now) (told document.blocks)) }
     ensures shared { IfOk result (λ document. AreOfTree shared.new.nodes (told document.blocks)) }
     ensures written { IfOk result (λ document. AreWritten document.blocks) }
+    ensures formed { HasOwnCuts schema.now shared.old.nodes → IfOk result (IsInForm schema.now) }
 {
     let regions = regions_of(alloc, schema, queries)?;
     refine_for_all(schema, constraints, regions.as_slice(), shared)?;
@@ -63,6 +65,7 @@ pub fn answer_all(alloc: Global, case: &Case, nodes: u32) -> Result<Document, Me
     ensures answers { IfOk result (λ document. AllZip (AnswersWanted nodes case.now.schema case.now.rows case.now.constraints) (wanted case.now.schema case.now.queries) (told document.blocks)) }
     ensures same_cuts { IfOk result (λ document. AllPairs (λ (a b : Told). bare (shape_of a.nodes) ≡ bare (shape_of b.nodes)) (told document.blocks)) }
     ensures written { IfOk result (λ document. AreWritten document.blocks) }
+    ensures formed { IfOk result (IsInForm case.now.schema) }
 {
     let mut shared = Shared::new(alloc, &case.schema)?;
     answer_with(

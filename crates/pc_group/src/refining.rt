@@ -5,7 +5,7 @@ ghost use Rattle.pc_model.specs.Boxes.{IsServable};
 ghost use Rattle.pc_model.specs.Regions.{is_region_of};
 ghost use Rattle.pc_model.specs.WellFormed.{IsWellFormed};
 ghost use Rattle.pc_tree.specs.Linked.{IsTree, IsDividedFor};
-ghost use Rattle.pc_group.specs.Trees.{KeepsInner};
+ghost use Rattle.pc_group.specs.Trees.{HasOwnCuts, KeepsInner};
 
 use pc_cells::Shared;
 use pc_model::{Constraint, Region, Schema};
@@ -26,6 +26,7 @@ pub fn refine_for_all(
     requires tree { IsTree schema.now shared.old.nodes }
     ensures tree { IsTree schema.now shared.new.nodes }
     ensures kept { KeepsInner shared.old.nodes shared.new.nodes }
+    ensures own { HasOwnCuts schema.now shared.old.nodes → HasOwnCuts schema.now shared.new.nodes }
     ensures divided { OnOk result (All (λ (region : Region). IsDividedFor schema.now constraints.now region shared.new.nodes) regions.now) }
 {
     for region in regions {

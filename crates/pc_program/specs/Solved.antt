@@ -26,7 +26,7 @@ abbrev pub IsSmall : Solved → Type 0
 IsSmall (Best counts value mult) = nat_abs value ≤ 40 * 2 ^ 117
 IsSmall (Nothing mult) = ⊤
 
--- the multipliers fit
+-- the multipliers and their denominator fit
 abbrev pub AreFitMultipliers : Solved → Type 0
-AreFitMultipliers (Best counts value mult) = prelude.All IsFit mult.by
-AreFitMultipliers (Nothing mult) = prelude.All IsFit mult.by
+AreFitMultipliers (Best counts value mult) = prelude.All IsFit mult.by × IsFit mult.den
+AreFitMultipliers (Nothing mult) = prelude.All IsFit mult.by × IsFit mult.den

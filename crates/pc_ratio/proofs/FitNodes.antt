@@ -8,7 +8,7 @@ use Rattle.pc_branch.specs.Outcome.{AreFitLeaves}
 use Rattle.pc_walk.specs.Walk.{HasFitNumbers}
 
 fit_from : (k : ℕ) (t : SplitTree) → AreFitLeaves t → All HasFitNumbers (nodes_from k t)
-fit_from k (bound m) fits = All-cons HasFitNumbers (nodes.Bound m) [] fits (All-nil HasFitNumbers)
+fit_from k (bound m) fits = All-cons HasFitNumbers (nodes.Bound m) [] fits.0 (All-nil HasFitNumbers)
 fit_from k (void m) fits = All-cons HasFitNumbers (nodes.Void m) [] tt (All-nil HasFitNumbers)
 fit_from k (split cell at t u) fits =
     All-cons HasFitNumbers (nodes.Split cell at (k + 1) (k + 1 + size_of t)) (nodes_from (k + 1) t ++ nodes_from (k + 1 + size_of t) u) tt

@@ -41,4 +41,4 @@ module _ (f : Fractional) (fractional : IsFractional f) (outermost : ℤ) (outer
       let program = subst (λ (q : Program). IsProgramAt f r q) at.same at in
       let same : constraints_of (program_at f r) ≡ n = subst (λ (q : Program). constraints_of q ≡ n) at.same sized in
       let short = flat_short (program_at f r) fractional.floors none_gains budget n program.program program.small same some in
-      inr (reached, record { preorder = short.preorder; proves = short.proves; within = short.under; search = short.search })
+      inr (reached, record { preorder = short.preorder; proves = short.proves; within = short.under; search = short.search; fits = short.fits })

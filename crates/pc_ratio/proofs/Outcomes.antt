@@ -34,6 +34,7 @@ best_within p budget counts value tree is = record {
   proves = is.1.shown.proves;
   within = rw is.1.bounded (omega (arith, ints));
   search = search-free p budget value _ is.1.shown.search;
+  fits = is.1.shown.fits;
 }
 
 pub spent_within : (p : Program) (budget : ℕ) (e : ℤ) (found : Option (List ℕ)) (tree : Tree) → IsOutcome p budget (Spent e found tree) → IsTreeWithin p budget tree e
@@ -42,6 +43,7 @@ spent_within p budget e found tree is = record {
   proves = is.1.shown.proves;
   within = is.1.within;
   search = search-free p budget e _ is.1.shown.search;
+  fits = is.1.shown.fits;
 }
 
 -- ---- at a ratio

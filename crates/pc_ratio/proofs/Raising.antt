@@ -14,7 +14,7 @@ module _ (f : Fractional) (few : f.count ≤ 1_000_000) where
   fewest_some : pos 1 ≤ℤ fewest_rows f
   fewest_some = omega (arith, ints, clamps)
 
-  fewest_small : nat_abs (fewest_rows f) ≤ 1_000_000
+  pub fewest_small : nat_abs (fewest_rows f) ≤ 1_000_000
   fewest_small = omega (arith, ints, clamps, few)
 
   module _ (num left : ℤ) (small : nat_abs num ≤ most_sum) (small_left : nat_abs left ≤ 2 * 10 ^ 37) where

@@ -34,6 +34,7 @@ module _ (f : Fractional) (outermost : ℤ) (budget : ℕ) where
     proves = within.proves;
     within = rw is (omega (arith, ints));
     search = within.search;
+    fits = within.fits;
   }
 
   module _ (standing : Standing) (stands : IsStanding f standing) where

@@ -8,7 +8,7 @@ use Rattle.pc_model.specs.Aggregate.{Ratio, whole, IsAtMost, IsSame}
 use Rattle.pc_bound.specs.declared.program.Program.{Program}
 use Rattle.pc_bound.specs.SplitTrees.{Proves, IsInPreorder, bound_by, tree_of}
 use Rattle.pc_branch.specs.Licence.{IsSearchTree, IsLicence}
-use Rattle.pc_branch.specs.Outcome.{splits_of, IsOutcome}
+use Rattle.pc_branch.specs.Outcome.{splits_of, AreFitLeaves, IsOutcome}
 use Rattle.pc_branch.specs.declared.outcome.Outcome.TheVariants.{Spent}
 use Rattle.pc_proof.specs.Table.{ratio_of}
 use Rattle.pc_ratio.specs.declared.fractional.Fractional.{Fractional}
@@ -26,6 +26,7 @@ pub record IsTreeWithin (p : Program) (budget : ℕ) (tree : Tree) (most : ℤ) 
   pub proves : Proves p p.floor p.cap (tree_of tree.nodes)
   pub within : MatchOption (bound_by p p.floor p.cap (tree_of tree.nodes)) ⊤ (λ k. k ≤ℤ most)
   pub search : IsSearchTree p budget None (splits_of (tree_of tree.nodes))
+  pub fits : AreFitLeaves (tree_of tree.nodes)
 
 -- with what is there before, no counts are above the ratio; or no number is, and the tree shows that none gains
 abbrev pub IsShown : Fractional → ℤ → ℕ → Ratio → Tree → Type 0

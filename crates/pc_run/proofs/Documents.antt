@@ -4,7 +4,6 @@ use Rattle.std.specs.List.{AllZip}
 use Rattle.std.proofs.lemmas.List.Elements.{All-nil, All-cons, All-head, All-tail, All-append}
 use Rattle.pc_num.specs.declared.fraction.Frac.{Frac}
 use Rattle.pc_model.specs.declared.schema.Schema.{Schema}
-use Rattle.pc_model.specs.declared.tree.CutNode.{CutNode}
 use Rattle.pc_model.specs.declared.query.Agg.TheVariants.{Avg}
 use Rattle.pc_model.specs.declared.query.Query.{Query}
 use Rattle.pc_model.specs.Accepted.{IsQuery}
@@ -12,27 +11,13 @@ use Rattle.pc_rows.specs.declared.case.Case.{Case}
 use Rattle.pc_proof.specs.declared.answer.End.{End}
 use Rattle.pc_proof.specs.declared.document.Block.{Block}
 use Rattle.pc_proof.specs.declared.document.Document.{Document}
-use Rattle.pc_proof.specs.Documents.{nodes_after}
 use Rattle.pc_report.specs.Units.{IsAverage, HasAverages}
 use Rattle.pc_avg.specs.Averages.{IsShort, IsShortEnd, HasShortEnds}
 use Rattle.pc_group.specs.Answers.{AnswersWanted}
-use Rattle.pc_group.specs.Trees.{Told, told_with, told_after, told}
+use Rattle.pc_group.specs.Trees.{Told, told}
+use Rattle.pc_group.proofs.FormedBlocks.{all_blocks}
 use Rattle.pc_group.specs.Wanted.{Wanted, wanted_in, wanted_by, wanted_of, wanted, allowed_names}
 use Rattle.pc_run.specs.Answers.{AnswersCase}
-
--- ---- blocks as they are told
-
-all_told_with : (P : Block → Type 0) (block : Block) (nodes : Option (List CutNode)) (later : Option (List CutNode) → List Told) → All (λ (t : Told). P t.block) (told_with block nodes later) → P block × All (λ (t : Told). P t.block) (later nodes)
-all_told_with P block None later each = (All-head (λ (t : Told). P t.block) (record { block = block; nodes = [] }) (later None) each, All-tail (λ (t : Told). P t.block) (record { block = block; nodes = [] }) (later None) each)
-all_told_with P block (Some nodes) later each = (All-head (λ (t : Told). P t.block) (record { block = block; nodes = nodes }) (later (Some nodes)) each, All-tail (λ (t : Told). P t.block) (record { block = block; nodes = nodes }) (later (Some nodes)) each)
-
--- what holds of each block as it is told holds of each block
-all_blocks : (P : Block → Type 0) (blocks : List Block) (before : Option (List CutNode)) → All (λ (t : Told). P t.block) (told_after blocks before) → All P blocks
-unfolding told_after
-all_blocks P [] before each = All-nil P
-all_blocks P (block ∷ blocks) before each =
-    let parts = all_told_with P block (nodes_after before block.tree) (told_after blocks) each in
-    All-cons P block blocks parts.0 (all_blocks P blocks (nodes_after before block.tree) parts.1)
 
 -- what each pair gives of its second part
 second_of : {A B : Type 0} (R : A → B → Type 0) (P : A → Type 0) (Q : B → Type 0) → ((a : A) (b : B) → P a → R a b → Q b) → (xs : List A) (ys : List B) → All P xs → AllZip R xs ys → All Q ys

@@ -10,6 +10,7 @@ use Rattle.pc_bound.specs.SplitTrees.{SplitTree, bound, void, split, less_caps, 
 use Rattle.pc_bound.specs.Bound.{bound_of}
 use Rattle.pc_proof.specs.Setting.{Setting, cells, program_for}
 use Rattle.pc_proof.specs.Table.{none, ShowsNone}
+use Rattle.pc_search.specs.Fitting.{IsVoidTree}
 use Rattle.pc_search.specs.Limits.{IsEmpty}
 
 neither : (a b : Option ℤ) → greater a b ≡ None → (a ≡ None) × (b ≡ None)
@@ -33,8 +34,11 @@ module _ (constraints : List Constraint) (classes : List Class) (gains others : 
       let more = other_gains (more_floors floors cell at) caps u proves.4 parts.1 in
       ((proves.0, proves.1, proves.2, less.0, more.0), rw (less.1, more.1) refl)
 
-pub shows_none : (s : Setting) (gains : List ℤ) (budget : ℕ) (tree : Tree) → IsEmpty (program_with s.question.constraints (cells s) gains) budget tree → ShowsNone (program_for s none) tree
+shows_none : (s : Setting) (gains : List ℤ) (budget : ℕ) (tree : Tree) → IsEmpty (program_with s.question.constraints (cells s) gains) budget tree → ShowsNone (program_for s none) tree
 shows_none s gains budget tree empty =
     let p = program_with s.question.constraints (cells s) gains in
     let shown = other_gains s.question.constraints (cells s) gains (map none (cells s)) p.floor p.cap (tree_of tree.nodes) empty.proves empty.none in
     record { sound = record { proves = shown.0; small = rw shown.1 tt }; none = rw shown.1 refl }
+
+pub void_tree : (s : Setting) (gains : List ℤ) (budget : ℕ) (tree : Tree) → IsEmpty (program_with s.question.constraints (cells s) gains) budget tree → IsVoidTree s tree
+void_tree s gains budget tree empty = record { shows = shows_none s gains budget tree empty; fits = record { preorder = empty.preorder; leaves = empty.fits } }

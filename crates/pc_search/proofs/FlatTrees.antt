@@ -3,6 +3,8 @@ use Rattle.std.proofs.Common.{◌≡◌, ℕ, ◌<◌, ◌≤◌, refl, sym, ap,
 use Rattle.std.specs.Prelude.{ℤ, pos, ◌*ℤ◌, ◌≤ℤ◌}
 use Rattle.std.specs.Int.{int_max}
 use Rattle.std.proofs.lemmas.Int.{ints, clamps}
+use Rattle.std.proofs.lemmas.List.Elements.{All-replicate}
+use Rattle.pc_num.specs.Signs.{Fits}
 use Rattle.pc_model.specs.Places.{has_bit}
 use Rattle.pc_bound.specs.declared.program.Program.{Program}
 use Rattle.pc_bound.specs.Sums.{nat_at, int_at}
@@ -57,4 +59,5 @@ module _ (p : Program) where
       proves = start_multipliers p (HasFitWidth-small p program small);
       under = omega (arith, ints, bound_none);
       search = record { few = some; splits = tt };
+      fits = (All-replicate Fits (constraints_of p) (pos 0) (omega (arith, ints)), omega (arith, ints));
     })

@@ -4,6 +4,9 @@ pub mod CellPrograms
 pub mod CellTargets
 pub mod Empty
 pub mod FlatTrees
+pub mod FormedAnswers
+pub mod FormedRuns
+pub mod FormedTrees
 pub mod Limits
 pub mod ListedPrograms
 pub mod LoweredCaps
@@ -11,6 +14,7 @@ pub mod ManyCells
 pub mod OneBits
 pub mod Probing
 pub mod ProgramEnds
+pub mod RowNumbers
 pub mod SettledPrograms
 pub mod Shorts
 pub mod Sizes

@@ -24,7 +24,7 @@ use Rattle.pc_bound.specs.CellPrograms.{program_with}
 use Rattle.pc_bound.proofs.CellPlaces.{no_class, cell_inside, cap_is}
 use Rattle.pc_bound.proofs.SumBelow.{sum_below-zero, sum_below-suc}
 use Rattle.pc_branch.specs.Ends.{HasSmallGains}
-use Rattle.pc_search.specs.Limits.{greatest_gain}
+use Rattle.pc_search.specs.Limits.{greatest_gain, greatest_worth}
 use Rattle.pc_search.proofs.CellPrograms.{cap_small}
 use Rattle.pc_search.proofs.OneBits.{Differ}
 
@@ -90,41 +90,49 @@ sum_at_most (suc n) m f each =
     let longer : suc n * m ≡ n * m + m = omega arith in
     rw (sum_below-suc n f, longer) (omega (arith, ints, before, last))
 
-size_small : (g : ℤ) (c : ℕ) → nat_abs g ≤ greatest_gain → c ≤ 10_000_000 → (pos (nat_abs g) *ℤ pos c) ≤ℤ pos (greatest_gain * 10_000_000)
-size_small g c gain cap =
-    let first : nat_abs g * c ≤ nat_abs g * 10_000_000 = mul-le-mul_left (nat_abs g) cap in
-    let second : nat_abs g * 10_000_000 ≤ greatest_gain * 10_000_000 = mul-le-mul_right 10_000_000 gain in
+size_small : (n : ℕ) (g : ℤ) (c : ℕ) → nat_abs g ≤ n → c ≤ frequency_limit → (pos (nat_abs g) *ℤ pos c) ≤ℤ pos (n * frequency_limit)
+size_small n g c gain cap =
+    let first : nat_abs g * c ≤ nat_abs g * frequency_limit = mul-le-mul_left (nat_abs g) cap in
+    let second : nat_abs g * frequency_limit ≤ n * frequency_limit = mul-le-mul_right frequency_limit gain in
     omega (arith, ints, first, second)
 
 module _ (constraints : List Constraint) (classes : List Class) (gains : List ℤ) where
   abbrev program : Program
   program = program_with constraints classes gains
 
+  inside : (i : ℕ) → i < cells_of program → i < length classes
+  inside i h = cell_inside constraints classes gains i h
+
+  module _ (schema : Schema) (are : AreConstraints schema constraints) (many : length classes ≤ 2 * 2 ^ length constraints) (sized : length gains ≡ length classes)
+      (n : ℕ) (small : All (λ gain. nat_abs gain ≤ n) gains) where
+    gain_small : (i : ℕ) → i < cells_of program → nat_abs (int_at gains i) ≤ n
+    gain_small i h = let there = inside i h in small i (pos 0) (omega (arith, there, sized))
+
+    cap_at : (i : ℕ) → i < cells_of program → nat_at program.cap i ≤ frequency_limit
+    cap_at i h =
+        let there = inside i h in
+        let at_most = cap_small frequency_limit (get_or classes i no_class) constraints are.small in
+        omega (arith, at_most, cap_is constraints classes gains i there)
+
+    few : length constraints ≤ 20
+    few = are.few
+
+    cells_small : cells_of program ≤ 2_097_152
+    cells_small =
+        let most : 2 ^ length constraints ≤ 2 ^ 20 = pow_mono few in
+        omega (arith, many, most, length-map classes (λ (class : Class). class.mask))
+
+    -- what all gains can come to
+    pub worth_at_most : greatest_worth program ≤ℤ pos (2_097_152 * (n * frequency_limit))
+    worth_at_most =
+        let all = sum_at_most (cells_of program) (n * frequency_limit) (λ i. pos (nat_abs (int_at gains i)) *ℤ pos (nat_at program.cap i)) (λ i h. size_small n (int_at gains i) (nat_at program.cap i) (gain_small i h) (cap_at i h)) in
+        let most : cells_of program * (n * frequency_limit) ≤ 2_097_152 * (n * frequency_limit) = mul-le-mul_right (n * frequency_limit) cells_small in
+        omega (arith, ints, all, most)
+
   pub small_gains : (schema : Schema) → AreConstraints schema constraints → length classes ≤ 2 * 2 ^ length constraints → length gains ≡ length classes → All (λ gain. nat_abs gain ≤ greatest_gain) gains → HasSmallGains program
-  small_gains schema are many sized small = record {
-    gains = λ i h. omega (arith, gain_small i h);
-    sum = omega (arith, ints, all, cells_small, few);
-  }
-    where
-      inside : (i : ℕ) → i < cells_of program → i < length classes
-      inside i h = cell_inside constraints classes gains i h
-
-      gain_small : (i : ℕ) → i < cells_of program → nat_abs (int_at gains i) ≤ greatest_gain
-      gain_small i h = let there = inside i h in small i (pos 0) (omega (arith, there, sized))
-
-      cap_at : (i : ℕ) → i < cells_of program → nat_at program.cap i ≤ 10_000_000
-      cap_at i h =
-          let there = inside i h in
-          let at_most = cap_small frequency_limit (get_or classes i no_class) constraints are.small in
-          omega (arith, at_most, cap_is constraints classes gains i there)
-
-      all : sum_below (cells_of program) (λ i. pos (nat_abs (int_at gains i)) *ℤ pos (nat_at program.cap i)) ≤ℤ pos (cells_of program * (greatest_gain * 10_000_000))
-      all = sum_at_most (cells_of program) (greatest_gain * 10_000_000) (λ i. pos (nat_abs (int_at gains i)) *ℤ pos (nat_at program.cap i)) (λ i h. size_small (int_at gains i) (nat_at program.cap i) (gain_small i h) (cap_at i h))
-
-      few : length constraints ≤ 20
-      few = are.few
-
-      cells_small : cells_of program ≤ 2_097_152
-      cells_small =
-          let most : 2 ^ length constraints ≤ 2 ^ 20 = pow_mono few in
-          omega (arith, many, most, length-map classes (λ (class : Class). class.mask))
+  small_gains schema are many sized small =
+      let all = worth_at_most schema are many sized greatest_gain small in
+      record {
+        gains = λ i h. let gain = gain_small schema are many sized greatest_gain small i h in omega (arith, gain);
+        sum = omega (arith, ints, all);
+      }

@@ -82,7 +82,7 @@ module _ (p : Program) (budget : ℕ) (want : Want) (before : List (List ℕ)) (
   all = before ++ found_of limit.found
 
   falls_short : IsUnder want limit.most → FallsShort p want budget limit.tree
-  falls_short under = record { preorder = is.preorder; proves = is.proves; under = under_within want limit.most _ is.within under; search = is.search }
+  falls_short under = record { preorder = is.preorder; proves = is.proves; under = under_within want limit.most _ is.within under; search = is.search; fits = is.fits }
 
   in_doubt : IsProgram p → Reaches want limit.most → IsDoubt p want budget all
   in_doubt program reaches = by_why is.why

@@ -64,16 +64,17 @@ module _ (schema : Schema) (constraints : List Constraint) (chosen : Region) (cl
 
 -- ---- of the cells of a settled tree
 
+pub have_rows : (schema : Schema) (constraints : List Constraint) (chosen : Region) (nodes : List CutNode) → IsWellFormed schema → IsSettledTree schema constraints chosen nodes →
+    All (HasRowOf schema constraints chosen) (classes_of (leaves_in schema nodes))
+have_rows schema constraints chosen nodes formed tree =
+    All-weaker (Contains (classes_of (leaves_in schema nodes))) (HasRowOf schema constraints chosen)
+    (λ class listed. (classes_of_tree schema constraints chosen nodes formed tree class).0 listed) (classes_of (leaves_in schema nodes))
+    (All-contains_itself (classes_of (leaves_in schema nodes)))
+
 module _ (schema : Schema) (constraints : List Constraint) (chosen : Region) (nodes : List CutNode) (cells : List Cell) (gains : List ℤ) (formed : IsWellFormed schema)
     (tree : IsSettledTree schema constraints chosen nodes) (cells_are : cells ≡ cells_of (leaves_in schema nodes)) where
   pub classes_are : map class_of_cell cells ≡ classes_of (leaves_in schema nodes)
   classes_are = ap (map class_of_cell) cells_are ∙ classes_of_cells (leaves_in schema nodes) (classes_of (leaves_in schema nodes))
-
-  have_rows : All (HasRowOf schema constraints chosen) (classes_of (leaves_in schema nodes))
-  have_rows =
-      All-weaker (Contains (classes_of (leaves_in schema nodes))) (HasRowOf schema constraints chosen)
-      (λ class listed. (classes_of_tree schema constraints chosen nodes formed tree class).0 listed) (classes_of (leaves_in schema nodes))
-      (All-contains_itself (classes_of (leaves_in schema nodes)))
 
   sized_classes : length gains ≡ length cells → length gains ≡ length (map class_of_cell cells)
   sized_classes sized = sized ∙ sym (length-map cells class_of_cell)
@@ -85,14 +86,14 @@ module _ (schema : Schema) (constraints : List Constraint) (chosen : Region) (no
       → length gains ≡ length cells → All (λ gain. nat_abs gain ≤ greatest_gain) gains → HasOneBits p
   cells_one_bits p is are disjoint sized small =
       subst HasOneBits (sym is)
-      (has_one_bits schema constraints chosen (map class_of_cell cells) gains disjoint (subst (All (HasRowOf schema constraints chosen)) (sym classes_are) have_rows)
+      (has_one_bits schema constraints chosen (map class_of_cell cells) gains disjoint (subst (All (HasRowOf schema constraints chosen)) (sym classes_are) (have_rows schema constraints chosen nodes formed tree))
       (subst (AllPairs Differ) (sym classes_are) (classes_of-differ (leaves_in schema nodes))) are (sized_classes sized) small)
 
   pub cells_small : (p : Program) → p ≡ program_with constraints (map class_of_cell cells) gains → AreConstraints schema constraints
       → length gains ≡ length cells → All (λ gain. nat_abs gain ≤ greatest_gain) gains → HasSmallGains p
   cells_small p is are sized small =
       let differ = subst (AllPairs Differ) (sym classes_are) (classes_of-differ (leaves_in schema nodes)) in
-      let many = many_cells schema constraints chosen (map class_of_cell cells) (subst (All (HasRowOf schema constraints chosen)) (sym classes_are) have_rows) differ in
+      let many = many_cells schema constraints chosen (map class_of_cell cells) (subst (All (HasRowOf schema constraints chosen)) (sym classes_are) (have_rows schema constraints chosen nodes formed tree)) differ in
       subst HasSmallGains (sym is) (small_gains constraints (map class_of_cell cells) gains schema are many (sized_classes sized) small)
 
   pub program_is : (p : Program) → p ≡ program_with constraints (map class_of_cell cells) gains → p ≡ program_with constraints (classes_of (leaves_in schema nodes)) gains

@@ -6,10 +6,12 @@ use Rattle.std.proofs.lemmas.Int.{ints, clamps}
 use Rattle.pc_model.specs.declared.tree.Tree.{Tree}
 use Rattle.pc_bound.specs.declared.program.Program.{Program}
 use Rattle.pc_proof.specs.Setting.{Setting, seen_count}
-use Rattle.pc_proof.specs.Table.{limit, bound_for, IsSound, Shows, ShowsForced}
+use Rattle.pc_proof.specs.Table.{limit as bound_limit, bound_for, IsSound, Shows, ShowsForced}
 use Rattle.pc_search.specs.declared.want.Want.{Want}
 use Rattle.pc_search.specs.declared.want.Want.TheVariants as wants
-use Rattle.pc_search.specs.Limits.{IsEmpty}
+use Rattle.pc_search.specs.declared.limit.Limit.{Limit}
+use Rattle.pc_search.specs.Fitting.{IsFitTree}
+use Rattle.pc_search.specs.Limits.{IsLimit, IsEmpty}
 use Rattle.pc_search.specs.Wants.{IsUnder, FallsShort}
 
 under_small : (want : Want) (k : ℤ) → IsUnder want k → k ≤ℤ pos 0
@@ -17,18 +19,18 @@ under_small wants.Any k under = absurd under
 under_small wants.Gaining k under = under
 under_small wants.Without k under = omega (arith, ints, under)
 
-all_small : (want : Want) (k : Option ℤ) → MatchOption k ⊤ (IsUnder want) → IfSome k (λ x. x ≤ℤ limit)
+all_small : (want : Want) (k : Option ℤ) → MatchOption k ⊤ (IsUnder want) → IfSome k (λ x. x ≤ℤ bound_limit)
 all_small want None under = tt
 all_small want (Some k) under = omega (arith, ints, under_small want k under)
 
 pub sound_short : (p : Program) (want : Want) (budget : ℕ) (tree : Tree) → FallsShort p want budget tree → IsSound p tree
 sound_short p want budget tree short = record { proves = short.proves; small = all_small want (bound_for p tree) short.under }
 
-pass_none : (k : Option ℤ) → MatchOption k ⊤ (IsUnder wants.Gaining) → IfSome k (λ x. int_max x (neg_ℤ limit) ≤ℤ pos 0)
+pass_none : (k : Option ℤ) → MatchOption k ⊤ (IsUnder wants.Gaining) → IfSome k (λ x. int_max x (neg_ℤ bound_limit) ≤ℤ pos 0)
 pass_none None under = tt
 pass_none (Some k) under = omega (arith, ints, clamps, under)
 
-pass_some : (k : Option ℤ) → MatchOption k ⊤ (IsUnder wants.Without) → IfSome k (λ x. int_max x (neg_ℤ limit) ≤ℤ neg_ℤ (pos 1))
+pass_some : (k : Option ℤ) → MatchOption k ⊤ (IsUnder wants.Without) → IfSome k (λ x. int_max x (neg_ℤ bound_limit) ≤ℤ neg_ℤ (pos 1))
 pass_some None under = tt
 pass_some (Some k) under = omega (arith, ints, clamps, under)
 
@@ -57,11 +59,18 @@ shows_forced_gaining s p budget tree none short =
 
 -- a tree of void leaves falls short of anything, and one that falls short of any counts has void leaves alone
 pub empty_short : (p : Program) (want : Want) (budget : ℕ) (tree : Tree) → IsEmpty p budget tree → FallsShort p want budget tree
-empty_short p want budget tree empty = record { preorder = empty.preorder; proves = empty.proves; under = rw empty.none tt; search = empty.search }
+empty_short p want budget tree empty = record { preorder = empty.preorder; proves = empty.proves; under = rw empty.none tt; search = empty.search; fits = empty.fits }
 
 no_bound : (k : Option ℤ) → MatchOption k ⊤ (IsUnder wants.Any) → k ≡ None
 no_bound None under = refl
 no_bound (Some k) under = absurd under
 
 pub short_empty : (p : Program) (budget : ℕ) (tree : Tree) → FallsShort p wants.Any budget tree → IsEmpty p budget tree
-short_empty p budget tree short = record { preorder = short.preorder; proves = short.proves; none = no_bound (bound_for p tree) short.under; search = short.search }
+short_empty p budget tree short = record { preorder = short.preorder; proves = short.proves; none = no_bound (bound_for p tree) short.under; search = short.search; fits = short.fits }
+
+-- its numbers fit
+pub fit_short : (p : Program) (want : Want) (budget : ℕ) (tree : Tree) → FallsShort p want budget tree → IsFitTree tree
+fit_short p want budget tree short = record { preorder = short.preorder; leaves = short.fits }
+
+pub fit_limit : (p : Program) (budget : ℕ) (limit : Limit) → IsLimit p budget limit → IsFitTree limit.tree
+fit_limit p budget limit is = record { preorder = is.preorder; leaves = is.fits }

@@ -9,6 +9,7 @@ use Rattle.pc_bound.specs.Allocation.{cells_of, worth, IsAllocation}
 use Rattle.pc_bound.proofs.SumBelow.{sum_below-zero, sum_below-suc, sum_below-more}
 use Rattle.pc_tableau.proofs.Products.{neg-mul}
 use Rattle.pc_branch.specs.Ends.{HasSmallGains}
+use Rattle.pc_search.specs.Limits.{greatest_worth}
 
 -- between -m and m
 abbrev Within : ℤ → ℤ → Type 0
@@ -50,9 +51,12 @@ module _ (p : Program) (small : HasSmallGains p) (counts : List ℕ) (allowed : 
   size_some : (i : ℕ) → pos 0 ≤ℤ size i
   size_some i = omega (arith, ints)
 
+  part-within : (k : ℕ) → k ≤ cells_of p → Within (sum_below k size) (sum_below k term)
+  part-within k short = sum-within k term size (λ i h. product-within (int_at p.gain i) (nat_at counts i) (nat_at p.cap i) (allowed.within i (omega (arith, h, short))).1)
+
   pub part_small : (k : ℕ) → k ≤ cells_of p → nat_abs (sum_below k term) ≤ 10 ^ 37
   part_small k short =
-      let within = sum-within k term size (λ i h. product-within (int_at p.gain i) (nat_at counts i) (nat_at p.cap i) (allowed.within i (omega (arith, h, short))).1) in
+      let within = part-within k short in
       let grown = sizes-grow (cells_of p - k) k size size_some in
       let whole : cells_of p - k + k ≡ cells_of p = omega (arith, short) in
       let all : sum_below (cells_of p - k + k) size ≤ℤ pos (10 ^ 37) = rw whole small.sum in
@@ -60,6 +64,10 @@ module _ (p : Program) (small : HasSmallGains p) (counts : List ℕ) (allowed : 
 
   pub worth_small : nat_abs (worth p counts) ≤ 10 ^ 37
   worth_small = part_small (cells_of p) (omega arith)
+
+  -- at most what all gains can come to
+  pub worth_gained : pos (nat_abs (worth p counts)) ≤ℤ greatest_worth p
+  worth_gained = let within = part-within (cells_of p) (omega arith) in omega (arith, ints, within)
 
   pub term_small : (i : ℕ) → i < cells_of p → nat_abs (term i) ≤ 2 * 10 ^ 37
   term_small i h =

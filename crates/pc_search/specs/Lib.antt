@@ -1,5 +1,6 @@
 pub mod Asked
 pub mod Ends
+pub mod Fitting
 pub mod Flat
 pub mod Keys
 pub mod Limits

@@ -6,7 +6,7 @@ use Rattle.pc_bound.specs.Sums.{nat_at}
 use Rattle.pc_bound.specs.Allocation.{IsAllocation, cells_of, constraints_of, total, worth}
 use Rattle.pc_bound.specs.SplitTrees.{Proves, IsInPreorder, bound_by, tree_of}
 use Rattle.pc_branch.specs.Licence.{IsSearchTree}
-use Rattle.pc_branch.specs.Outcome.{splits_of}
+use Rattle.pc_branch.specs.Outcome.{AreFitLeaves, splits_of}
 use Rattle.pc_proof.specs.Setting.{Setting, on_chosen, program_for}
 use Rattle.pc_proof.specs.Table.{one, minus_one}
 use Rattle.pc_licence.specs.Wanted.{Wanted, LeavesOpen}
@@ -54,6 +54,7 @@ pub record FallsShort (p : Program) (want : Want) (budget : ℕ) (tree : Tree) :
   pub proves : Proves p p.floor p.cap (tree_of tree.nodes)
   pub under : MatchOption (bound_by p p.floor p.cap (tree_of tree.nodes)) ⊤ (IsUnder want)
   pub search : IsSearchTree p budget None (splits_of (tree_of tree.nodes))
+  pub fits : AreFitLeaves (tree_of tree.nodes)
 
 abbrev pub IsVerdict : Program → Want → ℕ → List (List ℕ) → Verdict → Type 0
 IsVerdict p want budget found (verdicts.Empty tree) = IsEmpty p budget tree

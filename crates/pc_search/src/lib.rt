@@ -3,6 +3,7 @@
 
 mod extreme;
 mod gains;
+mod laws;
 mod limit;
 mod one_leaf;
 mod probes;
@@ -13,6 +14,7 @@ mod want;
 
 pub use extreme::Extreme;
 pub use gains::{chosen_gains, chosen_program, equal_gains, gained_program, total_program};
+pub use laws::fitting_answers_are_formed;
 pub use limit::{Limit, Sought, seek};
 pub use one_leaf::flat_tree;
 pub use probes::{Probed, Verdict, find_wanted, probe};

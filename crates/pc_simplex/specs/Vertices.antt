@@ -41,9 +41,13 @@ IsGreatest p floors caps (void mult) = (den : ℕ) (counts : List ℕ) → IsRel
 IsGreatest p floors caps (wide steps) = Unit {0}
 IsGreatest p floors caps (stalled steps) = Unit {0}
 
+-- the multipliers and their denominator fit
+abbrev pub IsFitMult : Mult → Type 0
+IsFitMult mult = All IsFit mult.by × IsFit mult.den
+
 -- the multipliers of an answer fit, where it has some
 abbrev pub AreFitMultipliers : Relaxation → Type 0
-AreFitMultipliers (vertex point mult) = All IsFit mult.by
-AreFitMultipliers (void mult) = All IsFit mult.by
+AreFitMultipliers (vertex point mult) = IsFitMult mult
+AreFitMultipliers (void mult) = IsFitMult mult
 AreFitMultipliers (wide steps) = Unit {0}
 AreFitMultipliers (stalled steps) = Unit {0}

@@ -5,7 +5,7 @@ use Rattle.pc_search.specs.Ends.{IsPick}
 use Rattle.pc_search.specs.Limits.{IsLimit, IsReached}
 use Rattle.pc_search.specs.Settings.{unseen}
 use Rattle.pc_agg.proofs.Aiming.{towards_is}
-use Rattle.pc_search.proofs.Empty.{shows_none}
+use Rattle.pc_search.proofs.Empty.{void_tree}
 use Rattle.pc_search.proofs.SettledPrograms.{classes_are}
 use Rattle.pc_agg.proofs.aim.aim_at.Goals as goal
 
@@ -31,4 +31,4 @@ returns-in-Within-clause-disjoint c =
 
 pub returns-in-Nothing-clause-aimed : goal.returns-in-Nothing-clause-aimed
 returns-in-Nothing-clause-aimed c =
-    shows_none (unseen c.args.schema.now c.args.constraints.now c.args.query.now c.args.cells.now.tree.nodes) c.in_ok-targets.targets.gains c.args.nodes c.in-Nothing.tree (rw c.in-Nothing.is at c.in_ok-limit.ensures.sought)
+    void_tree (unseen c.args.schema.now c.args.constraints.now c.args.query.now c.args.cells.now.tree.nodes) c.in_ok-targets.targets.gains c.args.nodes c.in-Nothing.tree (rw c.in-Nothing.is at c.in_ok-limit.ensures.sought)

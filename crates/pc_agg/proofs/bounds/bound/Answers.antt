@@ -6,7 +6,10 @@ use Rattle.pc_search.specs.Ends.{gain_towards}
 use Rattle.pc_search.specs.Settings.{unseen}
 use Rattle.pc_agg.proofs.Aiming.{lawful_both, low_among, high_among, none_among_both, can_end, sized_first, none_of, some_of}
 use Rattle.pc_agg.proofs.Attained.{of_cells}
-use Rattle.pc_agg.proofs.Owing.{owes}
+use Rattle.pc_proof.specs.declared.answer.Why.TheVariants.{Void}
+use Rattle.pc_search.specs.Asked.{setting_for}
+use Rattle.pc_agg.specs.Owed.{Owes}
+use Rattle.pc_agg.proofs.Owing.{owes, owes_impossible}
 use Rattle.pc_agg.proofs.Totals.{settled_listed}
 use Rattle.pc_agg.proofs.bounds.bound.Goals as goal
 
@@ -68,7 +71,7 @@ returns-then-not-is_empty c =
       owes =
           IfOk-weaker c.between.result _ _
           (λ answer is asking.
-          owes c.args.schema.now c.args.constraints.now c.args.query.now c.args.seen.now nodes asked.formed asked.limited asked.found.tree c.args.nodes asking c.requires.has_value
+          owes c.args.schema.now c.args.constraints.now c.args.query.now c.args.seen.now nodes asked.formed asked.limited asked.found.tree c.args.nodes asking asked.few_seen asked.small_seen c.requires.has_value
           c.in_ok-settled.settled settled c.in-At.aim c.in-At-2.aim low high
           (rw (c.in_ok-settled.ensures, c.in_ok-found.ensures) (low_among c.args.schema.now c.args.constraints.now c.args.query.now nodes asked.limited c.args.query.now.agg c.args.nodes Low High c.in-At.aim c.in-At-2.aim low high))
           (rw (c.in_ok-settled.ensures, c.in_ok-found.ensures) (high_among c.args.schema.now c.args.constraints.now c.args.query.now nodes asked.limited c.args.query.now.agg c.args.nodes Low High c.in-At.aim c.in-At-2.aim low high))
@@ -93,7 +96,7 @@ returns c =
       owes =
           IfOk-weaker c.between-2.result _ _
           (λ answer is asking.
-          owes c.args.schema.now c.args.constraints.now c.args.query.now c.args.seen.now nodes asked.formed asked.limited asked.found.tree c.args.nodes asking c.requires.has_value
+          owes c.args.schema.now c.args.constraints.now c.args.query.now c.args.seen.now nodes asked.formed asked.limited asked.found.tree c.args.nodes asking asked.few_seen asked.small_seen c.requires.has_value
           c.in_ok-settled-2.settled c.in_ok-settled-2.ensures.settled c.in-At.aim c.in-At-2.aim low high among.0 among.1
           (λ disjoint. (
             c.in_ok-settled-2.ensures.disjoint disjoint,
@@ -116,3 +119,25 @@ settle_open-requires-clause-high c =
 
 pub settle_open-requires-clause-closed : goal.settle_open-requires-clause-closed
 settle_open-requires-clause-closed c disjoint none = rw none at (rw c.in-At.is at (c.in_ok-aim.ensures.disjoint disjoint))
+
+pub returns-in-Nothing : goal.returns-in-Nothing
+returns-in-Nothing c =
+    let asked = c.requires.asked in
+    let nodes = c.args.cells.now.tree.nodes in
+    let void = (rw c.in-Nothing.is at c.in_ok-aim.ensures.aimed) in
+    record {
+      owes = λ asking.
+          subst (Owes (setting_for c.args.schema.now c.args.constraints.now c.args.query.now c.args.seen.now nodes asking) c.args.nodes) (sym c.impossible_by.ensures)
+          (owes_impossible c.args.schema.now c.args.constraints.now c.args.query.now c.args.seen.now nodes asked.formed asked.limited asked.found.tree c.args.nodes asking (Void c.in-Nothing.tree) void.shows tt (λ seen_rows. void.fits));
+    }
+
+pub returns-in-Nothing-2 : goal.returns-in-Nothing-2
+returns-in-Nothing-2 c =
+    let asked = c.requires.asked in
+    let nodes = c.args.cells.now.tree.nodes in
+    let void = (rw c.in-Nothing-2.is at c.in_ok-aim-2.ensures.aimed) in
+    record {
+      owes = λ asking.
+          subst (Owes (setting_for c.args.schema.now c.args.constraints.now c.args.query.now c.args.seen.now nodes asking) c.args.nodes) (sym c.impossible_by-in-Nothing-2.ensures)
+          (owes_impossible c.args.schema.now c.args.constraints.now c.args.query.now c.args.seen.now nodes asked.formed asked.limited asked.found.tree c.args.nodes asking (Void c.in-Nothing-2.tree) void.shows tt (λ seen_rows. void.fits));
+    }

@@ -1,11 +1,15 @@
-use Rattle.std.proofs.Common.{ap, ◌∙◌}
+use Rattle.std.proofs.Common.{sym, ap, subst, ◌∙◌}
 use Rattle.std.specs.Prelude.{is_some}
 use Rattle.std.proofs.lemmas.Result.{IfOk-weaker}
 use Rattle.pc_model.specs.Accepted.{IsNumeric, IsColumnWhere}
 use Rattle.pc_model.specs.Right.{always_has_value}
 use Rattle.pc_agg.specs.Extremes.{seen_number}
 use Rattle.pc_search.specs.Settings.{unseen}
+use Rattle.pc_proof.specs.declared.answer.Why.TheVariants.{Void}
+use Rattle.pc_search.specs.Asked.{setting_for}
+use Rattle.pc_agg.specs.Owed.{Owes}
 use Rattle.pc_agg.proofs.Filling.{rows_of_cells}
+use Rattle.pc_agg.proofs.Owing.{owes_impossible, impossible_here, why_searched, fit_of_cells}
 use Rattle.pc_agg.proofs.Judging.{lacks_value, numbers_of, cells_counted, owes_none, observing, owes_judged, lawful_both_ends, can_low, can_high, sized_low}
 use Rattle.pc_agg.proofs.extremes.bound_extreme.Goals as goal
 
@@ -64,4 +68,34 @@ returns-in-At c =
           let ends = (rw c.in-At.is at (c.in_ok-pair.ensures.disjoint disjoint own.listed (rw c.is_some-observed.ensures at own.found_some))) in
           ((rw (c.is_some-observed.ensures, c.seen_number-number.ensures) at own), ends.0, ends.1)))
           c.judge.ensures;
+    }
+
+pub returns-in-Impossible : goal.returns-in-Impossible
+returns-in-Impossible c =
+    let asked = c.requires.asked in
+    let schema = c.args.schema.now in
+    let constraints = c.args.constraints.now in
+    let query = c.args.query.now in
+    let seen = c.args.seen.now in
+    let nodes = c.args.cells.now.tree.nodes in
+    let shown = (rw c.in-Impossible.is at c.in_ok-grounded.ensures.grounded) in
+    let why = c.in-Impossible.why in
+    record {
+      owes = λ asking.
+          subst (Owes (setting_for schema constraints query seen nodes asking) c.args.nodes) (sym c.impossible_by.ensures)
+          (owes_impossible schema constraints query seen nodes asked.formed asked.limited asked.found.tree c.args.nodes asking why
+          (impossible_here schema constraints query seen nodes asked.formed asked.limited asked.found.tree c.args.nodes asking why shown.0 shown.1)
+          (why_searched schema constraints query seen nodes asked.formed asked.limited asked.found.tree c.args.nodes asking why shown.1)
+          (λ seen_rows. fit_of_cells schema constraints query seen nodes asked.formed asked.limited asked.found.tree c.args.nodes asking why shown.1));
+    }
+
+pub returns-in-Empty : goal.returns-in-Empty
+returns-in-Empty c =
+    let asked = c.requires.asked in
+    let nodes = c.args.cells.now.tree.nodes in
+    let void = (rw c.in-Empty.is at c.in_ok-pair.ensures.pair) in
+    record {
+      owes = λ asking.
+          subst (Owes (setting_for c.args.schema.now c.args.constraints.now c.args.query.now c.args.seen.now nodes asking) c.args.nodes) (sym c.impossible_by-in-Empty.ensures)
+          (owes_impossible c.args.schema.now c.args.constraints.now c.args.query.now c.args.seen.now nodes asked.formed asked.limited asked.found.tree c.args.nodes asking (Void c.in-Empty.tree) void.shows tt (λ seen_rows. void.fits));
     }

@@ -18,14 +18,16 @@ returns-in-Empty-clause-grounded c =
     let u = unseen c.args.schema.now c.args.constraints.now c.args.query.now c.args.cells.now.tree.nodes in
     let probed =
     most_probed u c.args.observed c.args.nodes c.args.found c.in_ok-verdict.field-0 c.in_ok-most.most c.want_for-want.result c.in_ok-most.ensures.program c.want_for-want.ensures c.in_ok-verdict.ensures.probed in
-    (probed_empty u (on_chosen one) (want_for c.args.observed) c.args.nodes c.args.found c.in_ok-verdict.field-0 probed c.in-Empty.tree c.in-Empty.is, tt)
+    let void = probed_empty u (on_chosen one) (want_for c.args.observed) c.args.nodes c.args.found c.in_ok-verdict.field-0 probed c.in-Empty.tree c.in-Empty.is in
+    (void.shows, void.fits)
 
 pub returns-in-Short-clause-grounded : goal.returns-in-Short-clause-grounded
 returns-in-Short-clause-grounded c =
     let u = unseen c.args.schema.now c.args.constraints.now c.args.query.now c.args.cells.now.tree.nodes in
     let probed =
     most_probed u c.args.observed c.args.nodes c.args.found c.in_ok-verdict.field-0 c.in_ok-most.most c.want_for-want.result c.in_ok-most.ensures.program c.want_for-want.ensures c.in_ok-verdict.ensures.probed in
-    (most_none u c.args.observed c.args.nodes c.args.found c.requires.lawful c.requires.totals c.in_ok-verdict.field-0 probed c.in-Short.tree c.in-Short.is c.if-observed.true, tt)
+    let void = most_none u c.args.observed c.args.nodes c.args.found c.requires.lawful c.requires.totals c.in_ok-verdict.field-0 probed c.in-Short.tree c.in-Short.is c.if-observed.true in
+    (void.shows, void.fits)
 
 pub returns-in-Short-2-clause-grounded : goal.returns-in-Short-2-clause-grounded
 returns-in-Short-2-clause-grounded c =

@@ -26,7 +26,8 @@ pub returns-in-Empty-clause-grounded : goal.returns-in-Empty-clause-grounded
 returns-in-Empty-clause-grounded c =
     let u = unseen c.args.schema.now c.args.constraints.now c.args.query.now c.args.cells.now.tree.nodes in
     let probed = subst (λ p. IsProbed p wants.Without c.args.nodes c.args.found c.in_ok-verdict.field-0) c.in_ok-fewest.ensures.program c.in_ok-verdict.ensures.probed in
-    (probed_empty u (on_chosen minus_one) wants.Without c.args.nodes c.args.found c.in_ok-verdict.field-0 probed c.in-Empty.tree c.in-Empty.is, tt)
+    let void = probed_empty u (on_chosen minus_one) wants.Without c.args.nodes c.args.found c.in_ok-verdict.field-0 probed c.in-Empty.tree c.in-Empty.is in
+    (void.shows, void.fits)
 
 pub ground_most-requires-clause-some : goal.ground_most-requires-clause-some
 ground_most-requires-clause-some c =

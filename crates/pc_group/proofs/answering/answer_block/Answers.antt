@@ -35,5 +35,5 @@ returns c =
     IfOk-weaker c.with_block.result _ _
     (λ more has observed blocks fold each.
     block_more (AnswersWanted c.args.nodes schema observed constraints) c.args.shared.now.nodes blocks (record { query = query; name = c.args.name }) nodes answer c.args.written more has
-    (answers_wanted c.args.nodes schema observed constraints query c.args.name nodes answer c.requires.well_formed c.requires.asked c.requires.named c.requires.allowed seen fold owes short) c.in_ok-cells.ensures.same each)
+    (answers_wanted c.args.nodes schema observed constraints query c.args.name nodes answer c.requires.well_formed c.requires.accepted c.requires.asked c.requires.named c.requires.allowed seen fold owes short c.args.written.last) c.in_ok-cells.ensures.same each)
     c.with_block.ensures

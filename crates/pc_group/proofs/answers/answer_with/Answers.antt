@@ -1,6 +1,7 @@
 use Rattle.std.proofs.Common.{◌∙◌}
 use Rattle.pc_group.specs.Wanted.{wanted}
 use Rattle.pc_group.proofs.Regions.{are_regions, divided_for}
+use Rattle.pc_group.proofs.FormedBlocks.{all_formed}
 use Rattle.pc_group.proofs.answers.answer_with.Goals as goal
 
 pub refine_for_all-requires-clause-regions : goal.refine_for_all-requires-clause-regions
@@ -13,3 +14,8 @@ answer_queries-requires-clause-divided c =
 pub returns-clause-divided : goal.returns-clause-divided
 returns-clause-divided c =
     divided_for c.args.schema.now c.args.constraints.now c.refine_for_all.new.shared.nodes (wanted c.args.schema.now c.args.queries.now) c.as_slice.result.now (c.as_slice.ensures ∙ c.in_ok-regions.ensures) c.in_ok-refine_for_all.ensures.divided
+
+pub returns-clause-formed : goal.returns-clause-formed
+returns-clause-formed c = λ first.
+    all_formed c.args.nodes c.args.schema.now c.args.rows.now c.args.constraints.now c.refine_for_all.new.shared.nodes c.requires.seen (c.in_ok-refine_for_all.ensures.own first) (wanted c.args.schema.now c.args.queries.now)
+    c.in_ok-written.written.blocks c.in_ok-written.ensures.answers c.in_ok-written.ensures.of_tree

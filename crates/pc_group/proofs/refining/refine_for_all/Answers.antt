@@ -1,7 +1,9 @@
-use Rattle.std.proofs.Common.{List, All, subst, arith}
+use Rattle.std.proofs.Common.{◌≡◌, true, List, All, sym, subst, arith}
 use Rattle.std.proofs.lemmas.List.{take_all}
 use Rattle.pc_model.specs.declared.region.Region.{Region}
+use Rattle.pc_model.specs.Regions.{is_region_of}
 use Rattle.pc_tree.specs.Linked.{IsDividedFor}
+use Rattle.pc_group.proofs.FormedCuts.{own_more}
 use Rattle.pc_group.proofs.Inner.{divided_more, keeps_more}
 use Rattle.pc_group.proofs.refining.refine_for_all.Goals as goal
 
@@ -16,6 +18,7 @@ loop-region-preserved c =
     record {
       tree = done.tree;
       kept = keeps_more schema constraints region c.args.shared.now.nodes before c.refine.new.self.nodes so_far.tree so_far.kept done.kept;
+      own = λ first. own_more schema constraints region c.requires.servable (subst (λ (r : Region). is_region_of schema r ≡ true) (sym c.region-item.is) (c.requires.regions c.loop-region.region-index region c.loop-region-test.true)) before c.refine.new.self.nodes so_far.tree done.tree done.kept done.needed (so_far.own first);
       divided = divided_more schema constraints c.args.regions.now c.loop-region.region-index region before c.refine.new.self.nodes c.loop-region-test.true c.region-item.is so_far.tree done.kept done.divided so_far.divided;
     }
 

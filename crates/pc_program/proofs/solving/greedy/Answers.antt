@@ -12,4 +12,4 @@ returns-in-All-clause-solved c =
     (same ∙ (rw c.as_slice.ensures at c.worth_of-value.ensures.value))
 
 pub returns-in-All-clause-fits : goal.returns-in-All-clause-fits
-returns-in-All-clause-fits c = fit_settled c.args.p.now c.in-All.counts c.in-All.multipliers (rw c.in-All.is at c.in_ok-counts.ensures)
+returns-in-All-clause-fits c = (fit_settled c.args.p.now c.in-All.counts c.in-All.multipliers (rw c.in-All.is at c.in_ok-counts.ensures), omega (arith, ints))

@@ -22,3 +22,10 @@ fits_width-requires-clause-positive c =
 pub point-requires-clause-stands : goal.point-requires-clause-stands
 point-requires-clause-stands c =
     (vertex_stands c.args.p.now c.args.floor.now c.args.cap.now c.args.steps c.args.tableau.now c.requires.program c.requires.inside c.requires.ending).0
+
+pub returns-in-Some-clause-fits : goal.returns-in-Some-clause-fits
+returns-in-Some-clause-fits c =
+    let fits = c.requires.fits.weight in
+    let seen : c.tableau.inside.weight ≡ c.args.tableau.now.weight = ap (λ (t : Tableau). t.weight) c.tableau.view_is in
+    let same : to_z w128 (of_z w128 c.tableau.inside.weight) ≡ c.tableau.inside.weight = omega (arith, ints, seen, fits) in
+    (c.in_ok-mult.ensures.fits, rw (c.in_ok-mult.ensures.value, same, seen) fits)

@@ -1,0 +1,227 @@
+-- The cuts of a tree that is cut along regions are in form.
+use Rattle.std.proofs.Common.{◌≡◌, ℕ, zero, suc, ◌+◌, ◌<◌, ◌≤◌, ◌^◌, ◌&&◌, ◌==◌, nat_lt, not, Bool, true, false, true≢false, List, [], ◌∷◌, ◌++◌, length, get_or, All, Any, ◌⊎◌, inl, inr, Option, Some, None, refl, sym, ap, subst, ◌∙◌, arith, ltb-true}
+use Rattle.std.specs.Prelude.{ℤ, pos, ◌-ℤ◌, ◌≤ℤ◌, int_le, int_lt, nat_abs, slice_get, slice_index_or, IfSome, IsSomeAnd, if◌then◌else◌}
+use Rattle.std.specs.Cmp.Lexicographic.{pointwise}
+use Rattle.std.specs.Int.Bits.{bit_and}
+use Rattle.std.proofs.Math.Pow.{pow_mono}
+use Rattle.std.proofs.lemmas.Bool.{and_parts, cases_lt}
+use Rattle.std.proofs.lemmas.Int.{ints}
+use Rattle.std.proofs.lemmas.List.{get_or_past, get_or_append_left, get_or-append-add, length-append}
+use Rattle.std.proofs.lemmas.List.Elements.{All-nil, All-cons, All-append, All-head, All-tail}
+use Rattle.std.proofs.lemmas.Nat.{and_le_r}
+use Rattle.std.proofs.lemmas.Option.{none-some, same_Some}
+use Rattle.pc_model.specs.declared.schema.Kind.{Kind}
+use Rattle.pc_model.specs.declared.schema.Kind.TheVariants.{Int, Dec, Cat}
+use Rattle.pc_model.specs.declared.schema.Column.{Column}
+use Rattle.pc_model.specs.declared.schema.Schema.{Schema}
+use Rattle.pc_model.specs.declared.region.Side.{Side}
+use Rattle.pc_model.specs.declared.region.Side.TheVariants.{Span, Names}
+use Rattle.pc_model.specs.declared.region.Region.{Region}
+use Rattle.pc_model.specs.declared.constraint.Constraint.{Constraint}
+use Rattle.pc_model.specs.declared.tree.Cut.{Cut}
+use Rattle.pc_model.specs.declared.tree.Cut.TheVariants.{At, Among}
+use Rattle.pc_model.specs.declared.tree.CutNode.{CutNode}
+use Rattle.pc_model.specs.declared.tree.CutNode.TheVariants as forms
+use Rattle.pc_model.specs.declared.tree.LeafMark.{LeafMark}
+use Rattle.pc_model.specs.declared.tree.LeafMark.TheVariants as marks
+use Rattle.pc_model.specs.declared.tree.Leaf.{Leaf}
+use Rattle.pc_model.specs.Boxes.{IsServable}
+use Rattle.pc_model.specs.Cells.{IsSettled, IsSettledAs, IsSettledTree, AreSettled}
+use Rattle.pc_model.specs.CutTrees.{CutShape, leaf, inner, size_of, nodes_from, leaves_of, shape_of, column_of, first_part, second_part, IsProper, HasProperCuts, side_at}
+use Rattle.pc_model.specs.Membership.{has}
+use Rattle.pc_model.specs.Places.{places_outside}
+use Rattle.pc_model.specs.Regions.{is_side_of, is_region_of, whole_region}
+use Rattle.pc_model.specs.WellFormed.{IsKind, IsSpan, IsColumn, IsWellFormed}
+use Rattle.pc_model.proofs.WholeDomain.{whole_is_region}
+use Rattle.pc_box.specs.Cuts.{is_first, divides_side, divides_found}
+use Rattle.pc_box.proofs.CutRows.{first_rows, second_rows, first_alike, second_alike}
+use Rattle.pc_box.proofs.Proper.{Divides-from_proper}
+use Rattle.pc_box.proofs.Schemas.{IsBox-from_schema, is_region-from_inside}
+use Rattle.pc_tree.specs.Decisions.{IsCutFor, IsNeeded}
+use Rattle.pc_tree.specs.Linked.{IsTree, IsDone, HasKept, HasNeededCuts, box_at, node_at, is_leaf_node}
+use Rattle.pc_tree.specs.Stances.{side_cut, IsAlong, IsCutThrough}
+use Rattle.pc_tree.specs.Walking.{HasCutsAt}
+use Rattle.pc_proof.specs.Form.{IsFormedCut, IsFormedCutOf, IsFormedMarkOf, IsFormedCutNode, IsFormedCutTree}
+use Rattle.pc_group.specs.Trees.{HasBitsOf, HasOwnBits, HasOwnShape, IsOwnNode, HasOwnCuts}
+
+-- ---- the bits of a cut along a region
+
+test_bits : (names : List (List ℕ)) (column bits : ℕ) (test : Bool) (cut : Cut) → bits < 2 ^ length names → (if test then None else Some (Among column bits)) ≡ Some cut → HasBitsOf cut (Cat names)
+test_bits names column bits true cut few e = absurd (none-some cut e)
+test_bits names column bits false cut few e = subst (λ (c : Cut). HasBitsOf c (Cat names)) (same_Some (Among column bits) cut e) few
+
+side_bits : (kind : Kind) (side other : Side) (column : ℕ) (cut : Cut) → is_side_of kind other ≡ true → side_cut column side other ≡ Some cut → HasBitsOf cut kind
+unfolding side_cut
+side_bits (Int low high) side other column cut own e = tt
+side_bits (Dec scale low high) side other column cut own e = tt
+side_bits (Cat names) side (Span low high) column cut own e = absurd (true≢false (sym own))
+side_bits (Cat names) (Span low high) (Names bits) column cut own e = absurd (none-some cut e)
+side_bits (Cat names) (Names held) (Names bits) column cut own e =
+    let parts = and_parts (nat_lt 0 bits) (nat_lt bits (2 ^ length names)) own in
+    test_bits names column bits (places_outside held bits == 0) cut (ltb-true bits (2 ^ length names) parts.1) e
+
+-- the cut is of that column
+test_column : (column : ℕ) (test : Bool) (made cut : Cut) (later : Option Cut) → column_of made ≡ column → (later ≡ Some cut → column_of cut ≡ column) → (if test then Some made else later) ≡ Some cut → column_of cut ≡ column
+test_column column true made cut later is next e = ap column_of (sym (same_Some made cut e)) ∙ is
+test_column column false made cut later is next e = next e
+
+test_none : (column : ℕ) (test : Bool) (made cut : Cut) → column_of made ≡ column → (if test then None else Some made) ≡ Some cut → column_of cut ≡ column
+test_none column true made cut is e = absurd (none-some cut e)
+test_none column false made cut is e = ap column_of (sym (same_Some made cut e)) ∙ is
+
+column_is : (column : ℕ) (side other : Side) (cut : Cut) → side_cut column side other ≡ Some cut → column_of cut ≡ column
+unfolding side_cut
+column_is column (Span low high) (Span from to) cut e =
+    test_column column (int_lt low from) (At column (from -ℤ pos 1)) cut (if int_lt to high then Some (At column to) else None) refl
+    (test_column column (int_lt to high) (At column to) cut None refl (λ none. absurd (none-some cut none))) e
+column_is column (Span low high) (Names bits) cut e = absurd (none-some cut e)
+column_is column (Names held) (Span from to) cut e = absurd (none-some cut e)
+column_is column (Names held) (Names bits) cut e = test_none column (places_outside held bits == 0) (Among column bits) cut refl e
+
+bits_at : (columns : List Column) (sides : List Side) (place column : ℕ) (side : Side) (cut : Cut) → pointwise (λ (c : Column). is_side_of c.kind) columns sides ≡ true →
+    side_cut column side (slice_index_or sides place (Names 0)) ≡ Some cut → IfSome (slice_get columns place) (λ (c : Column). HasBitsOf cut c.kind)
+bits_at [] sides place column side cut h e = tt
+bits_at (c ∷ columns) [] place column side cut h e = absurd (true≢false (sym h))
+bits_at (c ∷ columns) (s ∷ sides) zero column side cut h e = side_bits c.kind side s column cut (and_parts (is_side_of c.kind s) (pointwise (λ (x : Column). is_side_of x.kind) columns sides) h).0 e
+bits_at (c ∷ columns) (s ∷ sides) (suc place) column side cut h e = bits_at columns sides place column side cut (and_parts (is_side_of c.kind s) (pointwise (λ (x : Column). is_side_of x.kind) columns sides) h).1 e
+
+along_bits : (schema : Schema) (area region : Region) (cut : Cut) → is_region_of schema region ≡ true → IsAlong area region cut → HasOwnBits schema cut
+unfolding is_region_of
+along_bits schema area region cut h along =
+    subst (λ (n : ℕ). IfSome (slice_get schema.columns n) (λ (c : Column). HasBitsOf cut c.kind)) (sym (column_is along.0 (side_at area along.0) (side_at region along.0) cut along.2))
+    (bits_at schema.columns region.sides along.0 along.0 (side_at area along.0) cut h along.2)
+
+module _ (schema : Schema) (constraints : List Constraint) (chosen : Region) (servable : All (IsServable schema) constraints) (asked : is_region_of schema chosen ≡ true) where
+  cut_bits : (area : Region) (cut : Cut) (c : Constraint) → IsServable schema c → IsCutFor area cut c → HasOwnBits schema cut
+  cut_bits area cut c own (inl within) = along_bits schema area c.values cut own.value_region within.1.along
+  cut_bits area cut c own (inr through) = along_bits schema area c.when cut own.when_region through.along
+
+  needed_bits : (area : Region) (cut : Cut) → IsNeeded constraints chosen area cut → HasOwnBits schema cut
+  needed_bits area cut needed = by_part needed.through
+    where
+      by_part : Any (IsCutFor area cut) constraints ⊎ IsCutThrough area chosen cut → HasOwnBits schema cut
+      by_part (inl found) = cut_bits area cut found.1 (subst (IsServable schema) found.3 (servable found.0 found.1 found.2)) found.4
+      by_part (inr through) = along_bits schema area chosen cut asked through.along
+
+  -- a tree that is cut on has such cuts where it had them before
+  pub own_more : (before after : List CutNode) → IsTree schema before → IsTree schema after → HasKept schema constraints chosen before after → HasNeededCuts schema constraints chosen before after →
+      HasOwnCuts schema before → HasOwnCuts schema after
+  own_more before after boxed tree kept needed mine k = by_node (node_at after k) refl
+    where
+      stays : (node : CutNode) → node_at before k ≡ node → is_leaf_node node ≡ false → k < length before → IsDone constraints chosen (box_at boxed.0 k) (node_at before k)
+      stays (forms.Leaf mark) is inner_is inside = absurd (true≢false inner_is)
+      stays (forms.Inner cut first second) is inner_is inside = subst (IsDone constraints chosen (box_at boxed.0 k)) (sym is) tt
+
+      by_place : (cut : Cut) (first second : ℕ) → node_at after k ≡ forms.Inner cut first second → is_leaf_node (node_at before k) ≡ false → (k < length before) ⊎ (length before ≤ k) → IsOwnNode schema (forms.Inner cut first second)
+      by_place cut first second is inner_is (inl inside) =
+          let same = kept.same boxed.0 boxed.1 k inside (stays (node_at before k) refl inner_is inside) in
+          subst (IsOwnNode schema) (sym same ∙ is) (mine k)
+      by_place cut first second is inner_is (inr past) = absurd (true≢false (ap is_leaf_node (sym (get_or_past before k (forms.Leaf marks.Barren) past)) ∙ inner_is))
+
+      by_test : (cut : Cut) (first second : ℕ) → node_at after k ≡ forms.Inner cut first second → (test : Bool) → is_leaf_node (node_at before k) ≡ test → IsOwnNode schema (forms.Inner cut first second)
+      by_test cut first second is true test_is = needed_bits (box_at tree.0 k) cut (needed tree.0 tree.1 k cut first second test_is is)
+      by_test cut first second is false test_is = by_place cut first second is test_is (cases_lt k (length before))
+
+      by_node : (node : CutNode) → node_at after k ≡ node → IsOwnNode schema (node_at after k)
+      by_node (forms.Leaf mark) is = subst (IsOwnNode schema) (sym is) tt
+      by_node (forms.Inner cut first second) is = subst (IsOwnNode schema) (sym is) (by_test cut first second is (is_leaf_node (node_at before k)) refl)
+
+-- ---- proper cuts
+
+between_small : (low high from at to : ℤ) → IsSpan low high → low ≤ℤ from → from ≤ℤ at → at ≤ℤ to → to ≤ℤ high → nat_abs at ≤ 10 ^ 15
+between_small low high from at to span first second third fourth = omega (arith, ints, span.small_low, span.small_high, first, second, third, fourth)
+
+span_formed : (low high from to at : ℤ) → IsSpan low high → (int_le low from && (int_le from to && int_le to high)) ≡ true → (int_le from at && int_lt at to) ≡ true → nat_abs at ≤ 10 ^ 15
+span_formed low high from to at span own divided =
+    let outer = and_parts (int_le low from) (int_le from to && int_le to high) own in
+    let ends = and_parts (int_le from to) (int_le to high) outer.1 in
+    let cut = and_parts (int_le from at) (int_lt at to) divided in
+    between_small low high from at to span (omega (arith, ints, outer.0)) (omega (arith, ints, cut.0)) (omega (arith, ints, cut.1)) (omega (arith, ints, ends.1))
+
+kind_formed : (kind : Kind) (side : Side) (cut : Cut) → IsKind kind → is_side_of kind side ≡ true → divides_side cut side ≡ true → HasBitsOf cut kind → IsFormedCutOf cut kind
+unfolding divides_side
+kind_formed (Int low high) (Names held) cut is own divided bits = absurd (true≢false (sym own))
+kind_formed (Int low high) (Span from to) (At column at) is own divided bits = (tt, span_formed low high from to at is own divided)
+kind_formed (Int low high) (Span from to) (Among column set) is own divided bits = absurd (true≢false (sym divided))
+kind_formed (Dec scale low high) (Names held) cut is own divided bits = absurd (true≢false (sym own))
+kind_formed (Dec scale low high) (Span from to) (At column at) is own divided bits = (tt, span_formed low high from to at is.1 own divided)
+kind_formed (Dec scale low high) (Span from to) (Among column set) is own divided bits = absurd (true≢false (sym divided))
+kind_formed (Cat names) (Span from to) cut is own divided bits = absurd (true≢false (sym own))
+kind_formed (Cat names) (Names held) (At column at) is own divided bits = absurd (true≢false (sym divided))
+kind_formed (Cat names) (Names held) (Among column set) is own divided bits =
+    let parts = and_parts (nat_lt 0 (bit_and held set)) (nat_lt 0 (places_outside held set)) divided in
+    let some = ltb-true 0 (bit_and held set) parts.0 in
+    let less = and_le_r held set in
+    (omega (arith, some, less), bits)
+
+formed_at : (columns : List Column) (sides : List Side) (place : ℕ) (cut : Cut) → All IsColumn columns → pointwise (λ (c : Column). is_side_of c.kind) columns sides ≡ true → divides_found cut (slice_get sides place) ≡ true →
+    IfSome (slice_get columns place) (λ (c : Column). HasBitsOf cut c.kind) → IsSomeAnd (slice_get columns place) (λ (c : Column). IsFormedCutOf cut c.kind)
+formed_at [] [] place cut are h divided bits = absurd (true≢false (sym divided))
+formed_at [] (s ∷ sides) place cut are h divided bits = absurd (true≢false (sym h))
+formed_at (c ∷ columns) [] place cut are h divided bits = absurd (true≢false (sym h))
+formed_at (c ∷ columns) (s ∷ sides) zero cut are h divided bits =
+    kind_formed c.kind s cut (All-head IsColumn c columns are).kind (and_parts (is_side_of c.kind s) (pointwise (λ (x : Column). is_side_of x.kind) columns sides) h).0 divided bits
+formed_at (c ∷ columns) (s ∷ sides) (suc place) cut are h divided bits =
+    formed_at columns sides place cut (All-tail IsColumn c columns are) (and_parts (is_side_of c.kind s) (pointwise (λ (x : Column). is_side_of x.kind) columns sides) h).1 divided bits
+
+cut_formed : (schema : Schema) (box : Region) (cut : Cut) → IsWellFormed schema → is_region_of schema box ≡ true → IsProper box cut → HasOwnBits schema cut → IsFormedCut schema cut
+unfolding is_region_of
+cut_formed schema box cut formed h proper bits = formed_at schema.columns box.sides (column_of cut) cut formed.columns.all h (Divides-from_proper box cut proper) bits
+
+-- the parts of a proper cut are regions of the schema
+parts_regions : (schema : Schema) (box : Region) (cut : Cut) → is_region_of schema box ≡ true → IsProper box cut → (is_region_of schema (first_part box cut) ≡ true) × (is_region_of schema (second_part box cut) ≡ true)
+parts_regions schema box cut h proper =
+    let divided = Divides-from_proper box cut proper in
+    let filled = IsBox-from_schema schema box h in (
+      is_region-from_inside schema box (first_part box cut) h (first_alike box cut divided (first_part box cut) filled refl)
+          (λ row held. (and_parts (has box row) (is_first cut row) (sym (first_rows box cut divided (first_part box cut) refl row) ∙ held)).0),
+      is_region-from_inside schema box (second_part box cut) h (second_alike box cut divided (second_part box cut) filled refl)
+          (λ row held. (and_parts (has box row) (not (is_first cut row)) (sym (second_rows box cut divided (second_part box cut) refl row) ∙ held)).0),
+    )
+
+-- ---- trees
+
+-- a tree with the cuts of another
+pub own_shape : (schema : Schema) (nodes : List CutNode) (k : ℕ) (shape : CutShape) → HasOwnCuts schema nodes → HasCutsAt nodes k shape → HasOwnShape schema shape
+own_shape schema nodes k (leaf mark) own cuts = tt
+own_shape schema nodes k (inner cut t u) own cuts =
+    (subst (IsOwnNode schema) cuts.2 (own k), own_shape schema nodes cuts.0 t own cuts.3, own_shape schema nodes cuts.1 u own cuts.4)
+
+pub one_leaf_own : (schema : Schema) (nodes : List CutNode) (mark : LeafMark) → nodes ≡ forms.Leaf mark ∷ [] → HasOwnCuts schema nodes
+one_leaf_own schema nodes mark is = subst (HasOwnCuts schema) (sym is) at
+  where
+    at : (k : ℕ) → IsOwnNode schema (node_at (forms.Leaf mark ∷ []) k)
+    at zero = tt
+    at (suc k) = tt
+
+all_left : {X : Type 0} (P : X → Type 0) (xs ys : List X) → All P (xs ++ ys) → All P xs
+all_left P xs ys each place d inside = subst P (get_or_append_left xs ys d place inside) (each place d (let long = length-append xs ys in omega (arith, inside, long)))
+
+all_right : {X : Type 0} (P : X → Type 0) (xs ys : List X) → All P (xs ++ ys) → All P ys
+all_right P xs ys each place d inside = subst P (get_or-append-add xs ys place d) (each (length xs + place) d (let long = length-append xs ys in omega (arith, inside, long)))
+
+mark_formed : (constraints : List Constraint) (region box : Region) (mark : LeafMark) → length constraints ≤ 20 → IsSettledAs constraints region box mark → IsFormedMarkOf mark
+mark_formed constraints region box marks.Barren few settled = tt
+mark_formed constraints region box (marks.Class mask chosen) few settled =
+    let most : 2 ^ length constraints ≤ 2 ^ 20 = pow_mono few in
+    let short = settled.short in
+    omega (arith, short, most)
+
+module _ (schema : Schema) (formed : IsWellFormed schema) (constraints : List Constraint) (few : length constraints ≤ 20) (region : Region) where
+  formed_from : (k : ℕ) (box : Region) (shape : CutShape) → is_region_of schema box ≡ true → HasProperCuts box shape → HasOwnShape schema shape → All (IsSettled constraints region) (leaves_of box shape) →
+      All (IsFormedCutNode schema) (nodes_from k shape)
+  formed_from k box (leaf mark) h proper own settled =
+      let here = All-head (IsSettled constraints region) (record { region = box; mark = mark }) [] settled in
+      All-cons (IsFormedCutNode schema) (forms.Leaf mark) [] (mark_formed constraints region box mark few here) (All-nil (IsFormedCutNode schema))
+  formed_from k box (inner cut t u) h proper own settled =
+      let parts = parts_regions schema box cut h proper.0 in
+      let first = formed_from (k + 1) (first_part box cut) t parts.0 proper.1 own.1 (all_left (IsSettled constraints region) (leaves_of (first_part box cut) t) (leaves_of (second_part box cut) u) settled) in
+      let second = formed_from (k + 1 + size_of t) (second_part box cut) u parts.1 proper.2 own.2 (all_right (IsSettled constraints region) (leaves_of (first_part box cut) t) (leaves_of (second_part box cut) u) settled) in
+      All-cons (IsFormedCutNode schema) (forms.Inner cut (k + 1) (k + 1 + size_of t)) (nodes_from (k + 1) t ++ nodes_from (k + 1 + size_of t) u) (cut_formed schema box cut formed h proper.0 own.0)
+      (All-append (IsFormedCutNode schema) (nodes_from (k + 1) t) (nodes_from (k + 1 + size_of t) u) first second)
+
+  pub tree_formed : (nodes : List CutNode) → IsSettledTree schema constraints region nodes → HasOwnShape schema (shape_of nodes) → IsFormedCutTree schema (record { nodes = nodes })
+  tree_formed nodes tree own = record {
+    preorder = tree.preorder;
+    nodes = subst (All (IsFormedCutNode schema)) (sym tree.preorder) (formed_from 0 (whole_region schema) (shape_of nodes) (whole_is_region schema formed) tree.proper own tree.settled);
+  }
