@@ -15,7 +15,8 @@ use Rattle.pc_model.specs.Accepted.{IsQuery}
 use Rattle.pc_model.specs.Aggregate.{asked, int_sum, kept}
 use Rattle.pc_model.specs.Folds.{IsFold, sum_at, best_at}
 use Rattle.pc_proof.specs.Unbroken.{AllowsName}
-use Rattle.pc_search.specs.Asked.{question_as, ComesTo, Asking, setting_for, query_for}
+use Rattle.pc_proof.specs.Observed.{ComesTo}
+use Rattle.pc_search.specs.Asked.{question_as, Asking, setting_for, query_for}
 use Rattle.pc_search.specs.Settings.{setting_in}
 
 -- the numbers of the query's column, as a fold and as a question have them

@@ -31,7 +31,7 @@ use Rattle.pc_search.specs.Keys.{key_of}
 use Rattle.pc_agg.specs.Rungs.{reaches, avoids, rung_program, program_at, IsLadder}
 use Rattle.pc_search.specs.Settings.{unseen}
 use Rattle.pc_search.specs.Limits.{greatest_gain}
-use Rattle.pc_search.proofs.CellPrograms.{map_twice}
+use Rattle.pc_proof.proofs.Masks.{map_twice}
 use Rattle.pc_search.proofs.ListedPrograms.{no_cell, table_mapped, gains_are, program_is, chosen_is, own_classes}
 use Rattle.pc_search.proofs.UnseenPrograms.{tested_small, for_program, for_small, for_one_bits, without_program, without_small, without_one_bits}
 

@@ -24,7 +24,7 @@ use Rattle.pc_search.specs.Asked.{AreCells}
 use Rattle.pc_search.specs.Limits.{greatest_gain}
 use Rattle.pc_search.specs.Settings.{unseen}
 use Rattle.pc_search.specs.Targets.{chosen_gain}
-use Rattle.pc_search.proofs.CellPrograms.{map_twice}
+use Rattle.pc_proof.proofs.Masks.{map_twice}
 use Rattle.pc_search.proofs.SettledPrograms.{classes_are}
 use Rattle.pc_search.proofs.UnseenPrograms.{tested_small, for_program, for_small, for_one_bits}
 

@@ -13,7 +13,8 @@ use Rattle.pc_model.specs.Right.{Question}
 use Rattle.pc_model.specs.Cells.{IsSettledTree, leaves_in}
 use Rattle.pc_cells.specs.declared.cells.Cells.{Cells}
 use Rattle.pc_cells.specs.Found.{cells_of, IsFilled, HasNumbers}
-use Rattle.pc_proof.specs.Setting.{Setting, narrowed, seen_count, seen_sum, seen_least, seen_greatest}
+use Rattle.pc_proof.specs.Observed.{ComesTo}
+use Rattle.pc_proof.specs.Setting.{Setting, narrowed}
 use Rattle.pc_proof.specs.Unbroken.{AllowsName}
 
 -- the question that a query without a group stands for: that query over observed rows, or one name of a grouped query
@@ -28,13 +29,6 @@ question_as schema constraints query observed wide group name =
 -- a query of a name, where it is grouped, as one without a group over the region that the name narrows
 abbrev pub query_for : Query → Option ℕ → Query
 query_for query name = record { agg = query.agg; column = query.column; chosen = narrowed query.chosen query.group name; group = None }
-
--- the observed rows come to these numbers; without a column they have none but their count
-pub record ComesTo (q : Question) (seen : Folded) : Type 0 where
-  pub count : seen_count q ≡ pos seen.count
-  pub sum : IfSome q.query.column (λ _. seen_sum q ≡ seen.sum)
-  pub least : IfSome q.query.column (λ _. seen_least q ≡ seen.least)
-  pub greatest : IfSome q.query.column (λ _. seen_greatest q ≡ seen.greatest)
 
 -- a question that the call answers
 pub record Asking (schema : Schema) (constraints : List Constraint) (query : Query) (seen : Folded) : Type 0 where

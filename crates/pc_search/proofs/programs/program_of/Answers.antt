@@ -1,7 +1,11 @@
-use Rattle.pc_search.proofs.CellPrograms.{parts_join}
+use Rattle.std.proofs.Common.{map, sym, ◌∙◌}
+use Rattle.std.proofs.lemmas.Result.{IfOk-weaker}
+use Rattle.pc_model.specs.Cells.{Class}
+use Rattle.pc_cells.specs.Found.{class_of_cell}
+use Rattle.pc_proof.proofs.Masks.{map_twice}
 use Rattle.pc_search.proofs.programs.program_of.Goals as goal
 
 pub returns : goal.returns
-returns c =
-    parts_join c.args.constraints.now c.args.gains c.args.cells.now c.in_ok-masks.masks c.in_ok-floor.floor c.in_ok-cap.cap c.in_ok-least.least c.in_ok-most.most
-    c.in_ok-masks.ensures c.in_ok-floor.ensures c.in_ok-cap.ensures c.in_ok-least.ensures c.in_ok-most.ensures
+returns c = IfOk-weaker c.program_of.result _ _
+    (λ program by_classes. by_classes (map class_of_cell c.args.cells.now) (sym (map_twice (λ (class : Class). class.mask) class_of_cell c.args.cells.now) ∙ sym c.in_ok-masks.ensures))
+    c.program_of.ensures
