@@ -144,7 +144,7 @@ module _ (schema : Schema) (lines : AreLines schema) where
   named_format query accepted = both_format (name_format query.group accepted.grouped) (body_format query accepted) (λ name body good formed. ((good, formed), refl)) (λ rest good. (rest.0, rest.1, good.0, good.1, refl))
 
   -- a query and what stands after it
-  block_format : IsFormat (IsFormedBlock schema) (block_lines schema) any (read_block schema)
+  pub block_format : IsFormat (IsFormedBlock schema) (block_lines schema) any (read_block schema)
   unfolding read_block
   block_format = joined_format (line_format lines.query) named_format (record {
     made = λ query rest accepted good.

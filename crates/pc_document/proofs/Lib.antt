@@ -1,4 +1,6 @@
+pub mod AllLines
 pub mod BlockFormats
+pub mod BlockSteps
 pub mod CutPlacing
 pub mod CutReading
 pub mod CutSteps
@@ -27,6 +29,7 @@ pub mod Reaches
 pub mod RunReading
 pub mod RunSteps
 pub mod RunsBack
+pub mod Telling
 pub mod TokensOf
 pub mod TreeFormat
 pub mod ValuesBack

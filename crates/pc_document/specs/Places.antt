@@ -2,6 +2,7 @@
 use Rattle.std.specs.Prelude.{◌≡◌, ℕ, ◌≤◌, ⊤, List, [], drop, length, Result, Ok, Err}
 use Rattle.pc_format.specs.Lines.{whole_lines, rest_after}
 use Rattle.pc_format.specs.Formats.{Lines, Found}
+use Rattle.pc_document.specs.Reading.{Word, word}
 use Rattle.pc_document.specs.declared.halt.Halt.{Halt}
 use Rattle.pc_document.specs.declared.halt.Halt.TheVariants as halts
 
@@ -22,3 +23,8 @@ HaltsAs bytes halts.Memory wanted = ⊤
 abbrev pub Reads : {A : Type 0} → List ℕ → Result (A × ℕ) Halt → Found A → Type 0
 Reads bytes (Ok p) wanted = IsLineStart bytes p.1 × (wanted ≡ Ok (p.0, lines_at bytes p.1))
 Reads bytes (Err halt) wanted = HaltsAs bytes halt wanted
+
+-- the same of a line that is one text
+abbrev pub ReadsWord : List ℕ → Result ℕ Halt → Found Word → Type 0
+ReadsWord bytes (Ok at) wanted = IsLineStart bytes at × (wanted ≡ Ok (word, lines_at bytes at))
+ReadsWord bytes (Err halt) wanted = HaltsAs bytes halt wanted

@@ -1,21 +1,21 @@
 ghost use Rattle.std.specs.Prelude.{◌≡◌, ℕ, List, Ok};
+ghost use Rattle.pc_model.specs.WellFormed.{IsWellFormed};
 ghost use Rattle.pc_model.specs.declared.schema.Schema.{Schema};
 ghost use Rattle.pc_proof.specs.declared.document.Document.{Document};
-ghost use Rattle.pc_document.specs.Kinds.{AreLines};
 ghost use Rattle.pc_document.specs.Reading.{document_of};
 ghost use Rattle.pc_document.specs.Told.{IsDocumentText, Told};
 
 /// The text of a document in form is read as that document.
 pub fn documents_read_back()
-    ensures { (schema : Schema) (bytes : List ℕ) (doc : Document) → AreLines schema → IsDocumentText schema bytes doc → document_of schema bytes ≡ Ok doc }
+    ensures { (schema : Schema) (bytes : List ℕ) (doc : Document) → IsWellFormed schema → IsDocumentText schema bytes doc → document_of schema bytes ≡ Ok doc }
 {}
 
 /// What is read is in form, and the bytes are its text; else the line of the first fault is told.
 pub fn reading_tells()
-    ensures { (schema : Schema) (bytes : List ℕ) → AreLines schema → Told schema bytes (document_of schema bytes) }
+    ensures { (schema : Schema) (bytes : List ℕ) → IsWellFormed schema → Told schema bytes (document_of schema bytes) }
 {}
 
 /// Bytes are the text of at most one document in form.
 pub fn one_document()
-    ensures { (schema : Schema) (bytes : List ℕ) (doc other : Document) → AreLines schema → IsDocumentText schema bytes doc → IsDocumentText schema bytes other → doc ≡ other }
+    ensures { (schema : Schema) (bytes : List ℕ) (doc other : Document) → IsWellFormed schema → IsDocumentText schema bytes doc → IsDocumentText schema bytes other → doc ≡ other }
 {}

@@ -6,6 +6,7 @@ mod block;
 mod cut_lines;
 mod cut_tokens;
 mod cuts;
+mod document;
 mod end_lines;
 mod ends;
 mod group_lines;
@@ -38,5 +39,6 @@ mod tree;
 mod values;
 mod words;
 
+pub use document::{NoDocument, read_document};
 pub use laws::{documents_read_back, one_document, reading_tells};
 pub use put_document::put_document;

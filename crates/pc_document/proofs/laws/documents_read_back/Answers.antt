@@ -1,5 +1,6 @@
+use Rattle.pc_document.proofs.AllLines.{all_lines}
 use Rattle.pc_document.proofs.DocumentFormat.{read_again}
 use Rattle.pc_document.proofs.laws.documents_read_back.Goals as goal
 
 pub returns : goal.returns
-returns c = read_again
+returns c = λ schema bytes doc well. read_again schema bytes doc (all_lines schema well)

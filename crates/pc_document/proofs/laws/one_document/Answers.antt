@@ -1,5 +1,6 @@
+use Rattle.pc_document.proofs.AllLines.{all_lines}
 use Rattle.pc_document.proofs.DocumentFormat.{only_document}
 use Rattle.pc_document.proofs.laws.one_document.Goals as goal
 
 pub returns : goal.returns
-returns c = only_document
+returns c = λ schema bytes doc other well. only_document schema bytes doc other (all_lines schema well)
