@@ -1,11 +1,11 @@
 pub mod BlockFormats
-pub mod BlockSteps
 pub mod CutPlacing
 pub mod CutReading
 pub mod CutSteps
 pub mod CutsBack
 pub mod CutsFormat
 pub mod DocumentFormat
+pub mod EndsRead
 pub mod GroupReading
 pub mod GroupsBack
 pub mod Keeping
@@ -14,10 +14,13 @@ pub mod NodeSteps
 pub mod NodesBack
 pub mod NumbersBack
 pub mod NumbersInLines
+pub mod NumbersInUnits
+pub mod NumbersLikely
 pub mod PartFormats
 pub mod PlacedCuts
 pub mod PlacedTrees
 pub mod PlacingSteps
+pub mod ProofLinesBack
 pub mod QueriesBack
 pub mod QueryReading
 pub mod Reaches
@@ -26,3 +29,6 @@ pub mod RunSteps
 pub mod RunsBack
 pub mod TokensOf
 pub mod TreeFormat
+pub mod ValuesBack
+pub mod ValuesRead
+pub mod Writing

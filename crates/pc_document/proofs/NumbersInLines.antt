@@ -1,5 +1,5 @@
 -- Words that a mark joins are the pieces between the marks, and lines of words have no line feed.
-use Rattle.std.proofs.Common.{◌≡◌, ◌≤◌, ℕ, ◌==◌, List, [], ◌∷◌, ◌++◌, arith, refl, ap, sym, ◌∙◌, Bool, true, false}
+use Rattle.std.proofs.Common.{◌≡◌, ◌≤◌, ℕ, ◌==◌, List, [], ◌∷◌, ◌++◌, arith, refl, ap, ◌∙◌, Bool, true, false}
 use Rattle.std.specs.Prelude.{flat_map, nat_le}
 use Rattle.std.specs.List.{All, list_all, slice_split}
 use Rattle.std.proofs.lemmas.Bool.{leb-true, ne_eqb}
@@ -29,6 +29,7 @@ pieces_again p mark first (word ∷ rest) passes free others =
 abbrev pub IsInk : ℕ → Type 0
 IsInk byte = 45 ≤ byte
 
+-- words with a space before each but the first
 abbrev pub words_text : List ℕ → List (List ℕ) → List ℕ
 words_text first rest = marked_words 32 first rest
 
@@ -40,18 +41,22 @@ tested_ink text e = All-weaker (λ byte. nat_le 45 byte ≡ true) IsInk (λ byte
 pub number_ink : (text : List ℕ) → All IsNumberByte text → All IsInk text
 number_ink text bytes = All-weaker IsNumberByte IsInk (λ byte is. is.0) text bytes
 
+-- the text of a number has no slash
 pub number_unslashed : (text : List ℕ) → All IsNumberByte text → All (λ byte. (byte == 47) ≡ false) text
 number_unslashed text bytes = All-weaker IsNumberByte (λ byte. (byte == 47) ≡ false) (λ byte is. ne_eqb byte 47 is.1) text bytes
 
+-- ink has no space
 unspaced : (text : List ℕ) → All IsInk text → All (λ byte. (byte == 32) ≡ false) text
 unspaced text ink = All-weaker IsInk (λ byte. (byte == 32) ≡ false) (λ byte is. ne_eqb byte 32 (λ e. omega (arith, is, e))) text ink
 
+-- The pieces of words between spaces are these words.
 pub words_again : (first : List ℕ) (rest : List (List ℕ)) → All IsInk first → All (All IsInk) rest → pieces_of (words_text first rest) ≡ first ∷ rest
 words_again first rest ink others =
     pieces_again (λ byte. byte == 32) 32 first rest refl (unspaced first ink) (All-weaker (All IsInk) (All (λ byte. (byte == 32) ≡ false)) unspaced rest others)
 
 -- ---- no line feed
 
+-- ink has no line feed
 pub ink_plain : (text : List ℕ) → All IsInk text → feeds_in text ≡ 0
 unfolding feeds_in
 ink_plain [] ink = refl
@@ -59,6 +64,7 @@ ink_plain (byte ∷ text) ink =
     let first : 45 ≤ byte = All-head IsInk byte text ink in
     rw (ne_eqb byte 10 (λ e. omega (arith, first, e))) (ink_plain text (All-tail IsInk byte text ink))
 
+-- Words between spaces have no line feed.
 pub words_plain : (first : List ℕ) (rest : List (List ℕ)) → All IsInk first → All (All IsInk) rest → feeds_in (words_text first rest) ≡ 0
 unfolding feeds_in
 words_plain first [] ink others = rw (append-nil first) (ink_plain first ink)

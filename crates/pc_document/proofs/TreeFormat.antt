@@ -10,7 +10,7 @@ use Rattle.pc_model.specs.declared.tree.TreeNode.TheVariants as nodes
 use Rattle.pc_model.specs.declared.tree.Tree.{Tree}
 use Rattle.pc_bound.specs.SplitTrees.{SplitTree, bound, void, split, size_of, nodes_from, joined, trees_of, first_of_trees, tree_of}
 use Rattle.pc_bound.proofs.TreeNodes.{tree_of-nodes}
-use Rattle.pc_format.specs.Formats.{IsFormat, IsLine, AreTrees, any, nodes_text, owed_after}
+use Rattle.pc_format.specs.Formats.{IsFormat, IsLine, AreTrees, any, nodes_text, owed_after, read_nodes}
 use Rattle.pc_format.proofs.Nodes.{nodes_format}
 use Rattle.pc_format.proofs.As.{as_format}
 use Rattle.pc_proof.specs.Form.{IsFormedNode, IsFormedTree}
@@ -168,10 +168,14 @@ tree_parts t good = (map bare t.nodes, with_good IsBareNode is_split (map bare t
 abbrev no_leaf : TreeNode
 no_leaf = nodes.Void (record { by = []; den = pos 1 })
 
--- Of the lines of nodes the format of a tree.
+-- Of the lines of nodes the format of the nodes of a tree.
+pub tree_nodes : IsLine IsBareNode node_text read_node → IsFormat (AreTrees IsBareNode is_split 1) (nodes_text node_text) any (read_nodes is_split read_node 1)
+tree_nodes line = nodes_format is_split line no_leaf (bare_good no_leaf (refl, All-nil Fits)) refl 1
+
+-- And the format of a tree.
 pub tree_format : IsLine IsBareNode node_text read_node → IsFormat IsFormedTree tree_lines any read_tree
 unfolding read_tree
-tree_format line = as_format (nodes_format is_split line no_leaf (bare_good no_leaf (refl, All-nil Fits)) refl 1) (record {
+tree_format line = as_format (tree_nodes line) (record {
   made = tree_made;
   follows = λ xs next trees follows. tt;
   parts = tree_parts;

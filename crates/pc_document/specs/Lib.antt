@@ -1,6 +1,7 @@
 pub mod DocumentLines
 pub mod Kept
 pub mod Kinds
+pub mod Likely
 pub mod NodeLines
 pub mod Numbers
 pub mod Parts

@@ -103,6 +103,10 @@ likely_end schema query line = end_of_pieces schema query (pieces_of line)
 unfoldable pub read_end_line : Schema → Query → Side → List ℕ → Option EndLine
 read_end_line schema query side line = read_spelled (end_text schema query side) (λ e. is_value_of query.agg e.value) (likely_end schema query) line
 
+-- the value of an end may stand, as a test
+abbrev pub is_end_line : Query → EndLine → Bool
+is_end_line query e = is_value_of query.agg e.value
+
 abbrev pub IsEndLine : Query → EndLine → Type 0
 IsEndLine query e = IsFormedValue query.agg e.value
 

@@ -7,7 +7,7 @@ ghost use Rattle.pc_document.specs.Reading.{read_end, read_ends, end_after, tagg
 ghost use Rattle.pc_document.specs.ValueLines.{read_end_line};
 
 use crate::halt::Halt;
-use crate::line_readers::read_end_line;
+use crate::end_lines::read_end_line;
 use crate::places::first_line_at;
 use crate::proof::proof_at;
 use crate::runs::runs_at;

@@ -7,8 +7,9 @@ ghost use Rattle.pc_document.specs.Reading.{read_proof, read_bounded, read_cross
 ghost use Rattle.pc_document.specs.ValueLines.{read_proof_line, read_outer_line};
 
 use crate::halt::Halt;
-use crate::line_readers::{read_outer_line, read_proof_line};
+use crate::end_lines::read_outer_line;
 use crate::places::first_line_at;
+use crate::proof_line::read_proof_line;
 use crate::tags::{ProofLine, Side};
 use crate::tree::tree_at;
 use pc_model::{Query, Schema};

@@ -5,18 +5,22 @@ ghost use Rattle.pc_document.specs.Places.{IsLineStart, Reads, lines_at};
 ghost use Rattle.pc_document.specs.Reading.{read_tree};
 
 use crate::halt::Halt;
-use crate::line_readers::read_node;
+use crate::nodes::read_node;
+use crate::placed::placed;
 use crate::places::first_line_at;
 use pc_list::Seq;
 use pc_model::{Tree, TreeNode};
 use std::alloc::Global;
 
 /// The search tree that begins at a place, and the place after it.
+#[tactic(auto, using(crate::proofs::NodeSteps::are_trees), unfolding(crate::specs::Reading::read_tree))]
 pub(crate) fn tree_at(alloc: Global, bytes: &[u8], at: usize) -> Result<(Tree, usize), Halt>
     requires start { IsLineStart bytes.now at }
     ensures { Reads bytes.now result (read_tree (lines_at bytes.now at)) }
 {
-    Err(Halt::Memory)
+    let (nodes, at) = nodes_at(alloc, bytes, at)?;
+    let tree = placed(alloc, nodes)?;
+    Ok((tree, at))
 }
 
 /// The nodes of the tree that begins at a place, in the order of their lines.

@@ -50,7 +50,7 @@ of_one_sign (negsuc n) (pos x) d e own others same =
     let some : 1 ≤ suc n * e = one-le-mul (omega arith) others in
     absurd (omega (arith, ints, turned, some))
 
-quotient_is_lowest : (n : ℤ) (d : ℕ) (f : Frac) → zero < d → IsQuotient n (pos d) f → f ≡ with_sign (differ n (pos d)) (lowest (unsigned_abs n) d)
+pub quotient_is_lowest : (n : ℤ) (d : ℕ) (f : Frac) → zero < d → IsQuotient n (pos d) f → f ≡ with_sign (differ n (pos d)) (lowest (unsigned_abs n) d)
 quotient_is_lowest n d f some h =
     let whole : f.den ≡ pos (unsigned_abs f.den) = pos_of_abs f.den h.frac.above in
     let sizes = sizes_reduced n d f h in

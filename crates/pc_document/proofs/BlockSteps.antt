@@ -1,1 +1,0 @@
--- Blocks, one after another.

@@ -1,0 +1,174 @@
+ghost use Rattle.pc_model.specs.WellFormed.{HaveFewNames, IsWellFormed};
+
+use crate::end_lines::read_end_line;
+use crate::nodes::{put_node, read_node};
+use crate::numbers::likely_number;
+use crate::proof_line::read_proof_line;
+use crate::tags::{EndLine, ProofLine, Side};
+use pc_lang::read_query;
+use pc_model::{Refusal, Schema};
+use pc_num::{Frac, Memory};
+use pc_schema::read_schema;
+use std::alloc::Global;
+use std::test::Fail;
+
+const SCHEMA: &str = "day,int,-31,31\nprice,dec,2,-1000.00,1000.00\n";
+
+#[test]
+fn reads_numbers_that_fit(rt: HostRuntime) {
+    let cases: [(&str, Option<i128>); 7] = [
+        ("0", Some(0)),
+        ("-0.05", Some(-5)),
+        ("10.000001", Some(10_000_001)),
+        ("170141183460469231731687303715884105727", Some(i128::MAX)),
+        ("170141183460469231731687303715884105728", None),
+        ("-170141183460469231731687303715884105728", None),
+        ("340282366920938463463374607431768211456", None),
+    ];
+    for (text, wanted) in cases {
+        assert!(rt; likely_number(text.as_bytes()) == wanted, "{text}");
+    }
+}
+
+// Whether the line is a node's, which is written as it stands there.
+fn is_node_line(alloc: Global, line: &str) -> Result<bool, Memory> {
+    let Some(node) = read_node(alloc, line.as_bytes())? else {
+        return Ok(false);
+    };
+    let mut text = Vec::new(alloc);
+    put_node(alloc, &mut text, &node)?;
+    Ok(text.as_slice() == line.as_bytes())
+}
+
+#[test]
+fn reads_lines_of_nodes(rt: HostRuntime) -> Result<(), Fail> {
+    let lines: [&str; 6] = [
+        "split 0 0",
+        "split 4294967295 1000000000000000000",
+        "bound 3 1 -2 0",
+        "bound 1",
+        "void",
+        "void 5 -170141183460469231731687303715884105727",
+    ];
+    for line in lines {
+        assert!(rt; is_node_line(rt.alloc(), line)?, "{line}");
+    }
+    Ok(())
+}
+
+#[test]
+fn refuses_other_lines_of_splits(rt: HostRuntime) -> Result<(), Fail> {
+    let lines: [&str; 8] = [
+        "",
+        "split 1",
+        "split 1 2 3",
+        "split 1  2",
+        "split 01 2",
+        "split -1 2",
+        "split 4294967296 0",
+        "split 0 1000000000000000001",
+    ];
+    for line in lines {
+        assert!(rt; !is_node_line(rt.alloc(), line)?, "{line}");
+    }
+    Ok(())
+}
+
+#[test]
+fn refuses_other_lines_of_leaves(rt: HostRuntime) -> Result<(), Fail> {
+    let lines: [&str; 8] = [
+        "bound",
+        "bound 0 1",
+        "bound -1 1",
+        "bound 1 +1",
+        "void 1 ",
+        "void -0",
+        "node 1",
+        "void 170141183460469231731687303715884105728",
+    ];
+    for line in lines {
+        assert!(rt; !is_node_line(rt.alloc(), line)?, "{line}");
+    }
+    Ok(())
+}
+
+fn low_end(
+    alloc: Global,
+    schema: &Schema,
+    query: &str,
+    line: &str,
+) -> Result<Option<EndLine>, Refusal>
+    requires well_formed { IsWellFormed schema.now }
+    requires few_names { HaveFewNames schema.now.columns }
+{
+    let query = read_query(alloc, schema, query, 1)?;
+    read_end_line(alloc, schema, &query, Side::Low, line.as_bytes()).map_err(|_| Refusal::Memory)
+}
+
+fn end_of(num: i128, den: i128, exact: bool) -> Option<EndLine> {
+    let value = Frac { num, den };
+    Some(EndLine { value, exact })
+}
+
+#[test]
+fn reads_lines_of_ends(rt: HostRuntime) -> Result<(), Fail> {
+    let alloc = rt.alloc();
+    let cases: [(&str, &str, Option<EndLine>); 9] = [
+        ("count", "low 3 exact", end_of(3, 1, true)),
+        ("count", "high 3 exact", None),
+        ("count", "low 3", None),
+        ("sum(price)", "low -0.05 outer", end_of(-5, 1, false)),
+        ("sum(price)", "low -0.5 outer", None),
+        ("avg(price)", "low 3/2 exact", end_of(150, 1, true)),
+        ("avg(price)", "low 1/300 exact", end_of(1, 3, true)),
+        ("avg(price)", "low 2/4 exact", None),
+        ("avg(day)", "low -7/3 outer", end_of(-7, 3, false)),
+    ];
+    let Ok(schema) = read_schema(alloc, SCHEMA.as_bytes()) else {
+        assert!(rt; false, "no schema");
+        return Ok(());
+    };
+    for (query, line, wanted) in cases {
+        let found = low_end(alloc, &schema, query, line);
+        assert!(rt; found == Ok(wanted), "{line}");
+    }
+    Ok(())
+}
+
+fn proof_of(
+    alloc: Global,
+    schema: &Schema,
+    query: &str,
+    line: &str,
+) -> Result<Option<ProofLine>, Refusal>
+    requires well_formed { IsWellFormed schema.now }
+    requires few_names { HaveFewNames schema.now.columns }
+{
+    let query = read_query(alloc, schema, query, 1)?;
+    read_proof_line(alloc, schema, &query, line.as_bytes()).map_err(|_| Refusal::Memory)
+}
+
+#[test]
+fn reads_lines_of_proofs(rt: HostRuntime) -> Result<(), Fail> {
+    let alloc = rt.alloc();
+    let half = Frac { num: 50, den: 1 };
+    let cases: [(&str, Option<ProofLine>); 8] = [
+        ("by rows", Some(ProofLine::Rows)),
+        ("by tree", Some(ProofLine::Tree)),
+        ("by values", Some(ProofLine::Values)),
+        ("by at 1/2", Some(ProofLine::At(half))),
+        ("by at 2/4", None),
+        ("by at -0", None),
+        ("by at", None),
+        ("by rows ", None),
+    ];
+    let Ok(schema) = read_schema(alloc, SCHEMA.as_bytes()) else {
+        assert!(rt; false, "no schema");
+        return Ok(());
+    };
+    for (line, wanted) in cases {
+        let found = proof_of(alloc, &schema, "avg(price)", line);
+        assert!(rt; found == Ok(wanted), "{line}");
+    }
+    Ok(())
+}
