@@ -1,6 +1,6 @@
 -- A node of a tree of cuts is put as tokens, and read from those of its line.
-use Rattle.std.proofs.Common.{◌≡◌, ◌≤◌, ◌<◌, ◌&&◌, ◌||◌, ℕ, zero, suc, ◌+◌, Bool, true, false, List, [], ◌∷◌, ◌++◌, length, get_or, drop, Option, Some, None, arith, refl, sym, ap, ◌∙◌, append_assoc, add-one, drop-cons, slice_get}
-use Rattle.std.specs.Prelude.{ℤ, pos, bytes_eq, nat_lt, IfSome}
+use Rattle.std.proofs.Common.{◌≡◌, ◌≤◌, ◌<◌, ◌||◌, ℕ, suc, ◌+◌, Bool, true, false, List, [], ◌∷◌, ◌++◌, length, get_or, drop, Option, Some, None, arith, refl, sym, ap, ◌∙◌, append_assoc, add-one, drop-cons}
+use Rattle.std.specs.Prelude.{bytes_eq, IfSome}
 use Rattle.std.specs.List.{list_any}
 use Rattle.std.proofs.lemmas.List.{drop_all}
 use Rattle.std.proofs.lemmas.Option.{slice_get_read}
@@ -8,19 +8,18 @@ use Rattle.pc_model.specs.declared.schema.Kind.{Kind}
 use Rattle.pc_model.specs.declared.schema.Kind.TheVariants.{Int, Dec, Cat}
 use Rattle.pc_model.specs.declared.schema.Column.{Column}
 use Rattle.pc_model.specs.declared.schema.Schema.{Schema}
-use Rattle.pc_model.specs.declared.tree.Cut.TheVariants.{At, Among}
+use Rattle.pc_model.specs.declared.tree.Cut.TheVariants.{Among}
 use Rattle.pc_model.specs.declared.tree.CutNode.{CutNode}
 use Rattle.pc_model.specs.declared.tree.CutNode.TheVariants as cut_nodes
 use Rattle.pc_model.specs.CutTrees.{column_of}
-use Rattle.pc_model.specs.WellFormed.{HasFewNames, IsKind, IsWellFormed}
-use Rattle.pc_model.proofs.FewNames.{have_few_names}
+use Rattle.pc_model.specs.WellFormed.{IsKind, IsWellFormed}
 use Rattle.pc_token.specs.declared.token.Symbol.TheVariants as symbols
 use Rattle.pc_token.specs.declared.token.Token.{Token}
 use Rattle.pc_token.specs.declared.token.Token.TheVariants as tokens
 use Rattle.pc_token.specs.Lexing.{tokens_of}
 use Rattle.pc_lang.specs.Claims.{bits_of, is_among}
 use Rattle.pc_format.specs.Formats.{if_spelled}
-use Rattle.pc_document.specs.TokenLines.{Tokens, bare_cut, column_in, cut_at, cut_by, cut_node_of_tokens, cut_node_text, is_cut_node, is_cut_of, is_name_token, kind_at, kind_of, likely_cut_node, more_names, names_in, names_of, read_cut_node, token_at, tokens_if}
+use Rattle.pc_document.specs.TokenLines.{Tokens, bare_cut, column_in, cut_at, cut_by, cut_node_of_tokens, cut_node_text, is_cut_node, is_cut_of, is_name_token, kind_of, likely_cut_node, more_names, names_in, names_of, read_cut_node, token_at, tokens_if}
 use Rattle.pc_document.proofs.Keeping.{none_kept}
 
 -- ---- the line
@@ -31,10 +30,12 @@ unfolding cut_node_text
 bare_text schema (cut_nodes.Leaf mark) = refl
 bare_text schema (cut_nodes.Inner cut first second) = refl
 
+-- where no likely node is good, none is read
 pub node_none : (schema : Schema) (line : List ℕ) (list : Tokens) → list ≡ tokens_if (tokens_of line) → IfSome (cut_node_of_tokens schema list) (λ node. is_cut_node schema node ≡ false) → None ≡ read_cut_node schema line
 unfolding read_cut_node likely_cut_node
 node_none schema line list is refused = none_kept (cut_node_text schema) (is_cut_node schema) line _ (rw is at refused)
 
+-- a likely node is read if it is spelled so
 pub node_some : (schema : Schema) (line : List ℕ) (list : Tokens) (node : CutNode) (found : Option CutNode) → list ≡ tokens_if (tokens_of line) → cut_node_of_tokens schema list ≡ Some node → found ≡ if_spelled (cut_node_text schema) (is_cut_node schema) line (Some node) → found ≡ read_cut_node schema line
 unfolding read_cut_node likely_cut_node
 node_some schema line list node found is likely spelled =
@@ -48,10 +49,12 @@ pub ruleset line_steps = (node_none, node_some)
 pub kind_of_column : (schema : Schema) (place : ℕ) (column : Column) → IsWellFormed schema → place < length schema.columns → column ≡ get_or schema.columns place column → IsKind column.kind
 kind_of_column schema place column formed inside at = rw at (formed.columns.all place column inside).kind
 
+-- a name more
 pub names_more : (list : Tokens) (names : List (List ℕ)) (i : ℕ) (d : List ℕ) → i < length names → (list ++ tokens.Symbol symbols.Comma ∷ tokens.Name (get_or names i d) ∷ []) ++ more_names (drop (i + 1) names) ≡ list ++ more_names (drop i names)
 unfolding more_names
 names_more list names i d inside = rw (add-one, drop-cons names i d) (append_assoc list (tokens.Symbol symbols.Comma ∷ tokens.Name (get_or names i d) ∷ []) (more_names (drop (suc i) names)))
 
+-- no name is left, and the set ends
 pub names_end : (list : Tokens) (names : List (List ℕ)) (i : ℕ) → length names ≤ i → list ++ more_names (drop i names) ≡ list ++ tokens.Symbol symbols.CloseSet ∷ []
 unfolding more_names
 names_end list names i past = rw (drop_all i names past) refl
@@ -60,20 +63,24 @@ pub ruleset names_steps = (names_more, names_end)
 
 -- ---- the column of a cut
 
+-- the column that is looked for
 pub column_here : (columns : List Column) (name : List ℕ) (i : ℕ) (column : Column) → i < length columns → column ≡ get_or columns i column → bytes_eq column.name name ≡ true → i + column_in (drop i columns) name ≡ i
 unfolding column_in
 column_here columns name i column inside at same = rw (drop-cons columns i column inside, ← at, same) (omega arith)
 
+-- another column
 pub column_later : (columns : List Column) (name : List ℕ) (i : ℕ) (column : Column) → i < length columns → column ≡ get_or columns i column → bytes_eq column.name name ≡ false → (i + 1) + column_in (drop (i + 1) columns) name ≡ i + column_in (drop i columns) name
 unfolding column_in
 column_later columns name i column inside at differs = rw (drop-cons columns i column inside, ← at, differs, add-one) (omega arith)
 
+-- no column is left
 pub column_none : (columns : List Column) (name : List ℕ) (i : ℕ) → length columns ≤ i → i + column_in (drop i columns) name ≡ i
 unfolding column_in
 column_none columns name i past = rw (drop_all i columns past) (omega arith)
 
 pub ruleset place_steps = (column_here, column_later, column_none)
 
+-- a cut is of the column that it is made for
 pub column_is : (kind : Option Kind) (column : ℕ) (token : Token) (rest : Tokens) → column_of (cut_by kind column token rest) ≡ column
 column_is kind column (tokens.Symbol which) rest = refl
 column_is kind column (tokens.Reserved word) rest = refl
@@ -88,6 +95,7 @@ no_names (Int low high) column = refl
 no_names (Dec scale low high) column = refl
 no_names (Cat names) column = refl
 
+-- no names have no bits
 no_bits : (names : List (List ℕ)) → bits_of [] names ≡ 0
 unfolding bits_of
 no_bits [] = refl
@@ -102,6 +110,7 @@ empty_set (Cat names) column = ap (λ bits. is_cut_of (Among column bits) (Some 
 
 -- ---- the names among tokens
 
+-- a name among tokens is one of their names
 pub among_tokens : (list : Tokens) (name : List ℕ) → list_any (is_name_token name) list ≡ is_among (names_of list) name
 unfolding names_of
 among_tokens [] name = refl
@@ -117,6 +126,7 @@ none_divided kind column (a ∷ []) short = empty_set kind column
 none_divided kind column (a ∷ b ∷ []) short = empty_set kind column
 none_divided kind column (a ∷ b ∷ c ∷ rest) short = absurd (omega arith)
 
+-- the third token divides
 pub third_divides : (kind : Kind) (column : ℕ) (list : Tokens) (token : Token) → 2 < length list → token ≡ get_or list 2 token → cut_by (Some kind) column token (drop 3 list) ≡ cut_by (Some kind) column (token_at list 2) (drop 3 list)
 third_divides kind column [] token inside at = absurd (omega arith)
 third_divides kind column (a ∷ []) token inside at = absurd (omega arith)
@@ -127,6 +137,7 @@ pub ruleset divided_steps = (none_divided, third_divides)
 
 -- ---- the column of the cut that is read
 
+-- the kind of the column at a place decides
 pub column_some : (schema : Schema) (list : Tokens) (place : ℕ) (column : Column) → place < length schema.columns → column ≡ get_or schema.columns place column → cut_by (Some column.kind) place (token_at list 2) (drop 3 list) ≡ cut_at schema place list
 column_some schema list place column inside at =
     sym (ap (λ found. cut_by (kind_of found) place (token_at list 2) (drop 3 list)) (slice_get_read schema.columns (length schema.columns) place column refl inside at))

@@ -28,9 +28,11 @@ use Rattle.pc_document.proofs.TokensOf.{AreSpelled, column_of_all, spelled_more,
 
 -- ---- the line is the text of its tokens
 
+-- the tokens of the line of a name
 abbrev group_tokens : List ℕ → List ℕ → Tokens
 group_tokens column name = tokens.Reserved words.Group ∷ tokens.Name column ∷ tokens.Symbol symbols.Equal ∷ tokens.Name name ∷ []
 
+-- the line is their text
 group_written : (column name : List ℕ) → codes "group " ++ (name_text column ++ (codes " = " ++ (name_text name ++ []))) ≡ tokens_text (group_tokens column name)
 unfolding token_text
 group_written column name =
@@ -49,27 +51,33 @@ record AreGroups (schema : Schema) (group : ℕ) (count : ℕ) : Type 0 where
   plain : (place : ℕ) → place < count → feeds_in (group_text schema group place) ≡ 0
 
 module _ (schema : Schema) (group : ℕ) (column : Column) (names : List (List ℕ)) (is : slice_get schema.columns group ≡ Some column) (kind : column.kind ≡ Cat names) (named : IsName column.name) (are : AreValues names) where
+  -- the tokens for the name at a place
   abbrev list_at : ℕ → Tokens
   list_at place = group_tokens column.name (get_or names place [])
 
+  -- the line of a place is their text
   text_is : (place : ℕ) → group_text schema group place ≡ tokens_text (list_at place)
   unfolding group_text
   text_is place = rw (is, kind) (group_written column.name (get_or names place []))
 
+  -- they are spelled
   list_spelled : (place : ℕ) → place < length names → AreSpelled (list_at place)
   list_spelled place inside =
       let last = spelled_more [] (get_or names place []) (is_name_of (get_or names place []) (are.own.all place [] inside)) refl in
       spelled_more (tokens.Symbol symbols.Equal ∷ tokens.Name (get_or names place []) ∷ []) column.name (is_name_of column.name named) last
 
+  -- the tokens tell the name
   same_name : (a b : List ℕ) → group_tokens column.name a ≡ group_tokens column.name b → a ≡ b
   same_name a b e = cc
 
+  -- lines of different places differ
   texts_apart : (p q : ℕ) → p < length names → q < length names → group_text schema group p ≡ group_text schema group q → p ≡ q
   texts_apart p q inside within e =
       let texts = sym (text_is p) ∙ e ∙ text_is q in
       let lists = sym (tokens_again (list_at p) (list_spelled p inside)) ∙ ap (λ text. tokens_if (tokens_of text)) texts ∙ tokens_again (list_at q) (list_spelled q within) in
       same_place names [] p q are.own.different inside within (same_name (get_or names p []) (get_or names q []) lists)
 
+  -- so the column has lines that tell their places
   are_groups : AreGroups schema group (length names)
   are_groups = record {
     some = let some = are.some in omega (arith, some);
@@ -80,6 +88,7 @@ module _ (schema : Schema) (group : ℕ) (column : Column) (names : List (List �
     plain = λ place inside. ap feeds_in (text_is place) ∙ tokens_plain (list_at place) (list_spelled place inside);
   }
 
+-- each column of names of a well-formed schema has
 groups_at : (schema : Schema) (group : ℕ) → IsWellFormed schema → IsColumnWhere HasNames schema group → (count : ℕ) × AreGroups schema group count
 groups_at schema group formed has = by_column (slice_get schema.columns group) refl has
   where
@@ -97,6 +106,7 @@ groups_at schema group formed has = by_column (slice_get schema.columns group) r
 -- ---- the place of a line
 
 module _ (schema : Schema) (group : ℕ) where
+  -- of lines that tell their places, that of a place is found there
   found_again : (total start count place : ℕ) → ((p q : ℕ) → p < total → q < total → group_text schema group p ≡ group_text schema group q → p ≡ q) → start + count ≤ total → start ≤ place → place < start + count → group_found schema group start count (group_text schema group place) ≡ Some place
   unfolding group_found
   found_again total start zero place apart few after before = absurd (omega (arith, after, before))
@@ -119,9 +129,11 @@ module _ (schema : Schema) (group : ℕ) where
         ]
       ]
 
+  -- a place whose line this is
   abbrev IsFoundAt : ℕ → List ℕ → ℕ → Type 0
   IsFoundAt most line place = (place < most) × (line ≡ group_text schema group place)
 
+  -- what is found is such a place
   found_at : (start count : ℕ) (line : List ℕ) (place : ℕ) → group_found schema group start count line ≡ Some place → IsFoundAt (start + count) line place
   unfolding group_found
   found_at start zero line place e = absurd (none e)
@@ -139,10 +151,12 @@ module _ (schema : Schema) (group : ℕ) where
           let known = others f in
           (omega (arith, known.0), known.1)
 
+  -- what is read is looked for from the first name on
   read_is : (count : ℕ) (line : List ℕ) → names_count (slice_get schema.columns group) ≡ count → read_group schema group line ≡ group_found schema group 0 count line
   unfolding read_group
   read_is count line counted = ap (λ n. group_found schema group 0 n line) counted
 
+  -- of lines that tell their places, a line
   line_of : (count : ℕ) → AreGroups schema group count → IsLine (λ place. IsGroupName schema (Some group) (Some place)) (group_text schema group) (read_group schema group)
   line_of count are = record {
     some = 0;

@@ -1,5 +1,5 @@
 -- A likely value that is written again and compared, where it is good.
-use Rattle.std.proofs.Common.{◌≡◌, ◌&&◌, Bool, true, false, List, ℕ, Option, Some, None, refl, sym, ap}
+use Rattle.std.proofs.Common.{◌≡◌, ◌&&◌, Bool, false, List, ℕ, Option, Some, None, refl, sym, ap}
 use Rattle.std.specs.Prelude.{IfSome, bytes_eq, if◌then◌else◌}
 use Rattle.pc_format.specs.Formats.{if_spelled}
 

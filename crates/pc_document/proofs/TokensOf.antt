@@ -27,9 +27,11 @@ use Rattle.pc_document.proofs.NumbersBack.{numbers_again}
 
 -- ---- a line of tokens
 
+-- the numbers and names of the tokens are numbers and names
 abbrev pub AreSpelled : Tokens → Type 0
 AreSpelled list = list_all is_spelled list ≡ true
 
+-- the same in the words of the tokens' crate
 are_spelled_so : (list : Tokens) → AreSpelled list → are_spelled list ≡ true
 unfolding are_spelled
 are_spelled_so list are = are
@@ -51,6 +53,7 @@ printed_plain (byte ∷ text) printed =
 pub tokens_plain : (list : Tokens) → AreSpelled list → feeds_in (tokens_text list) ≡ 0
 tokens_plain list are = printed_plain (tokens_text list) (tokens_text_printed list (are_spelled_so list are))
 
+-- the first token, and those after it
 pub text_opens : (first : Token) (rest : Tokens) → tokens_text (first ∷ rest) ≡ token_text first ++ texts_after first rest
 unfolding tokens_text
 text_opens first rest = refl
@@ -63,6 +66,7 @@ spelled_more list text is are = and_from (is_name text) (list_all is_spelled lis
 pub bare_name : (text : List ℕ) → is_bare text ≡ true → is_name text ≡ true
 bare_name text bare = is_name_of text (bare_is_name text bare)
 
+-- its token is written as it stands
 pub bare_text : (text : List ℕ) → is_bare text ≡ true → token_text (tokens.Name text) ≡ text
 unfolding token_text
 bare_text text bare = text_bare text bare
@@ -85,6 +89,7 @@ place_again (first ∷ rest) (suc place) different inside =
     let other = AllPairs-head (λ (a b : List ℕ). a ≢ b) first rest different place [] within in
     rw (bytes_eq-other first (get_or rest place []) other, place_again rest place (AllPairs-tail (λ (a b : List ℕ). a ≢ b) first rest different) within) (omega arith)
 
+-- no two columns have one name
 abbrev HaveOwnNames : Column → Column → Type 0
 HaveOwnNames a b = a.name ≢ b.name
 
@@ -99,6 +104,7 @@ column_of_all P (first ∷ rest) zero column all is =
     subst P same (All-head P first rest all)
 column_of_all P (first ∷ rest) (suc place) column all is = column_of_all P rest place column (All-tail P first rest all) is
 
+-- the name at the place of a column is the column's
 name_is : (columns : List Column) (place : ℕ) (column : Column) → slice_get columns place ≡ Some column → name_at columns place ≡ column.name
 name_is [] place column is = absurd (none column is)
   where
@@ -109,6 +115,7 @@ name_is (first ∷ rest) zero column is =
     name_at-zero first rest ∙ ap (λ (other : Column). other.name) same
 name_is (first ∷ rest) (suc place) column is = name_at-suc first rest place ∙ name_is rest place column is
 
+-- the place of a column's name is that of the column
 column_again : (columns : List Column) (place : ℕ) (column : Column) → AllPairs HaveOwnNames columns → slice_get columns place ≡ Some column → column_in columns column.name ≡ place
 unfolding column_in
 column_again [] place column own is = absurd (none column is)
@@ -129,6 +136,7 @@ pub record IsColumnAt (schema : Schema) (place : ℕ) (column : Column) : Type 0
   pub named : is_name (name_at schema.columns place) ≡ true
   pub again : column_in schema.columns (name_at schema.columns place) ≡ place
 
+-- each column of a well-formed schema is such a one
 pub column_at : (schema : Schema) (place : ℕ) (column : Column) → IsWellFormed schema → slice_get schema.columns place ≡ Some column → IsColumnAt schema place column
 column_at schema place column formed is =
     let name = name_is schema.columns place column is in

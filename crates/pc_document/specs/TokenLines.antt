@@ -1,5 +1,5 @@
 -- The lines that hold names: runs, cuts and leaves, the name of a group, and queries.
-use Rattle.std.specs.Prelude.{◌≡◌, ℕ, zero, suc, unsigned_abs, ◌+◌, ◌*◌, ◌^◌, ◌==◌, ◌&&◌, ⊤, ℤ, pos, Bool, true, false, List, [], ◌∷◌, ◌++◌, length, get_or, codes, decimal, drop, take, Option, Some, None, Result, Ok, Err, bytes_eq, nat_lt, nat_le, slice_get, if◌then◌else◌}
+use Rattle.std.specs.Prelude.{◌≡◌, ℕ, zero, suc, unsigned_abs, ◌+◌, ◌^◌, ◌&&◌, ℤ, pos, Bool, true, false, List, [], ◌∷◌, ◌++◌, length, get_or, codes, decimal, drop, take, Option, Some, None, Result, Ok, Err, bytes_eq, nat_lt, nat_le, slice_get, if◌then◌else◌}
 use Rattle.std.specs.List.{concat}
 use Rattle.pc_num.specs.Put.{scaled_text}
 use Rattle.pc_model.specs.declared.fault.Reason.{Reason}
@@ -7,7 +7,6 @@ use Rattle.pc_model.specs.declared.schema.Kind.{Kind}
 use Rattle.pc_model.specs.declared.schema.Kind.TheVariants.{Int, Dec, Cat}
 use Rattle.pc_model.specs.declared.schema.Column.{Column}
 use Rattle.pc_model.specs.declared.schema.Schema.{Schema}
-use Rattle.pc_model.specs.declared.row.Row.{Row}
 use Rattle.pc_model.specs.declared.row.Run.{Run}
 use Rattle.pc_model.specs.declared.query.Query.{Query}
 use Rattle.pc_model.specs.declared.tree.Cut.{Cut}
@@ -29,7 +28,7 @@ use Rattle.pc_lang.specs.Canonical.{names_from, query_text, name_at}
 use Rattle.pc_lang.specs.Claims.{bits_of}
 use Rattle.pc_lang.specs.Files.{query_from}
 use Rattle.pc_format.specs.Formats.{read_spelled}
-use Rattle.pc_proof.specs.Form.{IsFormedRun, IsFormedCutNode, greatest_number_size}
+use Rattle.pc_proof.specs.Form.{IsFormedCutNode, greatest_number_size}
 use Rattle.pc_report.specs.Report.{kind_name, scale_in}
 use Rattle.pc_report.specs.RunLines as report
 use Rattle.pc_document.specs.Numbers.{count_text, likely_number, likely_count, is_within}

@@ -1,4 +1,4 @@
-use Rattle.std.proofs.Common.{◌≡◌, ◌-◌, ◌∷◌, ◌<◌, ◌≤◌, length, get_or, sym, subst, arith}
+use Rattle.std.proofs.Common.{◌≡◌, ◌-◌, ◌<◌, ◌≤◌, length, get_or, sym, subst, arith}
 use Rattle.pc_lang.proofs.Bits.{bits_step, bits_room}
 use Rattle.pc_document.specs.TokenLines.{names_of}
 use Rattle.pc_document.proofs.cut_lines.bits_of.Goals as goal

@@ -1,4 +1,4 @@
-use Rattle.std.proofs.Common.{◌≡◌, ◌∷◌, ◌-◌, ◌^◌, ◌<◌, length, drop}
+use Rattle.std.proofs.Common.{◌≡◌, ◌-◌, ◌^◌, ◌<◌, length, drop}
 use Rattle.pc_lang.specs.Claims.{bits_of}
 use Rattle.pc_document.specs.TokenLines.{names_of}
 use Rattle.pc_document.proofs.cut_lines.bits_of.Given as goal
