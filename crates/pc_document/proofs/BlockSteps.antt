@@ -5,7 +5,10 @@ use Rattle.pc_model.specs.declared.schema.Schema.{Schema}
 use Rattle.pc_model.specs.WellFormed.{IsWellFormed}
 use Rattle.pc_proof.specs.declared.document.Block.{Block}
 use Rattle.pc_proof.specs.Form.{IsFormedBlock}
-use Rattle.pc_format.specs.Formats.{Lines, IsFormat, any, after_items, read_many}
+use Rattle.pc_document.specs.declared.halt.Halt.{Halt}
+use Rattle.pc_document.specs.declared.halt.Halt.TheVariants as halts
+use Rattle.pc_document.specs.Places.{HaltsAs, lines_at}
+use Rattle.pc_format.specs.Formats.{Lines, Found, IsFormat, any, after_items, read_many}
 use Rattle.pc_format.proofs.Loops.{many_none, many_over, many_refused, value_more}
 use Rattle.pc_document.specs.TokenLines.{begins_query}
 use Rattle.pc_document.specs.DocumentLines.{block_lines}
@@ -37,5 +40,11 @@ block_shorter schema lines left block well found =
     let whole : length lines ≡ length (block_lines schema block ++ left) = ap (λ (ls : Lines). length ls) known.1 in
     let parts = length-append (block_lines schema block) left in
     omega arith
+
+-- reading ends in a block as it does in the whole
+pub block_halts : (schema : Schema) (before : List Block) (bytes : List ℕ) (at : ℕ) (whole : Found (List Block)) (halt : Halt) (line : List ℕ) (rest : Lines) → lines_at bytes at ≡ line ∷ rest → begins_query line ≡ true
+    → after_items before (read_many begins_query (read_block schema) (lines_at bytes at)) ≡ whole → HaltsAs bytes halt (read_block schema (lines_at bytes at)) → HaltsAs bytes halt whole
+block_halts schema before bytes at whole (halts.Fault end) line rest is begins so_far h = (h.0, sym so_far ∙ block_refused schema before (lines_at bytes at) (lines_at bytes end) line rest is begins h.1)
+block_halts schema before bytes at whole halts.Memory line rest is begins so_far h = tt
 
 pub ruleset steps = (block_more, block_refused, block_over, no_block)

@@ -103,17 +103,20 @@ fn blocks_at(
     requires start { IsLineStart bytes.now start }
     ensures { Reads bytes.now result (read_many begins_query (read_block schema.now) (lines_at bytes.now start)) }
 {
-    let mut blocks = Seq::new(alloc);
+    let mut found = Seq::new(alloc);
     let mut at = start;
-    while let Some((line, _)) = line_at(bytes, at) {
+    while let Some((line, _after)) = line_at(bytes, at) {
         if !begins_query(line) {
-            return Ok((blocks, at));
+            return Ok((found, at));
         }
-        let (block, next) = block_at(alloc, schema, bytes, at)?;
-        blocks.push(block)?;
+        let (block, next) = match block_at(alloc, schema, bytes, at) {
+            Ok(read) => read,
+            Err(halt) => return Err(halt),
+        };
+        found.push(block)?;
         at = next;
     }
-    Ok((blocks, at))
+    Ok((found, at))
 }
 
 #[tactic(auto, unfolding(std::specs::Prelude::bytes_eq))]

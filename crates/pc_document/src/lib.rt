@@ -27,7 +27,6 @@ mod places;
 mod proof;
 mod proof_line;
 mod put_answer;
-mod put_document;
 mod put_proof;
 mod query_lines;
 mod relation;
@@ -38,7 +37,8 @@ mod tags;
 mod tree;
 mod values;
 mod words;
+mod writer;
 
 pub use document::{NoDocument, read_document};
 pub use laws::{documents_read_back, one_document, reading_tells};
-pub use put_document::put_document;
+pub use writer::put_document;

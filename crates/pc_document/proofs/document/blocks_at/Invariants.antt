@@ -7,7 +7,7 @@ use Rattle.pc_document.proofs.document.blocks_at.Given as goal
 
 abbrev pub invariant-loop-line : goal.invariant-loop-line
 invariant-loop-line l =
-    (after_items l.blocks (read_many begins_query (read_block l.fn.schema) (lines_at l.bytes l.at)) ≡ read_many begins_query (read_block l.fn.schema) (lines_at l.bytes l.start)) × IsLineStart l.bytes l.at
+    (after_items l.found (read_many begins_query (read_block l.fn.schema) (lines_at l.bytes l.at)) ≡ read_many begins_query (read_block l.fn.schema) (lines_at l.bytes l.start)) × IsLineStart l.bytes l.at
 
 abbrev pub decreases-loop-line : goal.decreases-loop-line
 decreases-loop-line l = length (lines_at l.bytes l.at)

@@ -2,7 +2,7 @@ use Rattle.std.proofs.Common.{◌≡◌, ◌++◌, drop}
 use Rattle.pc_format.specs.Lines.{lines_text}
 use Rattle.pc_format.specs.Formats.{items_text}
 use Rattle.pc_document.specs.DocumentLines.{block_lines}
-use Rattle.pc_document.proofs.put_document.put_blocks.Given as goal
+use Rattle.pc_document.proofs.writer.put_blocks.Given as goal
 
 abbrev pub invariant-loop-block : goal.invariant-loop-block
 invariant-loop-block l =

@@ -7,7 +7,7 @@ use Rattle.pc_format.specs.Lines.{lines_text}
 use Rattle.pc_format.specs.Formats.{nodes_text}
 use Rattle.pc_document.specs.TokenLines.{bare_cut, cut_node_text}
 use Rattle.pc_document.proofs.Writing.{nodes_more, nodes_end}
-use Rattle.pc_document.proofs.put_document.put_cuts.Goals as goal
+use Rattle.pc_document.proofs.writer.put_cuts.Goals as goal
 
 pub loop-node-preserved : goal.loop-node-preserved
 loop-node-preserved c =

@@ -3,7 +3,7 @@ use Rattle.pc_model.specs.declared.tree.CutNode.{CutNode}
 use Rattle.pc_format.specs.Lines.{lines_text}
 use Rattle.pc_format.specs.Formats.{nodes_text}
 use Rattle.pc_document.specs.TokenLines.{bare_cut, cut_node_text}
-use Rattle.pc_document.proofs.put_document.put_cuts.Given as goal
+use Rattle.pc_document.proofs.writer.put_cuts.Given as goal
 
 abbrev pub invariant-loop-node : goal.invariant-loop-node
 invariant-loop-node l =

@@ -3,7 +3,7 @@ use Rattle.pc_format.specs.Lines.{lines_text}
 use Rattle.pc_format.specs.Formats.{items_text}
 use Rattle.pc_document.specs.DocumentLines.{block_lines}
 use Rattle.pc_document.proofs.Writing.{items_more, items_end}
-use Rattle.pc_document.proofs.put_document.put_blocks.Goals as goal
+use Rattle.pc_document.proofs.writer.put_blocks.Goals as goal
 
 pub loop-block-preserved : goal.loop-block-preserved
 loop-block-preserved c =
