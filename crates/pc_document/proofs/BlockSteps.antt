@@ -17,7 +17,6 @@ use Rattle.pc_document.proofs.AllLines.{all_lines}
 use Rattle.pc_document.proofs.DocumentFormat.{block_format}
 use Rattle.pc_document.proofs.QueriesBack.{query_begins}
 
-
 pub block_more : (schema : Schema) (before : List Block) (lines : Lines) (line : List ℕ) (rest left : Lines) (block : Block) → IsWellFormed schema → lines ≡ line ∷ rest → begins_query line ≡ true → read_block schema lines ≡ Ok (block, left)
     → after_items before (read_many begins_query (read_block schema) lines) ≡ after_items (before ++ block ∷ []) (read_many begins_query (read_block schema) left)
 block_more schema before lines line rest left block well =

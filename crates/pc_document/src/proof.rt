@@ -6,8 +6,8 @@ ghost use Rattle.pc_document.specs.Places.{IsLineStart, Reads, lines_at};
 ghost use Rattle.pc_document.specs.Reading.{read_proof, read_bounded, read_crossing, tagged_proof};
 ghost use Rattle.pc_document.specs.ValueLines.{read_proof_line, read_outer_line};
 
-use crate::halt::Halt;
 use crate::end_lines::read_outer_line;
+use crate::halt::Halt;
 use crate::places::first_line_at;
 use crate::proof_line::read_proof_line;
 use crate::tags::{ProofLine, Side};

@@ -33,7 +33,12 @@ pub(crate) fn put_answer(
 
 /// Appends the lines of runs.
 #[tactic(auto, using(crate::proofs::Writing::put_after, pc_report::proofs::Scales::scales))]
-fn put_run_lines(alloc: Global, schema: &Schema, out: &mut Vec<u8>, runs: &[Run]) -> Result<(), Memory>
+fn put_run_lines(
+    alloc: Global,
+    schema: &Schema,
+    out: &mut Vec<u8>,
+    runs: &[Run],
+) -> Result<(), Memory>
     requires well_formed { IsWellFormed schema.now }
     ensures { OnOk result (out.new.items ≡ out.old.items ++ lines_text (runs_lines schema.now runs.now)) }
 {
@@ -74,7 +79,12 @@ fn put_relation(
     }
 }
 
-fn put_possible(alloc: Global, schema: &Schema, out: &mut Vec<u8>, runs: &[Run]) -> Result<(), Memory>
+fn put_possible(
+    alloc: Global,
+    schema: &Schema,
+    out: &mut Vec<u8>,
+    runs: &[Run],
+) -> Result<(), Memory>
     requires well_formed { IsWellFormed schema.now }
     ensures { OnOk result (out.new.items ≡ out.old.items ++ lines_text (codes "relation possible" ∷ runs_lines schema.now runs.now)) }
 {
@@ -132,7 +142,12 @@ fn put_why(
 }
 
 #[tactic(auto, using(crate::proofs::Writing::joins))]
-fn put_two_trees(alloc: Global, out: &mut Vec<u8>, first: &Tree, second: &Tree) -> Result<(), Memory>
+fn put_two_trees(
+    alloc: Global,
+    out: &mut Vec<u8>,
+    first: &Tree,
+    second: &Tree,
+) -> Result<(), Memory>
     ensures { OnOk result (out.new.items ≡ out.old.items ++ lines_text (tree_lines first.now ++ tree_lines second.now)) }
 {
     put_tree(alloc, out, first)?;

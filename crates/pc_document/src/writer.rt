@@ -49,7 +49,12 @@ fn text_of(alloc: Global, schema: &Schema, doc: &Document) -> Result<Vec<u8>, Me
 }
 
 #[tactic(auto, using(crate::proofs::Writing::joins))]
-fn put_blocks(alloc: Global, schema: &Schema, out: &mut Vec<u8>, blocks: &[Block]) -> Result<(), Memory>
+fn put_blocks(
+    alloc: Global,
+    schema: &Schema,
+    out: &mut Vec<u8>,
+    blocks: &[Block],
+) -> Result<(), Memory>
     requires well_formed { IsWellFormed schema.now }
     requires form { All (IsFormedBlock schema.now) blocks.now }
     ensures { OnOk result (out.new.items ≡ out.old.items ++ lines_text (items_text (block_lines schema.now) blocks.now)) }
@@ -135,7 +140,12 @@ fn put_same(out: &mut Vec<u8>) -> Result<(), Memory>
     put_line(out, "tree same")
 }
 
-fn put_own(alloc: Global, schema: &Schema, out: &mut Vec<u8>, nodes: &[CutNode]) -> Result<(), Memory>
+fn put_own(
+    alloc: Global,
+    schema: &Schema,
+    out: &mut Vec<u8>,
+    nodes: &[CutNode],
+) -> Result<(), Memory>
     requires well_formed { IsWellFormed schema.now }
     ensures { OnOk result (out.new.items ≡ out.old.items ++ lines_text (codes "tree own" ∷ nodes_text (λ (node : CutNode). cut_node_text schema.now (bare_cut node)) nodes.now)) }
 {
@@ -157,7 +167,12 @@ fn put_cuts_as(
     put_cuts(alloc, schema, out, nodes)
 }
 
-fn put_cuts(alloc: Global, schema: &Schema, out: &mut Vec<u8>, nodes: &[CutNode]) -> Result<(), Memory>
+fn put_cuts(
+    alloc: Global,
+    schema: &Schema,
+    out: &mut Vec<u8>,
+    nodes: &[CutNode],
+) -> Result<(), Memory>
     requires well_formed { IsWellFormed schema.now }
     ensures { OnOk result (out.new.items ≡ out.old.items ++ lines_text (nodes_text (λ (node : CutNode). cut_node_text schema.now (bare_cut node)) nodes.now)) }
 {

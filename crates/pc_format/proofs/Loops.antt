@@ -1,7 +1,7 @@
 -- What a loop that reads values one after another has come to.
-use Rattle.std.proofs.Common.{◌≡◌, ⊎_elim, ℕ, zero, suc, ◌+◌, ◌-◌, ◌<◌, ◌≤◌, Bool, true, false, List, [], ◌∷◌, ◌++◌, length, Option, Some, None, Ok, Err, refl, sym, ap, ◌∙◌, subst, arith, if◌then◌else◌}
+use Rattle.std.proofs.Common.{◌≡◌, ℕ, zero, suc, ◌+◌, ◌-◌, ◌<◌, ◌≤◌, Bool, true, false, List, [], ◌∷◌, ◌++◌, length, Option, Some, None, Ok, Err, refl, sym, ap, ◌∙◌, arith, if◌then◌else◌}
 use Rattle.std.proofs.lemmas.List.{append_assoc, append-nil}
-use Rattle.pc_format.specs.Formats.{Lines, Found, ◌>>=◌, IsFormat, Begins, Ends, any, read_many, read_many_in, read_line, line_found, read_nodes, owed_after, after_one, after_items, first_line}
+use Rattle.pc_format.specs.Formats.{Lines, Found, ◌>>=◌, IsFormat, Begins, any, read_many, read_many_in, read_line, line_found, read_nodes, owed_after, after_one, after_items, first_line}
 use Rattle.pc_format.proofs.Many.{many_fuel}
 
 -- a value after others, before others

@@ -178,7 +178,7 @@ module _ {A : Type 0} (Good : A → Type 0) (text : A → Lines) (read : Lines �
   same_in (suc n) zero lines few more = many_end (suc n) lines (none_begin lines more) ∙ sym (many_end zero lines (none_begin lines more))
   same_in (suc n) (suc m) lines few more =
       ⊎_elim (λ is. many_step n lines is ∙ joined_same (same_in n m) is (read lines) refl ∙ sym (many_step m lines is))
-        (λ (ends : Ends {A = A} begins [] (first_line lines)). many_end (suc n) lines ends ∙ sym (many_end (suc m) lines ends)) (begins_or_ends lines)
+      (λ (ends : Ends {A = A} begins [] (first_line lines)). many_end (suc n) lines ends ∙ sym (many_end (suc m) lines ends)) (begins_or_ends lines)
     where
       joined_same : ((ls : Lines) → length ls ≤ n → length ls ≤ m → read_many_in begins read n ls ≡ read_many_in begins read m ls) → Begins begins (first_line lines)
           → (found : Found A) → read lines ≡ found → read_joined read (others n) with_first lines ≡ read_joined read (others m) with_first lines

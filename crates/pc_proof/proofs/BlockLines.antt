@@ -17,7 +17,7 @@ use Rattle.pc_proof.specs.declared.answer.End.{End}
 use Rattle.pc_proof.specs.declared.answer.Answer.{Answer}
 use Rattle.pc_proof.specs.Setting.{Setting, region_of, leaves}
 use Rattle.pc_proof.specs.Unbroken.{AllowsName, HoldsRelation, HoldsLack, HoldsLow, HoldsHigh, MayStand, IsUnbroken}
-use Rattle.pc_proof.specs.Demands.{Placed, Holds, IsFirstBroken, allowed, possible_runs, gives_none, gives_some, impossible_by, stands, never_by, always_by, why_trees, never_trees, always_trees, relation_demands, lack_demands, ends_demands, front_lines, name_demands, TreeLines, own, same, at_line, cut_demands, cells_demands, relation_line, lack_line, end_line, block_demands}
+use Rattle.pc_proof.specs.Demands.{Placed, Holds, IsFirstBroken, allowed, gives_none, gives_some, impossible_by, stands, never_by, always_by, why_trees, never_trees, always_trees, relation_demands, lack_demands, ends_demands, front_lines, name_demands, TreeLines, own, same, at_line, cut_demands, cells_demands, relation_line, lack_line, end_line, block_demands}
 use Rattle.pc_proof.proofs.Parts.{All-front, All-back, one-holds, the-one, the-second, two-hold, the-last}
 use Rattle.pc_proof.proofs.TreeLines.{proper-from_demands, settled-from_demands, demands-from_cuts}
 use Rattle.pc_proof.proofs.EndLines.{Stand, why-trees, never-trees, always-trees, ends-hold, lows-from_demands, highs-from_demands, runs_line}

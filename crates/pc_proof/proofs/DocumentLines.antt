@@ -4,7 +4,6 @@ use Rattle.std.proofs.lemmas.List.Elements.{All-nil, All-cons, All-head, All-tai
 use Rattle.pc_model.specs.declared.tree.CutNode.{CutNode}
 use Rattle.pc_model.specs.Right.{IsRight}
 use Rattle.pc_proof.specs.declared.document.Block.{Block}
-use Rattle.pc_proof.specs.Setting.{Setting}
 use Rattle.pc_proof.specs.Unbroken.{IsUnbroken, HasForm, IsWellPosed, plain_answer}
 use Rattle.pc_proof.specs.Demands.{block_demands, treeless_demands}
 use Rattle.pc_proof.specs.Documents.{Premises, nodes_after, lines_of, setting_of, unbroken_with, AreUnbroken, formed_with, HaveForm, broken_with, IsFirstBrokenIn, ArePosed, AreRight}

@@ -1,7 +1,7 @@
 -- Answers in form have the parts that the law of right answers asks for.
-use Rattle.std.proofs.Common.{◌≡◌, ◌<ℤ◌, pos, List, [], ◌∷◌, All, Option, Some, None, arith}
+use Rattle.std.proofs.Common.{◌≡◌, pos, List, [], ◌∷◌, All, Option, Some, None, arith}
 use Rattle.std.proofs.lemmas.Int.{ints}
-use Rattle.std.specs.Prelude.{IfSome, is_none, ⊤}
+use Rattle.std.specs.Prelude.{IfSome, is_none}
 use Rattle.std.proofs.lemmas.List.Elements.{All-head, All-tail}
 use Rattle.pc_num.specs.declared.Frac.{Frac}
 use Rattle.pc_model.specs.declared.query.Agg.{Agg}
@@ -20,7 +20,7 @@ use Rattle.pc_proof.specs.Setting.{Setting}
 use Rattle.pc_proof.specs.Table.{IsFormed, IsPositive, HasRatio}
 use Rattle.pc_proof.specs.Unbroken.{HasForm}
 use Rattle.pc_proof.specs.Documents.{Premises, nodes_after, setting_of, formed_with, HaveForm}
-use Rattle.pc_proof.specs.Form.{IsFormedWhole, IsFormedRatio, IsFormedValue, IsFormedProof, IsFormedEnd, AreFormedEnds, IsFormedAnswer, IsFormedBlockTree, IsFormedBlock}
+use Rattle.pc_proof.specs.Form.{IsFormedWhole, IsFormedValue, IsFormedProof, IsFormedEnd, AreFormedEnds, IsFormedAnswer, IsFormedBlockTree, IsFormedBlock}
 
 whole-positive : (v : Frac) → IsFormedWhole v → IsPositive v
 whole-positive v f = let one : v.den ≡ pos 1 = f.one in omega (arith, ints)
@@ -81,4 +81,4 @@ pub form_of_document : (case : Premises) (before : Option (List CutNode)) (block
 form_of_document case before [] ordered f = tt
 form_of_document case before (block ∷ blocks) ordered f =
     formed-block case block (nodes_after before block.tree) (λ found. HaveForm case (Some found) blocks) (tree-ordered case.schema before block.tree ordered (All-head (IsFormedBlock case.schema) block blocks f).tree)
-        (All-head (IsFormedBlock case.schema) block blocks f) (λ found in-order. form_of_document case (Some found) blocks in-order (All-tail (IsFormedBlock case.schema) block blocks f))
+    (All-head (IsFormedBlock case.schema) block blocks f) (λ found in-order. form_of_document case (Some found) blocks in-order (All-tail (IsFormedBlock case.schema) block blocks f))

@@ -5,7 +5,6 @@ use Rattle.pc_model.specs.declared.schema.Schema.{Schema}
 use Rattle.pc_model.specs.declared.schema.Kind.TheVariants as kinds
 use Rattle.pc_model.specs.declared.row.Row.{Row}
 use Rattle.pc_model.specs.declared.row.Run.{Run}
-use Rattle.pc_model.specs.declared.region.Region.{Region}
 use Rattle.pc_model.specs.declared.region.Side.TheVariants as sides
 use Rattle.pc_model.specs.declared.constraint.Constraint.{Constraint}
 use Rattle.pc_model.specs.declared.tree.Cut.TheVariants as cuts
@@ -16,7 +15,7 @@ use Rattle.pc_model.specs.declared.tree.Mult.{Mult}
 use Rattle.pc_model.specs.declared.tree.Tree.{Tree}
 use Rattle.pc_model.specs.declared.tree.TreeNode.TheVariants as tree_nodes
 use Rattle.pc_model.specs.declared.query.Agg.{Agg}
-use Rattle.pc_model.specs.declared.query.Agg.TheVariants.{Count, Sum, Min, Max, Avg}
+use Rattle.pc_model.specs.declared.query.Agg.TheVariants.{Count, Avg}
 use Rattle.pc_model.specs.Aggregate.{Ratio}
 use Rattle.pc_model.specs.Right.{Question}
 use Rattle.pc_model.specs.Regions.{whole_region}
@@ -29,7 +28,6 @@ use Rattle.pc_proof.specs.declared.answer.NeverBy.TheVariants as nevers
 use Rattle.pc_proof.specs.declared.answer.AlwaysBy.{AlwaysBy}
 use Rattle.pc_proof.specs.declared.answer.AlwaysBy.TheVariants as alwayses
 use Rattle.pc_proof.specs.declared.answer.Relation.TheVariants as relations
-use Rattle.pc_proof.specs.declared.answer.Lack.{Lack}
 use Rattle.pc_proof.specs.declared.answer.Lack.TheVariants as lacks
 use Rattle.pc_proof.specs.declared.answer.Mark.TheVariants as marks
 use Rattle.pc_proof.specs.declared.answer.End.{End}

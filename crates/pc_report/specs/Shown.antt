@@ -1,5 +1,5 @@
 -- Blocks that a report tells apart, and what it tells of them.
-use Rattle.std.specs.Prelude.{◌≡◌, ℕ, ◌<◌, ◌^◌, ℤ, pos, true, ◌||◌, ⊤, List, length, All, Option, Some, None, IfSome, IsSomeAnd, is_none, slice_get}
+use Rattle.std.specs.Prelude.{◌≡◌, ◌<◌, ◌^◌, ℤ, pos, true, ◌||◌, ⊤, List, length, All, Option, IfSome, is_none}
 use Rattle.std.specs.List.{AllZip}
 use Rattle.pc_num.specs.Fractions.{IsFrac}
 use Rattle.pc_num.specs.Signs.{Fits}

@@ -1,5 +1,5 @@
 -- No cap of a cell is above the greatest `most`.
-use Rattle.std.proofs.Common.{◌≡◌, ℕ, ◌+◌, ◌/◌, ◌≤◌, min, Bool, true, false, List, [], ◌∷◌, map, All, fold, arith}
+use Rattle.std.proofs.Common.{ℕ, ◌/◌, ◌≤◌, min, Bool, true, false, List, [], ◌∷◌, map, All, fold, arith}
 use Rattle.std.proofs.lemmas.List.Elements.{All-head, All-tail}
 use Rattle.std.specs.Prelude.{unwrap_or, if◌then◌else◌}
 use Rattle.std.specs.List.{reduce}

@@ -1,5 +1,5 @@
 -- What breaks no rule and fits is in form.
-use Rattle.std.proofs.Common.{◌≡◌, ℕ, ◌<◌, ◌≤◌, ◌^◌, Bool, List, length, map, Option, Some, None, arith}
+use Rattle.std.proofs.Common.{◌<◌, ◌≤◌, ◌^◌, Bool, length, map, Option, Some, None, arith}
 use Rattle.std.specs.Prelude.{ℤ, IfSome}
 use Rattle.std.proofs.lemmas.List.{length-map}
 use Rattle.std.proofs.Math.Pow.{pow_mono}
@@ -12,10 +12,6 @@ use Rattle.pc_model.specs.Aggregate.{Ratio}
 use Rattle.pc_model.specs.Cells.{Class, IsSettledTree, leaves_in}
 use Rattle.pc_model.specs.WellFormed.{IsWellFormed}
 use Rattle.pc_class.proofs.Cells.{classes_of-differ}
-use Rattle.pc_bound.specs.declared.program.Program.{Program}
-use Rattle.pc_bound.specs.Allocation.{IsProgram}
-use Rattle.pc_bound.specs.Allocation as allocations
-use Rattle.pc_cells.specs.Found.{cells_of}
 use Rattle.pc_proof.specs.declared.answer.Proof.{Proof}
 use Rattle.pc_proof.specs.declared.answer.Proof.TheVariants as proofs
 use Rattle.pc_proof.specs.declared.answer.Bounded.{Bounded}

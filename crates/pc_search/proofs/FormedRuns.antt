@@ -1,5 +1,5 @@
 -- The runs of a possible list are in form.
-use Rattle.std.proofs.Common.{◌≡◌, ℕ, ◌<◌, ◌≤◌, ℤ, true, false, true≢false, cond, List, [], ◌∷◌, length, get_or, All, sym, ap, subst, ◌∙◌, arith}
+use Rattle.std.proofs.Common.{◌≡◌, ℕ, ◌<◌, ◌≤◌, ℤ, true, true≢false, cond, List, [], ◌∷◌, length, get_or, All, sym, ap, subst, arith}
 use Rattle.std.specs.Cmp.Lexicographic.{pointwise}
 use Rattle.std.specs.List.{AllZip}
 use Rattle.std.proofs.lemmas.Bool.{and_parts}
@@ -23,7 +23,7 @@ use Rattle.pc_model.proofs.Between.{between_parts}
 use Rattle.pc_witness.specs.Checks.{rows_under}
 use Rattle.pc_witness.proofs.Checks.{count-rows_of}
 use Rattle.pc_witness.proofs.Repeats.{All-from_repeats}
-use Rattle.pc_proof.specs.Form.{IsFormedCell, IsFormedCellOf, IsFormedRun, AreFormedRuns}
+use Rattle.pc_proof.specs.Form.{IsFormedCell, IsFormedCellOf, AreFormedRuns}
 use Rattle.pc_search.proofs.RowNumbers.{between_small}
 
 -- ---- numbers

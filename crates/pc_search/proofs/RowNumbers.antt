@@ -1,5 +1,5 @@
 -- Numbers of rows that a schema allows are small.
-use Rattle.std.proofs.Common.{◌≡◌, ℕ, zero, suc, ◌≤◌, ◌^◌, ℤ, pos, negsuc, ◌≤ℤ◌, true, false, true≢false, List, [], ◌∷◌, length, get_or, All, Option, Some, None, refl, sym, arith, ltb-true}
+use Rattle.std.proofs.Common.{◌≡◌, ℕ, zero, suc, ◌≤◌, ◌^◌, ℤ, pos, negsuc, ◌≤ℤ◌, true, true≢false, List, [], ◌∷◌, length, get_or, All, Option, Some, None, refl, sym, arith, ltb-true}
 use Rattle.std.specs.Prelude.{nat_abs}
 use Rattle.std.specs.Cmp.Lexicographic.{pointwise}
 use Rattle.std.proofs.lemmas.Bool.{and_parts}

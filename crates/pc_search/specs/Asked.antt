@@ -1,5 +1,5 @@
 -- What a call that answers a query is asked.
-use Rattle.std.specs.Prelude.{◌≡◌, ◌≤◌, ◌^◌, ℕ, pos, nat_abs, List, All, Option, None, IfSome, is_none}
+use Rattle.std.specs.Prelude.{◌≡◌, ◌≤◌, ◌^◌, ℕ, nat_abs, List, All, Option, None, is_none}
 use Rattle.pc_model.specs.declared.schema.Schema.{Schema}
 use Rattle.pc_model.specs.declared.row.Row.{Row}
 use Rattle.pc_model.specs.declared.region.Region.{Region}
