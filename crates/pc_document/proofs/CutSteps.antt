@@ -10,8 +10,8 @@ use Rattle.pc_format.proofs.Loops.{nodes_done, nodes_refused, nodes_more}
 use Rattle.pc_format.proofs.Nodes.{nodes_format}
 use Rattle.pc_document.specs.declared.halt.Halt.{Halt}
 use Rattle.pc_document.specs.Places.{Reads, lines_at}
-use Rattle.pc_document.specs.TokenLines.{IsBareCut, is_inner, read_cut_node}
-use Rattle.pc_document.proofs.CutsBack.{cut_line}
+use Rattle.pc_lines.specs.TokenLines.{IsBareCut, is_inner, read_cut_node}
+use Rattle.pc_lines.proofs.CutsBack.{cut_line}
 
 -- a node more
 pub cut_more : (schema : Schema) (before : List CutNode) (owed : ℕ) (lines rest : Lines) (node : CutNode) → 0 < owed → read_line (read_cut_node schema) lines ≡ Ok (node, rest)

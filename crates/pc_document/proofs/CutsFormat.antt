@@ -16,7 +16,7 @@ use Rattle.pc_format.specs.Formats.{IsFormat, IsLine, AreTrees, any, nodes_text}
 use Rattle.pc_format.proofs.Nodes.{nodes_format}
 use Rattle.pc_format.proofs.As.{as_format}
 use Rattle.pc_proof.specs.Form.{IsFormedCutNode, IsFormedCutTree}
-use Rattle.pc_document.specs.TokenLines.{IsBareCut, cut_node_text, read_cut_node, bare_cut, is_inner}
+use Rattle.pc_lines.specs.TokenLines.{IsBareCut, cut_node_text, read_cut_node, bare_cut, is_inner}
 use Rattle.pc_document.specs.DocumentLines.{cut_tree_lines}
 use Rattle.pc_document.specs.Reading.{placed_cuts, read_cuts}
 use Rattle.pc_document.proofs.TreeFormat.{text-map, unmapped, with_good, all_good}

@@ -4,7 +4,7 @@ use Rattle.std.proofs.lemmas.List.{append-nil}
 use Rattle.pc_model.specs.declared.tree.TreeNode.{TreeNode}
 use Rattle.pc_model.specs.declared.tree.TreeNode.TheVariants as nodes
 use Rattle.pc_bound.specs.SplitTrees.{SplitTree, bound, void, split, size_of, nodes_from, joined, trees_of, first_of_trees, tree_of}
-use Rattle.pc_document.specs.NodeLines.{is_split, IsBareNode}
+use Rattle.pc_lines.specs.NodeLines.{is_split, IsBareNode}
 use Rattle.pc_format.specs.Formats.{AreTrees}
 use Rattle.pc_document.specs.Spans.{Trees, span, placed_node, placed_from}
 

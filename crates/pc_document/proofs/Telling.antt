@@ -11,7 +11,7 @@ use Rattle.pc_document.specs.declared.document.NoDocument.TheVariants as refusal
 use Rattle.pc_document.specs.Places.{IsLineStart, lines_at}
 use Rattle.pc_document.specs.Reading.{read_document, document_of}
 use Rattle.pc_document.specs.Told.{Gives, Told, ToldAs}
-use Rattle.pc_document.proofs.AllLines.{all_lines}
+use Rattle.pc_lines.proofs.AllLines.{all_lines}
 use Rattle.pc_document.proofs.DocumentFormat.{reading_told}
 
 pub ends_refused : (schema : Schema) (bytes : List ℕ) (at : ℕ) → read_document schema (lines_at bytes 0) ≡ Err (lines_at bytes at) → document_of schema bytes ≡ Err (feeds_in (take at bytes) + 1)

@@ -14,7 +14,7 @@ use Rattle.pc_format.specs.Formats.{IsFormat, IsLine, AreTrees, any, nodes_text,
 use Rattle.pc_format.proofs.Nodes.{nodes_format}
 use Rattle.pc_format.proofs.As.{as_format}
 use Rattle.pc_proof.specs.Form.{IsFormedNode, IsFormedTree}
-use Rattle.pc_document.specs.NodeLines.{IsBareNode, node_text, read_node, bare, is_split}
+use Rattle.pc_lines.specs.NodeLines.{IsBareNode, node_text, read_node, bare, is_split}
 use Rattle.pc_document.specs.DocumentLines.{tree_lines}
 use Rattle.pc_document.specs.Reading.{placed, read_tree}
 

@@ -7,8 +7,8 @@ use Rattle.pc_model.specs.declared.tree.TreeNode.{TreeNode}
 use Rattle.pc_model.specs.declared.schema.Schema.{Schema}
 use Rattle.pc_model.specs.declared.row.Run.{Run}
 use Rattle.pc_report.specs.RunLines.{run_line, run_lines}
-use Rattle.pc_document.specs.NodeLines.{bare, node_text}
-use Rattle.pc_document.specs.TokenLines.{run_text}
+use Rattle.pc_lines.specs.NodeLines.{bare, node_text}
+use Rattle.pc_lines.specs.TokenLines.{run_text}
 use Rattle.pc_document.specs.DocumentLines.{runs_lines}
 use Rattle.pc_format.proofs.LinesOf.{text_joined}
 

@@ -1,13 +1,6 @@
 pub mod DocumentLines
-pub mod Kept
-pub mod Kinds
-pub mod Likely
-pub mod NodeLines
-pub mod Numbers
 pub mod Parts
 pub mod Places
 pub mod Reading
 pub mod Spans
 pub mod Told
-pub mod TokenLines
-pub mod ValueLines

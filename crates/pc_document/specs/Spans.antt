@@ -5,8 +5,8 @@ use Rattle.pc_model.specs.declared.tree.TreeNode.TheVariants as nodes
 use Rattle.pc_model.specs.declared.tree.CutNode.{CutNode}
 use Rattle.pc_model.specs.declared.tree.CutNode.TheVariants as cut_nodes
 use Rattle.pc_format.specs.Formats.{AreTrees}
-use Rattle.pc_document.specs.NodeLines.{is_split}
-use Rattle.pc_document.specs.TokenLines.{is_inner}
+use Rattle.pc_lines.specs.NodeLines.{is_split}
+use Rattle.pc_lines.specs.TokenLines.{is_inner}
 
 -- how many trees are owed after a node, of so many and its own
 abbrev pub owed : Bool → ℕ → ℕ

@@ -4,14 +4,14 @@ ghost use Rattle.pc_model.specs.Accepted.{IsQuery};
 ghost use Rattle.pc_format.specs.Formats.{read_line};
 ghost use Rattle.pc_document.specs.Places.{IsLineStart, Reads, lines_at};
 ghost use Rattle.pc_document.specs.Reading.{read_block, read_block_tree, read_body, read_name, read_named, read_tree_line, tagged_tree};
-ghost use Rattle.pc_document.specs.TokenLines.{read_group, read_query_line};
+ghost use Rattle.pc_lines.specs.TokenLines.{read_group, read_query_line};
 
 use crate::answer::answer_at;
 use crate::cuts::cuts_at;
-use crate::group_lines::read_group;
+use pc_lines::read_group;
 use crate::halt::Halt;
 use crate::places::first_line_at;
-use crate::query_lines::read_query_line;
+use pc_lines::read_query_line;
 use crate::tags::TreeLine;
 use crate::words::read_tree_line;
 use pc_model::{Query, Schema};

@@ -5,7 +5,7 @@ ghost use Rattle.pc_format.specs.Formats.{read_line, read_many};
 ghost use Rattle.pc_document.specs.Places.{IsLineStart, Reads, ReadsWord, lines_at};
 ghost use Rattle.pc_document.specs.Reading.{document_of, read_block, read_document, read_word};
 ghost use Rattle.pc_document.specs.Told.{Gives, ToldAs};
-ghost use Rattle.pc_document.specs.TokenLines.{begins_query};
+ghost use Rattle.pc_lines.specs.TokenLines.{begins_query};
 
 use crate::block::block_at;
 use crate::halt::Halt;

@@ -4,14 +4,14 @@ ghost use Rattle.pc_model.specs.Accepted.{IsQuery};
 ghost use Rattle.pc_format.specs.Formats.{read_line};
 ghost use Rattle.pc_document.specs.Places.{IsLineStart, Reads, lines_at};
 ghost use Rattle.pc_document.specs.Reading.{read_end, read_ends, end_after, tagged_end};
-ghost use Rattle.pc_document.specs.ValueLines.{read_end_line};
+ghost use Rattle.pc_lines.specs.ValueLines.{read_end_line};
 
-use crate::end_lines::read_end_line;
+use pc_lines::read_end_line;
 use crate::halt::Halt;
 use crate::places::first_line_at;
 use crate::proof::proof_at;
 use crate::runs::runs_at;
-use crate::tags::{EndLine, Side};
+use pc_lines::{EndLine, Side};
 use pc_model::{Query, Schema};
 use pc_proof::{End, Mark};
 use std::alloc::Global;

@@ -4,13 +4,13 @@ ghost use Rattle.pc_model.specs.Accepted.{IsQuery};
 ghost use Rattle.pc_format.specs.Formats.{read_line};
 ghost use Rattle.pc_document.specs.Places.{IsLineStart, Reads, lines_at};
 ghost use Rattle.pc_document.specs.Reading.{read_proof, read_bounded, read_crossing, tagged_proof};
-ghost use Rattle.pc_document.specs.ValueLines.{read_proof_line, read_outer_line};
+ghost use Rattle.pc_lines.specs.ValueLines.{read_proof_line, read_outer_line};
 
-use crate::end_lines::read_outer_line;
+use pc_lines::read_outer_line;
 use crate::halt::Halt;
 use crate::places::first_line_at;
-use crate::proof_line::read_proof_line;
-use crate::tags::{ProofLine, Side};
+use pc_lines::read_proof_line;
+use pc_lines::{ProofLine, Side};
 use crate::tree::tree_at;
 use pc_model::{Query, Schema};
 use pc_num::Frac;
