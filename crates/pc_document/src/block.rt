@@ -8,12 +8,11 @@ ghost use Rattle.pc_lines.specs.TokenLines.{read_group, read_query_line};
 
 use crate::answer::answer_at;
 use crate::cuts::cuts_at;
-use pc_lines::read_group;
 use crate::halt::Halt;
 use crate::places::first_line_at;
-use pc_lines::read_query_line;
 use crate::tags::TreeLine;
 use crate::words::read_tree_line;
+use pc_lines::{read_group, read_query_line};
 use pc_model::{Query, Schema};
 use pc_proof::{Block, BlockTree};
 use std::alloc::Global;

@@ -5,10 +5,10 @@ ghost use Rattle.pc_document.specs.Places.{IsLineStart, Reads, lines_at};
 ghost use Rattle.pc_document.specs.Reading.{read_cuts};
 ghost use Rattle.pc_lines.specs.TokenLines.{IsBareCut, is_inner, read_cut_node};
 
-use pc_lines::read_cut_node;
 use crate::halt::Halt;
 use crate::placed_cuts::placed_cuts;
 use crate::places::first_line_at;
+use pc_lines::read_cut_node;
 use pc_list::Seq;
 use pc_model::{CutNode, CutTree, Schema};
 use std::alloc::Global;

@@ -6,12 +6,11 @@ ghost use Rattle.pc_document.specs.Places.{IsLineStart, Reads, lines_at};
 ghost use Rattle.pc_document.specs.Reading.{read_end, read_ends, end_after, tagged_end};
 ghost use Rattle.pc_lines.specs.ValueLines.{read_end_line};
 
-use pc_lines::read_end_line;
 use crate::halt::Halt;
 use crate::places::first_line_at;
 use crate::proof::proof_at;
 use crate::runs::runs_at;
-use pc_lines::{EndLine, Side};
+use pc_lines::{EndLine, Side, read_end_line};
 use pc_model::{Query, Schema};
 use pc_proof::{End, Mark};
 use std::alloc::Global;

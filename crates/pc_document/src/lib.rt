@@ -19,6 +19,8 @@ mod relation;
 mod runs;
 mod spans;
 mod tags;
+#[cfg(test)]
+mod tests;
 mod tree;
 mod words;
 mod writer;

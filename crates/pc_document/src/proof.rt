@@ -6,12 +6,10 @@ ghost use Rattle.pc_document.specs.Places.{IsLineStart, Reads, lines_at};
 ghost use Rattle.pc_document.specs.Reading.{read_proof, read_bounded, read_crossing, tagged_proof};
 ghost use Rattle.pc_lines.specs.ValueLines.{read_proof_line, read_outer_line};
 
-use pc_lines::read_outer_line;
 use crate::halt::Halt;
 use crate::places::first_line_at;
-use pc_lines::read_proof_line;
-use pc_lines::{ProofLine, Side};
 use crate::tree::tree_at;
+use pc_lines::{ProofLine, Side, read_outer_line, read_proof_line};
 use pc_model::{Query, Schema};
 use pc_num::Frac;
 use pc_proof::{Bounded, Proof};

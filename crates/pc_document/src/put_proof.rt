@@ -8,10 +8,7 @@ ghost use Rattle.pc_proof.specs.Form.{IsFormedBounded, IsFormedProof, IsFormedRa
 ghost use Rattle.pc_document.specs.DocumentLines.{bounded_lines, crossing_lines, proof_lines, tree_lines};
 ghost use Rattle.pc_lines.specs.ValueLines.{IsProofLine, end_text, proof_text};
 
-use pc_lines::put_end_line;
-use pc_lines::put_node;
-use pc_lines::put_proof_line;
-use pc_lines::{EndLine, ProofLine, Side};
+use pc_lines::{EndLine, ProofLine, Side, put_end_line, put_node, put_proof_line};
 use pc_model::{Query, Schema, Tree, TreeNode};
 use pc_num::{Frac, Memory};
 use pc_proof::{Bounded, Proof};

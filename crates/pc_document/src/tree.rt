@@ -5,9 +5,9 @@ ghost use Rattle.pc_document.specs.Places.{IsLineStart, Reads, lines_at};
 ghost use Rattle.pc_document.specs.Reading.{read_tree};
 
 use crate::halt::Halt;
-use pc_lines::read_node;
 use crate::placed::placed;
 use crate::places::first_line_at;
+use pc_lines::read_node;
 use pc_list::Seq;
 use pc_model::{Tree, TreeNode};
 use std::alloc::Global;

@@ -8,11 +8,9 @@ ghost use Rattle.pc_proof.specs.Form.{IsFormedBlock, IsInForm};
 ghost use Rattle.pc_document.specs.DocumentLines.{block_lines, block_tree_lines, document_lines, document_text, name_lines};
 ghost use Rattle.pc_lines.specs.TokenLines.{bare_cut, cut_node_text, group_text, query_line_text};
 
-use pc_lines::put_cut_node;
-use pc_lines::put_group;
 use crate::put_answer::{put_answer, put_nothing};
 use crate::put_proof::put_line;
-use pc_lines::put_query_line;
+use pc_lines::{put_cut_node, put_group, put_query_line};
 use pc_model::{CutNode, Query, Schema};
 use pc_num::Memory;
 use pc_proof::{Block, BlockTree, Document};

@@ -1,0 +1,241 @@
+ghost use Rattle.pc_model.specs.WellFormed.{IsWellFormed};
+
+use crate::{NoDocument, put_document, read_document};
+use pc_model::Schema;
+use pc_schema::read_schema;
+use std::alloc::Global;
+use std::test::Fail;
+
+const SCHEMA: &str =
+    "branch,cat,Chicago,New York,Trenton\nday,int,1,31\nprice,dec,2,0.00,1000.00\n";
+
+/// One cell, and a sum from 150.00 to 899.95.
+const ONE_CELL: &str = "\
+pc 1\n\
+query sum(price)\n\
+tree own\n\
+cut branch {Chicago}\n\
+cut price 149.99\n\
+leaf 1 in\n\
+leaf barren\n\
+leaf barren\n\
+relation possible\n\
+low 150.00 exact\n\
+by tree\n\
+bound 1 0\n\
+high 899.95 exact\n\
+run 5: Chicago, 1, 149.99\n\
+by tree\n\
+bound 1 14999\n\
+end\n";
+
+/// Every kind of line and of proof; it breaks rules, but it is a document.
+const ALL_KINDS: &str = "\
+pc 1\n\
+query count group by branch\n\
+group branch = \"New York\"\n\
+tree own\n\
+leaf 0 in\n\
+relation impossible\n\
+by void\n\
+split 0 3\n\
+void -1 2\n\
+void\n\
+query min(day)\n\
+tree same\n\
+relation impossible\n\
+by ends\n\
+low 3 outer\n\
+by rows\n\
+high -2 outer\n\
+by at -1/3\n\
+bound 1\n\
+query max(price) where branch = \"New York\"\n\
+tree same\n\
+relation undecided\n\
+none sometimes\n\
+run 0: \"New York\", 1, 0.00\n\
+some\n\
+run 2: Trenton, 31, 10.00\n\
+low 1.00 outer\n\
+by rows\n\
+high 2.00 outer\n\
+by values\n\
+query avg(price)\n\
+tree own\n\
+cut branch {Chicago, \"New York\"}\n\
+cut day 7\n\
+leaf 5 in\n\
+leaf 4294967295 out\n\
+leaf barren\n\
+relation possible\n\
+run 1000000000000000000: Chicago, 1, 0.00\n\
+none undecided\n\
+low 150/7 outer\n\
+by at 1/2\n\
+split 1 0\n\
+bound 3 -4 5\n\
+bound 170141183460469231731687303715884105727 170141183460469231731687303715884105727\n\
+high 20 exact\n\
+by tree\n\
+void 1\n\
+query min(day)\n\
+tree same\n\
+relation possible\n\
+none always\n\
+by ends\n\
+low 3 outer\n\
+by tree\n\
+void\n\
+high 2 outer\n\
+by tree\n\
+bound 2 7\n\
+query min(day)\n\
+tree same\n\
+relation possible\n\
+none never\n\
+by rows\n\
+low 1 exact\n\
+run 1: Chicago, 1, 0.00\n\
+by rows\n\
+high 1 exact\n\
+by rows\n\
+query max(day)\n\
+tree same\n\
+relation impossible\n\
+by cross\n\
+bound 1 1\n\
+bound 1 -1\n\
+query max(day)\n\
+tree same\n\
+relation possible\n\
+none always\n\
+by tree\n\
+void\n\
+end\n";
+
+static FAULTS: [(&str, u64); 25] = [
+    ("", 1),
+    ("pc 1", 1),
+    ("pc 1\n", 2),
+    ("pc 1\nend\n\n", 3),
+    ("pc 2\nend\n", 1),
+    ("\u{feff}pc 1\nend\n", 1),
+    ("pc 1\r\nend\n", 1),
+    ("pc 1\nquery count where true\n", 2),
+    ("pc 1\nquery sum(branch)\n", 2),
+    (
+        "pc 1\nquery count group by branch\ngroup branch = Boston\n",
+        3,
+    ),
+    ("pc 1\nquery count\ntree own\nleaf 01 in\n", 4),
+    ("pc 1\nquery count\ntree own\nleaf 4294967296 in\n", 4),
+    (
+        "pc 1\nquery count\ntree own\ncut branch {Trenton, Chicago}\n",
+        4,
+    ),
+    ("pc 1\nquery count\ntree own\ncut branch {}\n", 4),
+    ("pc 1\nquery count\ntree own\ncut price 7\n", 4),
+    (
+        "pc 1\nquery count\ntree own\ncut day 3\nleaf barren\nleaf barren\nleaf barren\n",
+        7,
+    ),
+    (
+        "pc 1\nquery count\ntree same\nrelation possible\nrun 1000000000000000001: Chicago, 1, 0.00\n",
+        5,
+    ),
+    (
+        "pc 1\nquery count\ntree same\nrelation possible\nrun 1: Chicago, 1, 0.0\n",
+        5,
+    ),
+    (
+        "pc 1\nquery count\ntree same\nrelation undecided\nlow 0 outer\nby tree\nbound 0 1\n",
+        7,
+    ),
+    (
+        "pc 1\nquery count\ntree same\nrelation undecided\nlow 0 outer\nby tree\nvoid -0\n",
+        7,
+    ),
+    (
+        "pc 1\nquery count\ntree same\nrelation undecided\nlow 0 outer\nby tree\nsplit 4294967296 0\n",
+        7,
+    ),
+    (
+        "pc 1\nquery count\ntree same\nrelation undecided\nlow 10000000000000000000000000000001 outer\n",
+        5,
+    ),
+    (
+        "pc 1\nquery avg(day)\ntree same\nrelation possible\nnone undecided\nlow 2/4 outer\n",
+        6,
+    ),
+    (
+        "pc 1\nquery count\ntree same\nrelation possible\nlow 1 exact\nrun 1: Chicago, 1, 0.00\nlow 1 exact\n",
+        7,
+    ),
+    (
+        "pc 1\nquery min(day)\ntree same\nrelation possible\nlow 1 exact\n",
+        5,
+    ),
+];
+
+/// Whether bytes are read, and written again as they were.
+fn is_written_again(alloc: Global, schema: &Schema, text: &str) -> Result<bool, NoDocument>
+    requires { IsWellFormed schema.now }
+{
+    let doc = read_document(alloc, schema, text.as_bytes())?;
+    let mut out = Vec::new(alloc);
+    match put_document(alloc, schema, &mut out, &doc) {
+        Ok(()) => Ok(out.as_slice() == text.as_bytes()),
+        Err(_) => Err(NoDocument::Memory),
+    }
+}
+
+#[test]
+fn documents_are_read_and_written_again(rt: HostRuntime) -> Result<(), Fail> {
+    let alloc = rt.alloc();
+    let Ok(schema) = read_schema(alloc, SCHEMA.as_bytes()) else {
+        assert!(rt; false, "no schema");
+        return Ok(());
+    };
+    for text in ["pc 1\nend\n", ONE_CELL, ALL_KINDS] {
+        assert!(rt;
+            is_written_again(alloc, &schema, text) == Ok(true),
+            "{text}"
+        );
+    }
+    Ok(())
+}
+
+#[test]
+fn faults_have_their_line(rt: HostRuntime) -> Result<(), Fail> {
+    let alloc = rt.alloc();
+    let Ok(schema) = read_schema(alloc, SCHEMA.as_bytes()) else {
+        assert!(rt; false, "no schema");
+        return Ok(());
+    };
+    for (text, line) in &FAULTS {
+        let told = is_written_again(alloc, &schema, text);
+        assert!(rt; told == Err(NoDocument::Fault { line: *line }), "{text}");
+    }
+    Ok(())
+}
+
+/// A document that is cut off has its fault in the line after its last whole one.
+#[test]
+fn documents_cut_off(rt: HostRuntime) -> Result<(), Fail> {
+    let alloc = rt.alloc();
+    let Ok(schema) = read_schema(alloc, SCHEMA.as_bytes()) else {
+        assert!(rt; false, "no schema");
+        return Ok(());
+    };
+    let bytes = ONE_CELL.as_bytes();
+    let mut line = 1;
+    for place in 0..bytes.len() {
+        let told = read_document(alloc, &schema, &bytes[..place]);
+        assert!(rt; matches!(told, Err(NoDocument::Fault { line: found }) if found == line));
+        if bytes[place] == b'\n' {
+            line += 1;
+        }
+    }
+    Ok(())
+}
