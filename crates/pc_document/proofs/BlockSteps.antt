@@ -1,5 +1,5 @@
 -- Blocks, one after another.
-use Rattle.std.proofs.Common.{◌≡◌, ℕ, suc, ◌+◌, ◌<◌, ◌≤◌, true, false, List, [], ◌∷◌, ◌++◌, length, Ok, Err, refl, sym, ap, ◌∙◌, subst, arith}
+use Rattle.std.proofs.Common.{◌≡◌, ℕ, ◌<◌, true, false, List, [], ◌∷◌, ◌++◌, length, Ok, Err, sym, ap, ◌∙◌, arith}
 use Rattle.std.proofs.lemmas.List.{length-append}
 use Rattle.pc_model.specs.declared.schema.Schema.{Schema}
 use Rattle.pc_model.specs.WellFormed.{IsWellFormed}
@@ -8,7 +8,7 @@ use Rattle.pc_proof.specs.Form.{IsFormedBlock}
 use Rattle.pc_document.specs.declared.halt.Halt.{Halt}
 use Rattle.pc_document.specs.declared.halt.Halt.TheVariants as halts
 use Rattle.pc_document.specs.Places.{HaltsAs, lines_at}
-use Rattle.pc_format.specs.Formats.{Lines, Found, IsFormat, any, after_items, read_many}
+use Rattle.pc_format.specs.Formats.{Lines, Found, after_items, read_many}
 use Rattle.pc_format.proofs.Loops.{many_none, many_over, many_refused, value_more}
 use Rattle.pc_lines.specs.TokenLines.{begins_query}
 use Rattle.pc_document.specs.DocumentLines.{block_lines}

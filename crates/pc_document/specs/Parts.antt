@@ -1,8 +1,7 @@
 -- Which parts an answer has, in the order in which they are read.
-use Rattle.std.specs.Prelude.{◌≡◌, ℕ, Bool, true, false, ⊤, not, Option, Some, None, IfSome, is_none}
+use Rattle.std.specs.Prelude.{◌≡◌, ℕ, Bool, true, false, Option, Some, None}
 use Rattle.pc_model.specs.declared.schema.Schema.{Schema}
 use Rattle.pc_model.specs.declared.query.Agg.{Agg}
-use Rattle.pc_model.specs.declared.query.Query.{Query}
 use Rattle.pc_model.specs.Right.{always_has_value, is_always, is_impossible, is_silent}
 use Rattle.pc_proof.specs.declared.answer.Relation.{Relation}
 use Rattle.pc_proof.specs.declared.answer.Lack.{Lack}

@@ -1,5 +1,5 @@
 -- Which document lines spell.
-use Rattle.std.specs.Prelude.{ℕ, Bool, true, false, List, [], ◌∷◌, codes, Result, Ok, Err, Option, Some, None}
+use Rattle.std.specs.Prelude.{ℕ, Bool, true, false, List, [], ◌∷◌, codes, Result, Option, Some, None}
 use Rattle.pc_num.specs.declared.Frac.{Frac}
 use Rattle.pc_model.specs.declared.schema.Schema.{Schema}
 use Rattle.pc_model.specs.declared.row.Run.{Run}
@@ -32,7 +32,7 @@ use Rattle.pc_proof.specs.declared.document.BlockTree.{BlockTree}
 use Rattle.pc_proof.specs.declared.document.BlockTree.TheVariants as trees
 use Rattle.pc_proof.specs.declared.document.Block.{Block}
 use Rattle.pc_proof.specs.declared.document.Document.{Document}
-use Rattle.pc_format.specs.Formats.{Lines, Found, ◌>>=◌, found_in, read_none, read_line, read_as, read_many, read_nodes, read_joined, read_bytes}
+use Rattle.pc_format.specs.Formats.{Lines, Found, found_in, read_none, read_line, read_as, read_many, read_nodes, read_joined, read_bytes}
 use Rattle.pc_lines.specs.NodeLines.{is_split, read_node}
 use Rattle.pc_lines.specs.declared.tags.Side.{Side}
 use Rattle.pc_lines.specs.declared.tags.Side.TheVariants.{Low as low, High as high}

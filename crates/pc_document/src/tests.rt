@@ -1,6 +1,7 @@
 ghost use Rattle.pc_model.specs.WellFormed.{IsWellFormed};
 
 use crate::{NoDocument, put_document, read_document};
+use pc_format::line_of;
 use pc_model::Schema;
 use pc_schema::read_schema;
 use std::alloc::Global;
@@ -229,13 +230,10 @@ fn documents_cut_off(rt: HostRuntime) -> Result<(), Fail> {
         return Ok(());
     };
     let bytes = ONE_CELL.as_bytes();
-    let mut line = 1;
     for place in 0..bytes.len() {
         let told = read_document(alloc, &schema, &bytes[..place]);
+        let line = line_of(bytes, place);
         assert!(rt; matches!(told, Err(NoDocument::Fault { line: found }) if found == line));
-        if bytes[place] == b'\n' {
-            line += 1;
-        }
     }
     Ok(())
 }

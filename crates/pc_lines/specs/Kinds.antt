@@ -1,6 +1,5 @@
 -- What is asked of the kinds of lines of which a document is made.
 use Rattle.std.specs.Prelude.{◌≡◌, ℕ, true, false, Some}
-use Rattle.pc_num.specs.declared.Frac.{Frac}
 use Rattle.pc_model.specs.declared.schema.Schema.{Schema}
 use Rattle.pc_model.specs.declared.row.Run.{Run}
 use Rattle.pc_model.specs.declared.query.Query.{Query}

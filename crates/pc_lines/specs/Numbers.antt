@@ -1,5 +1,5 @@
 -- The number that a text is written for.
-use Rattle.std.specs.Prelude.{ℕ, ◌+◌, ◌-◌, ◌*◌, ◌^◌, ℤ, pos, Bool, ◌&&◌, List, [], ◌∷◌, codes, bytes_eq, unsigned_abs, nat_lt, nat_le, int_le, if◌then◌else◌}
+use Rattle.std.specs.Prelude.{ℕ, ◌+◌, ◌-◌, ◌*◌, ◌^◌, ℤ, pos, Bool, List, [], ◌∷◌, unsigned_abs, nat_lt, nat_le, int_le, if◌then◌else◌}
 use Rattle.std.specs.Char.{is_ascii_digit}
 use Rattle.pc_num.specs.Put.{scaled_text}
 use Rattle.pc_num.specs.Scaled.{signed, starts_with_minus}

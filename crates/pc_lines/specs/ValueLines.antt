@@ -1,5 +1,5 @@
 -- The lines of ends, and what a line says of their proof.
-use Rattle.std.specs.Prelude.{ℕ, ◌^◌, ◌*◌, ◌==◌, ◌&&◌, ◌||◌, ⊤, ℤ, pos, Bool, true, false, List, [], ◌∷◌, ◌++◌, codes, drop, Option, Some, None, bytes_eq, unsigned_abs, int_le, if◌then◌else◌}
+use Rattle.std.specs.Prelude.{ℕ, ◌^◌, ◌*◌, ◌==◌, ◌&&◌, ⊤, pos, Bool, true, false, List, [], ◌∷◌, ◌++◌, codes, drop, Option, Some, None, bytes_eq, unsigned_abs, if◌then◌else◌}
 use Rattle.std.specs.List.{slice_split}
 use Rattle.std.specs.Ordering.{int_eq}
 use Rattle.pc_num.specs.Signs.{differ}

@@ -37,11 +37,7 @@ pub fn put_cut_node(
 
 /// The node whose line this is, without the places of its parts, or none.
 #[tactic(auto, using(crate::proofs::CutReading::line_steps))]
-pub fn read_cut_node(
-    alloc: Global,
-    schema: &Schema,
-    line: &[u8],
-) -> Result<Option<CutNode>, Memory>
+pub fn read_cut_node(alloc: Global, schema: &Schema, line: &[u8]) -> Result<Option<CutNode>, Memory>
     requires well_formed { IsWellFormed schema.now }
     ensures { IfOk result (λ node. node ≡ read_cut_node schema.now line.now) }
 {

@@ -5,9 +5,9 @@ mod cut_lines;
 mod cut_tokens;
 mod end_lines;
 mod group_lines;
+mod kinds;
 #[cfg(test)]
 mod line_tests;
-mod kinds;
 mod line_tokens;
 mod name_laws;
 mod nodes;

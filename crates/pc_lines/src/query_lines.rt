@@ -28,11 +28,7 @@ pub fn put_query_line(
 
 /// The query whose line this is, or none.
 #[tactic(auto, using(crate::proofs::QueryReading::steps))]
-pub fn read_query_line(
-    alloc: Global,
-    schema: &Schema,
-    line: &[u8],
-) -> Result<Option<Query>, Memory>
+pub fn read_query_line(alloc: Global, schema: &Schema, line: &[u8]) -> Result<Option<Query>, Memory>
     requires well_formed { IsWellFormed schema.now }
     ensures found { IfOk result (λ found. found ≡ read_query_line schema.now line.now) }
     ensures accepted { IfOk result (λ found. IfSome found (IsQuery schema.now)) }

@@ -1,4 +1,4 @@
-use Rattle.std.proofs.Common.{rules, ◌≡◌, ℕ, ◌∷◌, true, Ok}
+use Rattle.std.proofs.Common.{rules, ◌≡◌, ◌∷◌, true, Ok}
 use Rattle.pc_document.specs.Places.{HaltsAs, lines_at}
 use Rattle.pc_document.specs.Reading.{read_block}
 use Rattle.pc_lines.specs.TokenLines.{begins_query}

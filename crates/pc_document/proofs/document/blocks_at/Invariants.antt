@@ -1,4 +1,4 @@
-use Rattle.std.proofs.Common.{◌≡◌, ℕ, length}
+use Rattle.std.proofs.Common.{◌≡◌, length}
 use Rattle.pc_format.specs.Formats.{after_items, read_many}
 use Rattle.pc_document.specs.Places.{IsLineStart, lines_at}
 use Rattle.pc_document.specs.Reading.{read_block}

@@ -1,4 +1,4 @@
-use Rattle.std.proofs.Common.{◌≡◌, ℕ, ◌+◌, ◌-◌, ◌≤◌, length}
+use Rattle.std.proofs.Common.{◌≡◌, ◌+◌, ◌-◌, ◌≤◌, length}
 use Rattle.pc_format.specs.Formats.{after_items, read_nodes}
 use Rattle.pc_lines.specs.NodeLines.{is_split, read_node}
 use Rattle.pc_document.specs.Places.{IsLineStart, lines_at}
