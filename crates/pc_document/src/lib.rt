@@ -9,6 +9,8 @@ mod ends;
 mod halt;
 mod lack;
 mod laws;
+#[cfg(test)]
+mod line_tests;
 mod placed;
 mod placed_cuts;
 mod places;

@@ -6,8 +6,6 @@ mod cut_tokens;
 mod end_lines;
 mod group_lines;
 mod kinds;
-#[cfg(test)]
-mod line_tests;
 mod line_tokens;
 mod name_laws;
 mod nodes;
@@ -25,6 +23,7 @@ pub use end_lines::{put_end_line, read_end_line, read_outer_line};
 pub use group_lines::{put_group, read_group};
 pub use kinds::kinds_are_lines;
 pub use nodes::{put_node, read_node};
+pub use numbers::likely_number;
 pub use proof_line::{put_proof_line, read_proof_line};
 pub use query_lines::{put_query_line, read_query_line};
 pub use run_lines::{begins_run, read_run};

@@ -7,7 +7,7 @@ const GREATEST: u128 = 170_141_183_460_469_231_731_687_303_715_884_105_727;
 
 /// The only number whose text this can be, or none where it does not fit.
 #[tactic(auto, using(pc_report::proofs::AveragesBack::signed_size), unfolding(crate::specs::Numbers::likely_number))]
-pub(crate) fn likely_number(text: &[u8]) -> Option<i128>
+pub fn likely_number(text: &[u8]) -> Option<i128>
     ensures { MatchOption result (2 ^ 127 ≤ unsigned_abs (likely_number text.now)) (λ n. n ≡ likely_number text.now) }
 {
     match digits_value(text) {

@@ -1,11 +1,9 @@
 ghost use Rattle.pc_model.specs.WellFormed.{HaveFewNames, IsWellFormed};
 
-use crate::end_lines::read_end_line;
-use crate::nodes::{put_node, read_node};
-use crate::numbers::likely_number;
-use crate::proof_line::read_proof_line;
-use crate::tags::{EndLine, ProofLine, Side};
 use pc_lang::read_query;
+use pc_lines::{
+    EndLine, ProofLine, Side, likely_number, put_node, read_end_line, read_node, read_proof_line,
+};
 use pc_model::{Refusal, Schema};
 use pc_num::{Frac, Memory};
 use pc_schema::read_schema;
