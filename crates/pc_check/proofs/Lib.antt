@@ -5,5 +5,8 @@ pub mod CutWalking
 pub mod Forest
 pub mod Gathered
 pub mod Loops
+pub mod Passing
+pub mod SceneLimits
+pub mod ScenePrograms
 pub mod Verdicts
 pub mod Walking

@@ -3,6 +3,10 @@
 
 mod cells;
 mod cuts;
+mod extreme;
+mod gains;
+mod programs;
+mod scene;
 mod settled;
 #[cfg(test)]
 mod tests;
