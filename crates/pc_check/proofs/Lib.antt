@@ -1,4 +1,5 @@
 pub mod Areas
+pub mod Comparing
 pub mod Corners
 pub mod CutForest
 pub mod CutWalking

@@ -5,4 +5,5 @@ pub mod Fractions
 pub mod Lines
 pub mod Programs
 pub mod Scene
+pub mod Shown
 pub mod Walk

@@ -1,9 +1,11 @@
 //! The checker: it goes through the lines of a document, and finds the first one that breaks a rule.
 #![tactic(auto)]
 
+mod bounds;
 mod cells;
 mod cuts;
 mod extreme;
+mod fractions;
 mod gains;
 mod programs;
 mod scene;
