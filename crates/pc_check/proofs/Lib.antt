@@ -1,4 +1,5 @@
 pub mod Areas
+pub mod Choices
 pub mod Comparing
 pub mod Corners
 pub mod CutForest
@@ -6,6 +7,7 @@ pub mod CutWalking
 pub mod Forest
 pub mod Gathered
 pub mod Loops
+pub mod Outermost
 pub mod Passing
 pub mod SceneLimits
 pub mod ScenePrograms

@@ -7,9 +7,12 @@ mod cuts;
 mod extreme;
 mod fractions;
 mod gains;
+mod numbers;
 mod programs;
+mod ratios;
 mod scene;
 mod settled;
+mod shown;
 #[cfg(test)]
 mod tests;
 mod tree_line;
