@@ -4,6 +4,7 @@ pub mod Comparing
 pub mod Corners
 pub mod CutForest
 pub mod CutWalking
+pub mod EndsShown
 pub mod Forest
 pub mod Gathered
 pub mod Loops

@@ -1,5 +1,6 @@
 -- Programs made of cells are those of the setting.
-use Rattle.std.proofs.Common.{◌≡◌, ℕ, ℤ, List, [], ◌∷◌, map, refl, sym, ap, subst, ◌∙◌}
+use Rattle.std.proofs.Common.{◌≡◌, ℕ, ℤ, List, [], ◌∷◌, length, map, refl, sym, ap, ◌∙◌}
+use Rattle.std.specs.Prelude.{replicate}
 use Rattle.std.specs.List.{zip}
 use Rattle.pc_model.specs.declared.constraint.Constraint.{Constraint}
 use Rattle.pc_model.specs.declared.query.Agg.{Agg}
@@ -9,7 +10,7 @@ use Rattle.pc_model.specs.Aggregate.{Ratio}
 use Rattle.pc_model.specs.Cells.{Class, classes_of}
 use Rattle.pc_bound.specs.declared.program.Program.{Program}
 use Rattle.pc_bound.specs.CellPrograms.{cap_of, program_with}
-use Rattle.pc_proof.specs.Setting.{Setting, column_of, leaves}
+use Rattle.pc_proof.specs.Setting.{Setting, column_of, leaves, on_chosen, program_for}
 use Rattle.pc_proof.proofs.Masks.{map_twice}
 use Rattle.pc_check.specs.declared.cells.Cell.{Cell}
 use Rattle.pc_check.specs.declared.scene.Scene.{Scene}
@@ -17,7 +18,7 @@ use Rattle.pc_check.specs.declared.extreme.Extreme.{Extreme}
 use Rattle.pc_check.specs.declared.extreme.Extreme.TheVariants.{Low, High}
 use Rattle.pc_check.specs.Cells.{class_of_cell, cell_of, cells_from}
 use Rattle.pc_check.specs.Scene.{IsSceneOf}
-use Rattle.pc_check.specs.Programs.{gain_towards, open_cap, open_caps, program_on, with_closed, program_towards, table_program}
+use Rattle.pc_check.specs.Programs.{chosen_gain, gain_towards, open_cap, open_caps, program_on, with_closed, program_towards, table_program}
 use Rattle.pc_check.proofs.Gathered.{classes-from_cells}
 
 -- the masks of cells are those of their classes
@@ -72,3 +73,24 @@ towards_table scene extreme agg v s is =
     ap (λ cells. program_towards extreme scene.constraints.now cells agg v) is.cells_are
     ∙ sym (ap (λ constraints. program_towards extreme constraints (cells_from (column_of s.question) (leaves s)) agg v) is.constraints_are)
     ∙ at_setting extreme s agg v
+
+-- the program with any gains of cells
+gained_table : (scene : Scene) (gain : Cell → ℤ) (s : Setting) → IsSceneOf scene s → program_on scene.constraints.now scene.cells.now (map gain scene.cells.now)
+    ≡ program_with s.question.constraints (classes_of (leaves s)) (map (λ class. gain (cell_of (column_of s.question) (leaves s) class)) (classes_of (leaves s)))
+gained_table scene gain s is =
+    ap (λ cells. program_on scene.constraints.now cells (map gain cells)) is.cells_are
+    ∙ sym (ap (λ constraints. program_on constraints (cells_from (column_of s.question) (leaves s)) (map gain (cells_from (column_of s.question) (leaves s)))) is.constraints_are)
+    ∙ gained s.question.constraints (column_of s.question) (leaves s) gain
+
+pub chosen_table : (scene : Scene) (gain : ℤ) (gains : List ℤ) (s : Setting) → gains ≡ map (chosen_gain gain) scene.cells.now → IsSceneOf scene s
+    → program_on scene.constraints.now scene.cells.now gains ≡ program_for s (on_chosen (λ class. gain))
+chosen_table scene gain gains s are is = ap (program_on scene.constraints.now scene.cells.now) are ∙ gained_table scene (chosen_gain gain) s is
+
+even_gains : (gain : ℤ) (cells : List Cell) → replicate (length cells) gain ≡ map (λ cell. gain) cells
+even_gains gain [] = refl
+even_gains gain (cell ∷ cells) = ap (λ later. gain ∷ later) (even_gains gain cells)
+
+pub even_table : (scene : Scene) (gain : ℤ) (gains : List ℤ) (s : Setting) → gains ≡ replicate (length scene.cells.now) gain → IsSceneOf scene s
+    → program_on scene.constraints.now scene.cells.now gains ≡ program_for s (λ class. gain)
+even_table scene gain gains s are is =
+    ap (program_on scene.constraints.now scene.cells.now) (are ∙ even_gains gain scene.cells.now) ∙ gained_table scene (λ (cell : Cell). gain) s is

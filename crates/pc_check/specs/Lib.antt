@@ -1,6 +1,7 @@
 pub mod Cells
 pub mod CutLines
 pub mod Cuts
+pub mod Findings
 pub mod Fractions
 pub mod Lines
 pub mod Programs

@@ -5,6 +5,7 @@ mod bounds;
 mod cells;
 mod cuts;
 mod extreme;
+mod finding;
 mod fractions;
 mod gains;
 mod numbers;

@@ -1,15 +1,15 @@
 ghost use Rattle.std.specs.Prelude.{◌≡◌, length, map, IfOk};
 ghost use Rattle.pc_bound.specs.Allocation.{IsProgram};
-ghost use Rattle.pc_proof.specs.Setting.{Setting};
+ghost use Rattle.pc_proof.specs.Setting.{Setting, on_chosen, program_for};
 ghost use Rattle.pc_proof.specs.Table.{ratio_of};
 ghost use Rattle.pc_check.specs.declared.cells.Cell.{Cell};
 ghost use Rattle.pc_check.specs.Scene.{AreLimited, IsSceneOf};
 ghost use Rattle.pc_check.specs.Fractions.{IsMeasured};
-ghost use Rattle.pc_check.specs.Programs.{gain_towards, open_caps, program_on, program_towards, table_program, with_closed};
+ghost use Rattle.pc_check.specs.Programs.{chosen_gain, gain_towards, open_caps, program_on, program_towards, table_program, with_closed};
 
 use crate::cells::Cell;
 use crate::extreme::Extreme;
-use crate::gains::{gain_towards, open_cap};
+use crate::gains::{chosen_gain, gain_towards, open_cap};
 use crate::scene::Scene;
 use pc_bound::Program;
 use pc_list::Seq;
@@ -117,4 +117,42 @@ fn open_caps(
         left.push(open_cap(extreme, value, cell, caps[place]))?;
     }
     Ok(left)
+}
+
+/// The program with the same gain for each cell.
+pub(crate) fn even_program(
+    alloc: Global,
+    scene: &Scene<'_>,
+    gain: i128,
+) -> Result<Program, Memory>
+    requires limited { AreLimited scene.now.constraints.now }
+    ensures program { IfOk result (λ p. (s : Setting) → IsSceneOf scene.now s → p ≡ program_for s (λ class. gain)) }
+    ensures is_program { IfOk result IsProgram }
+{
+    let gains = vec![in alloc; gain; scene.cells.len()]?;
+    program_on(alloc, scene, Seq::from_vec(gains))
+}
+
+/// The program with a gain for each chosen cell.
+pub(crate) fn chosen_program(
+    alloc: Global,
+    scene: &Scene<'_>,
+    gain: i128,
+) -> Result<Program, Memory>
+    requires limited { AreLimited scene.now.constraints.now }
+    ensures program { IfOk result (λ p. (s : Setting) → IsSceneOf scene.now s → p ≡ program_for s (on_chosen (λ class. gain))) }
+    ensures is_program { IfOk result IsProgram }
+{
+    let gains = chosen_gains(alloc, scene.cells, gain)?;
+    program_on(alloc, scene, gains)
+}
+
+fn chosen_gains(alloc: Global, cells: &[Cell], gain: i128) -> Result<Seq<i128>, Memory>
+    ensures { IfOk result (λ gains. gains ≡ map (chosen_gain gain) cells.now) }
+{
+    let mut gains = Seq::new(alloc);
+    for cell in cells {
+        gains.push(chosen_gain(gain, cell))?;
+    }
+    Ok(gains)
 }

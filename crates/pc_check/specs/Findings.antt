@@ -1,0 +1,38 @@
+-- What is found of the proof of a statement.
+use Rattle.std.specs.Prelude.{◌↔◌, IsTrue, ℕ, List, Some, None}
+use Rattle.pc_num.specs.declared.Frac.{Frac}
+use Rattle.pc_model.specs.declared.query.Agg.{Agg}
+use Rattle.pc_model.specs.Aggregate.{Ratio}
+use Rattle.pc_proof.specs.declared.answer.Proof.{Proof}
+use Rattle.pc_proof.specs.Setting.{Setting}
+use Rattle.pc_proof.specs.Table.{ratio_of, ShowsHigh, ShowsLow}
+use Rattle.pc_proof.specs.Demands.{Placed, high_trees, low_trees, Judges}
+use Rattle.pc_check.specs.declared.extreme.Extreme.{Extreme}
+use Rattle.pc_check.specs.declared.extreme.Extreme.TheVariants.{Low, High}
+use Rattle.pc_check.specs.declared.finding.ProofFinding.{ProofFinding}
+use Rattle.pc_check.specs.declared.finding.ProofFinding.TheVariants as found
+
+-- the verdict on the lines of its trees, and whether it shows the statement where none is broken
+abbrev pub IsShown : Setting → List Placed → Type 0 → ProofFinding → Type 0
+IsShown s lines P (found.Broken line rule) = Judges s lines (Some (line, rule))
+IsShown s lines P (found.Holds shown) = Judges s lines None × (IsTrue shown ↔ P)
+
+-- ---- an end
+
+abbrev pub IsHighFinding : Setting → ℕ → Agg → Frac → Proof → ProofFinding → Type 0
+IsHighFinding s line agg value proof finding = IsShown s (high_trees s line agg value proof) (ShowsHigh s agg (ratio_of value) proof) finding
+
+abbrev pub IsLowFinding : Setting → ℕ → Agg → Frac → Proof → ProofFinding → Type 0
+IsLowFinding s line agg value proof finding = IsShown s (low_trees s line agg value proof) (ShowsLow s agg (ratio_of value) proof) finding
+
+-- either of the two
+abbrev pub end_trees : Extreme → Setting → ℕ → Agg → Frac → Proof → List Placed
+end_trees High s line agg value proof = high_trees s line agg value proof
+end_trees Low s line agg value proof = low_trees s line agg value proof
+
+abbrev pub ShowsEnd : Extreme → Setting → Agg → Ratio → Proof → Type 0
+ShowsEnd High s agg v proof = ShowsHigh s agg v proof
+ShowsEnd Low s agg v proof = ShowsLow s agg v proof
+
+abbrev pub IsEndFinding : Extreme → Setting → ℕ → Agg → Frac → Proof → ProofFinding → Type 0
+IsEndFinding extreme s line agg value proof finding = IsShown s (end_trees extreme s line agg value proof) (ShowsEnd extreme s agg (ratio_of value) proof) finding
