@@ -12,5 +12,6 @@ pub mod Outermost
 pub mod Passing
 pub mod SceneLimits
 pub mod ScenePrograms
+pub mod TreeFindings
 pub mod Verdicts
 pub mod Walking

@@ -2,15 +2,18 @@
 use Rattle.std.specs.Prelude.{◌↔◌, IsTrue, ℕ, List, Some, None}
 use Rattle.pc_num.specs.declared.Frac.{Frac}
 use Rattle.pc_model.specs.declared.query.Agg.{Agg}
+use Rattle.pc_model.specs.declared.tree.Tree.{Tree}
 use Rattle.pc_model.specs.Aggregate.{Ratio}
 use Rattle.pc_proof.specs.declared.answer.Proof.{Proof}
+use Rattle.pc_proof.specs.declared.answer.Proof.TheVariants as proofs
 use Rattle.pc_proof.specs.Setting.{Setting}
 use Rattle.pc_proof.specs.Table.{ratio_of, ShowsHigh, ShowsLow}
-use Rattle.pc_proof.specs.Demands.{Placed, high_trees, low_trees, Judges}
+use Rattle.pc_proof.specs.Demands.{Placed, high_trees, low_trees, tree_demands, Judges}
 use Rattle.pc_check.specs.declared.extreme.Extreme.{Extreme}
 use Rattle.pc_check.specs.declared.extreme.Extreme.TheVariants.{Low, High}
 use Rattle.pc_check.specs.declared.finding.ProofFinding.{ProofFinding}
 use Rattle.pc_check.specs.declared.finding.ProofFinding.TheVariants as found
+use Rattle.pc_check.specs.Programs.{table_program}
 
 -- the verdict on the lines of its trees, and whether it shows the statement where none is broken
 abbrev pub IsShown : Setting → List Placed → Type 0 → ProofFinding → Type 0
@@ -36,3 +39,7 @@ ShowsEnd Low s agg v proof = ShowsLow s agg v proof
 
 abbrev pub IsEndFinding : Extreme → Setting → ℕ → Agg → Frac → Proof → ProofFinding → Type 0
 IsEndFinding extreme s line agg value proof finding = IsShown s (end_trees extreme s line agg value proof) (ShowsEnd extreme s agg (ratio_of value) proof) finding
+
+-- what is found of a tree that is to show an end
+abbrev pub IsTreeShown : Extreme → Setting → ℕ → Agg → Ratio → Tree → ProofFinding → Type 0
+IsTreeShown extreme s line agg v t finding = IsShown s (tree_demands line (table_program extreme s agg v) t) (ShowsEnd extreme s agg v (proofs.Tree t)) finding

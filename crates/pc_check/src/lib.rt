@@ -4,6 +4,7 @@
 mod bounds;
 mod cells;
 mod cuts;
+mod ends;
 mod extreme;
 mod finding;
 mod fractions;
