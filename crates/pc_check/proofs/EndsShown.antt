@@ -48,6 +48,10 @@ module _ (p : Program) (t : Tree) (proves : Proves p p.floor p.cap (tree_of t.no
   sound : IsSmall most → IsSound p t
   sound small = record { proves = proves; small = subst IsSmall is small }
 
+  -- beside another fact
+  pub sound_with : (Q : Type 0) → (IsSmall most × Q) ↔ (IsSound p t × Q)
+  sound_with Q = (λ h. (sound h.0, h.1), λ h. (subst IsSmall (sym is) h.0.small, h.1))
+
   shows_if : (P : ℤ → Type 0) → (IsSmall most × IfSome (counted most) P) ↔ Shows p t P
   shows_if P = (
     λ h. record { sound = sound h.0; passes = counted_some (bound_for p t) P (subst (λ o. IfSome (counted o) P) is h.1) },
@@ -72,61 +76,64 @@ known : {X : Type 0} (o : Option X) (P : Type 0) → IsSome o → IfSome o (λ _
 known None P some found = absurd (true≢false (sym some))
 known (Some x) P some found = found
 
-module _ (s : Setting) (seen : Folded) (comes : ComesTo s.question seen) (v : Ratio) (t : Tree) (most : Option ℤ) where
+module _ (s : Setting) (seen : Folded) (comes : ComesTo s.question seen) where
   abbrev q : Question
   q = s.question
 
-  sum_is : IsSome q.query.column → seen_sum q ≡ seen.sum
+  pub sum_is : IsSome q.query.column → seen_sum q ≡ seen.sum
   sum_is measured = known q.query.column (seen_sum q ≡ seen.sum) measured comes.sum
 
-  least_is : IsSome q.query.column → seen_least q ≡ seen.least
+  pub least_is : IsSome q.query.column → seen_least q ≡ seen.least
   least_is measured = known q.query.column (seen_least q ≡ seen.least) measured comes.least
 
-  greatest_is : IsSome q.query.column → seen_greatest q ≡ seen.greatest
+  pub greatest_is : IsSome q.query.column → seen_greatest q ≡ seen.greatest
   greatest_is measured = known q.query.column (seen_greatest q ≡ seen.greatest) measured comes.greatest
 
-  above_is : IsSome q.query.column → seen_above q v ≡ observed_above seen v
-  above_is measured = ap₂ (λ sum count. v.den *ℤ sum -ℤ v.num *ℤ count) (sum_is measured) comes.count
+  pub above_is : (v : Ratio) → IsSome q.query.column → seen_above q v ≡ observed_above seen v
+  above_is v measured = ap₂ (λ sum count. v.den *ℤ sum -ℤ v.num *ℤ count) (sum_is measured) comes.count
 
+-- ---- a proof by tree
+
+module _ (s : Setting) (seen : Folded) (comes : ComesTo s.question seen) (v : Ratio) (t : Tree) (most : Option ℤ) where
   -- the tree's lines hold, and this is its bound
   abbrev IsOf : Program → Type 0
   IsOf p = Proves p p.floor p.cap (tree_of t.nodes) × (most ≡ bound_for p t)
 
-  high_tree : (agg : Agg) → HasMeasure agg q.query.column → IsOf (high_program s agg v) → (IsSmall most × HighAt agg seen v (counted most)) ↔ ShowsHigh s agg v (proofs.Tree t)
+  high_tree : (agg : Agg) → HasMeasure agg s.question.query.column → IsOf (high_program s agg v) → (IsSmall most × HighAt agg seen v (counted most)) ↔ ShowsHigh s agg v (proofs.Tree t)
   high_tree Count measured of =
       subst (λ count. (IsSmall most × IfSome (counted most) (λ k. IsAtMost (whole (count +ℤ k)) v)) ↔ ShowsHigh s Count v (proofs.Tree t)) comes.count
-      (shows_if (high_program s Count v) t of.0 most of.1 (λ k. IsAtMost (whole (seen_count q +ℤ k)) v))
+      (shows_if (high_program s Count v) t of.0 most of.1 (λ k. IsAtMost (whole (seen_count s.question +ℤ k)) v))
   high_tree Sum measured of =
-      subst (λ sum. (IsSmall most × IfSome (counted most) (λ k. IsAtMost (whole (sum +ℤ k)) v)) ↔ ShowsHigh s Sum v (proofs.Tree t)) (sum_is measured)
-      (shows_if (high_program s Sum v) t of.0 most of.1 (λ k. IsAtMost (whole (seen_sum q +ℤ k)) v))
+      subst (λ sum. (IsSmall most × IfSome (counted most) (λ k. IsAtMost (whole (sum +ℤ k)) v)) ↔ ShowsHigh s Sum v (proofs.Tree t)) (sum_is s seen comes measured)
+      (shows_if (high_program s Sum v) t of.0 most of.1 (λ k. IsAtMost (whole (seen_sum s.question +ℤ k)) v))
   high_tree Min measured of =
       subst (λ count. (IsSmall most × IfSome (counted most) (λ k. (count ≡ pos 0) × (k ≤ℤ pos 0))) ↔ ShowsHigh s Min v (proofs.Tree t)) comes.count
       (forced_if (high_program s Min v) t of.0 most of.1 s)
   high_tree Max measured of =
-      subst (λ greatest. (IsSmall most × (IfSome (counted most) (λ k. k ≤ℤ pos 0) × IfSome greatest (λ g. IsAtMost (whole g) v))) ↔ ShowsHigh s Max v (proofs.Tree t)) (greatest_is measured)
-      (with_other (high_program s Max v) t of.0 most of.1 (λ k. k ≤ℤ pos 0) (IfSome (seen_greatest q) (λ g. IsAtMost (whole g) v)))
+      subst (λ greatest. (IsSmall most × (IfSome (counted most) (λ k. k ≤ℤ pos 0) × IfSome greatest (λ g. IsAtMost (whole g) v))) ↔ ShowsHigh s Max v (proofs.Tree t)) (greatest_is s seen comes measured)
+      (with_other (high_program s Max v) t of.0 most of.1 (λ k. k ≤ℤ pos 0) (IfSome (seen_greatest s.question) (λ g. IsAtMost (whole g) v)))
   high_tree Avg measured of =
-      subst (λ above. (IsSmall most × IfSome (counted most) (λ k. (above +ℤ k) ≤ℤ pos 0)) ↔ ShowsHigh s Avg v (proofs.Tree t)) (above_is measured)
-      (shows_if (high_program s Avg v) t of.0 most of.1 (λ k. (seen_above q v +ℤ k) ≤ℤ pos 0))
+      subst (λ above. (IsSmall most × IfSome (counted most) (λ k. (above +ℤ k) ≤ℤ pos 0)) ↔ ShowsHigh s Avg v (proofs.Tree t)) (above_is s seen comes v measured)
+      (shows_if (high_program s Avg v) t of.0 most of.1 (λ k. (seen_above s.question v +ℤ k) ≤ℤ pos 0))
 
-  low_tree : (agg : Agg) → HasMeasure agg q.query.column → IsOf (low_program s agg v) → (IsSmall most × LowAt agg seen v (counted most)) ↔ ShowsLow s agg v (proofs.Tree t)
+  low_tree : (agg : Agg) → HasMeasure agg s.question.query.column → IsOf (low_program s agg v) → (IsSmall most × LowAt agg seen v (counted most)) ↔ ShowsLow s agg v (proofs.Tree t)
   low_tree Count measured of =
       subst (λ count. (IsSmall most × IfSome (counted most) (λ k. IsAtMost v (whole (count -ℤ k)))) ↔ ShowsLow s Count v (proofs.Tree t)) comes.count
-      (shows_if (low_program s Count v) t of.0 most of.1 (λ k. IsAtMost v (whole (seen_count q -ℤ k))))
+      (shows_if (low_program s Count v) t of.0 most of.1 (λ k. IsAtMost v (whole (seen_count s.question -ℤ k))))
   low_tree Sum measured of =
-      subst (λ sum. (IsSmall most × IfSome (counted most) (λ k. IsAtMost v (whole (sum -ℤ k)))) ↔ ShowsLow s Sum v (proofs.Tree t)) (sum_is measured)
-      (shows_if (low_program s Sum v) t of.0 most of.1 (λ k. IsAtMost v (whole (seen_sum q -ℤ k))))
+      subst (λ sum. (IsSmall most × IfSome (counted most) (λ k. IsAtMost v (whole (sum -ℤ k)))) ↔ ShowsLow s Sum v (proofs.Tree t)) (sum_is s seen comes measured)
+      (shows_if (low_program s Sum v) t of.0 most of.1 (λ k. IsAtMost v (whole (seen_sum s.question -ℤ k))))
   low_tree Min measured of =
-      subst (λ least. (IsSmall most × (IfSome (counted most) (λ k. k ≤ℤ pos 0) × IfSome least (λ m. IsAtMost v (whole m)))) ↔ ShowsLow s Min v (proofs.Tree t)) (least_is measured)
-      (with_other (low_program s Min v) t of.0 most of.1 (λ k. k ≤ℤ pos 0) (IfSome (seen_least q) (λ m. IsAtMost v (whole m))))
+      subst (λ least. (IsSmall most × (IfSome (counted most) (λ k. k ≤ℤ pos 0) × IfSome least (λ m. IsAtMost v (whole m)))) ↔ ShowsLow s Min v (proofs.Tree t)) (least_is s seen comes measured)
+      (with_other (low_program s Min v) t of.0 most of.1 (λ k. k ≤ℤ pos 0) (IfSome (seen_least s.question) (λ m. IsAtMost v (whole m))))
   low_tree Max measured of =
       subst (λ count. (IsSmall most × IfSome (counted most) (λ k. (count ≡ pos 0) × (k ≤ℤ pos 0))) ↔ ShowsLow s Max v (proofs.Tree t)) comes.count
       (forced_if (low_program s Max v) t of.0 most of.1 s)
   low_tree Avg measured of =
-      subst (λ above. (IsSmall most × IfSome (counted most) (λ k. (k -ℤ above) ≤ℤ pos 0)) ↔ ShowsLow s Avg v (proofs.Tree t)) (above_is measured)
-      (shows_if (low_program s Avg v) t of.0 most of.1 (λ k. (k -ℤ seen_above q v) ≤ℤ pos 0))
+      subst (λ above. (IsSmall most × IfSome (counted most) (λ k. (k -ℤ above) ≤ℤ pos 0)) ↔ ShowsLow s Avg v (proofs.Tree t)) (above_is s seen comes v measured)
+      (shows_if (low_program s Avg v) t of.0 most of.1 (λ k. (k -ℤ seen_above s.question v) ≤ℤ pos 0))
 
-  pub end_tree : (extreme : Extreme) (agg : Agg) → HasMeasure agg q.query.column → IsOf (table_program extreme s agg v)
+  pub end_tree : (extreme : Extreme) (agg : Agg) → HasMeasure agg s.question.query.column → IsOf (table_program extreme s agg v)
       → (IsSmall most × EndAt extreme agg seen v (counted most)) ↔ ShowsEnd extreme s agg v (proofs.Tree t)
   end_tree High agg measured of = high_tree agg measured of
   end_tree Low agg measured of = low_tree agg measured of

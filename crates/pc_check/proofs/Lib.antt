@@ -6,10 +6,12 @@ pub mod CutForest
 pub mod CutWalking
 pub mod EndsShown
 pub mod Forest
+pub mod Formed
 pub mod Gathered
 pub mod Loops
 pub mod Outermost
 pub mod Passing
+pub mod RatiosShown
 pub mod SceneLimits
 pub mod ScenePrograms
 pub mod TreeFindings

@@ -2,12 +2,13 @@
 use Rattle.std.specs.Prelude.{◌↔◌, IsTrue, ℕ, List, Some, None}
 use Rattle.pc_num.specs.declared.Frac.{Frac}
 use Rattle.pc_model.specs.declared.query.Agg.{Agg}
+use Rattle.pc_model.specs.declared.query.Agg.TheVariants.{Avg}
 use Rattle.pc_model.specs.declared.tree.Tree.{Tree}
 use Rattle.pc_model.specs.Aggregate.{Ratio}
 use Rattle.pc_proof.specs.declared.answer.Proof.{Proof}
 use Rattle.pc_proof.specs.declared.answer.Proof.TheVariants as proofs
-use Rattle.pc_proof.specs.Setting.{Setting}
-use Rattle.pc_proof.specs.Table.{ratio_of, ShowsHigh, ShowsLow}
+use Rattle.pc_proof.specs.Setting.{Setting, program_for}
+use Rattle.pc_proof.specs.Table.{ratio_of, none, ShowsHigh, ShowsLow}
 use Rattle.pc_proof.specs.Demands.{Placed, high_trees, low_trees, tree_demands, Judges}
 use Rattle.pc_check.specs.declared.extreme.Extreme.{Extreme}
 use Rattle.pc_check.specs.declared.extreme.Extreme.TheVariants.{Low, High}
@@ -43,3 +44,12 @@ IsEndFinding extreme s line agg value proof finding = IsShown s (end_trees extre
 -- what is found of a tree that is to show an end
 abbrev pub IsTreeShown : Extreme → Setting → ℕ → Agg → Ratio → Tree → ProofFinding → Type 0
 IsTreeShown extreme s line agg v t finding = IsShown s (tree_demands line (table_program extreme s agg v) t) (ShowsEnd extreme s agg v (proofs.Tree t)) finding
+
+-- what is found of a tree at a ratio
+abbrev pub IsRatioShown : Extreme → Setting → ℕ → Ratio → Frac → Tree → ProofFinding → Type 0
+IsRatioShown extreme s line v ratio t finding =
+    IsShown s (tree_demands line (table_program extreme s Avg (ratio_of ratio)) t) (ShowsEnd extreme s Avg v (proofs.At ratio t)) finding
+
+-- a tree that the rules do not name is tried with no gain, and shows nothing
+abbrev pub IsUnnamed : Setting → ℕ → Tree → ProofFinding → Type 0
+IsUnnamed s line t finding = IsShown s (tree_demands line (program_for s none) t) ⊥ finding
