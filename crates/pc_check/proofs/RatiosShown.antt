@@ -1,4 +1,4 @@
--- What observed rows, the numbers of rows and a tree at a ratio show of an end.
+-- What the numbers of rows and a tree at a ratio show of an end.
 use Rattle.std.proofs.Common.{◌≡◌, ℕ, ℤ, pos, neg_ℤ, ◌+ℤ◌, ◌-ℤ◌, ◌*ℤ◌, Bool, true, false, cond, ◌⊎◌, List, [], ◌∷◌, map, filter, Option, Some, None, refl, sym, ap, ap₂, subst, ◌∙◌}
 use Rattle.std.specs.Prelude.{◌↔◌, IsSome, IsSomeAnd}
 use Rattle.std.specs.List.{reduce}
@@ -24,7 +24,7 @@ use Rattle.pc_check.specs.declared.extreme.Extreme.TheVariants.{Low, High}
 use Rattle.pc_check.specs.Cells.{cell_of, cells_from}
 use Rattle.pc_check.specs.Scene.{HasMeasure}
 use Rattle.pc_check.specs.Programs.{table_program}
-use Rattle.pc_check.specs.Shown.{IsSmall, counted, observed_above, fewest_rows, rest_over, raised_at, lowered_at, chosen_only, greatest_on, least_on, RatioAt, RowsAt, ValuesAt}
+use Rattle.pc_check.specs.Shown.{IsSmall, counted, observed_above, fewest_rows, rest_over, raised_at, lowered_at, chosen_only, greatest_on, least_on, RatioAt, ValuesAt}
 use Rattle.pc_check.specs.Findings.{ShowsEnd}
 use Rattle.pc_check.proofs.EndsShown.{sound_with, least_is, greatest_is, above_is}
 
@@ -62,20 +62,6 @@ module _ (s : Setting) (seen : Folded) (comes : ComesTo s.question seen) (listed
   least_same measured = ap₂ (λ first numbers. lesser_of first (reduce int_min numbers)) (least_is s seen comes measured) (sym (numbers_are (λ (cell : Cell). cell.low)))
 
   -- ---- without a tree
-
-  pub by_rows : (extreme : Extreme) (agg : Agg) (v : Ratio) → HasMeasure agg s.question.query.column → RowsAt extreme agg seen v ↔ ShowsEnd extreme s agg v proofs.Rows
-  by_rows High Count v measured = neither
-  by_rows High Sum v measured = neither
-  by_rows High Min v measured =
-      subst (λ least. IsSomeAnd least (λ m. IsAtMost (whole m) v) ↔ ShowsHigh s Min v proofs.Rows) (least_is s seen comes measured) (itself (ShowsHigh s Min v proofs.Rows))
-  by_rows High Max v measured = neither
-  by_rows High Avg v measured = neither
-  by_rows Low Count v measured = neither
-  by_rows Low Sum v measured = neither
-  by_rows Low Min v measured = neither
-  by_rows Low Max v measured =
-      subst (λ greatest. IsSomeAnd greatest (λ g. IsAtMost v (whole g)) ↔ ShowsLow s Max v proofs.Rows) (greatest_is s seen comes measured) (itself (ShowsLow s Max v proofs.Rows))
-  by_rows Low Avg v measured = neither
 
   pub by_values : (extreme : Extreme) (agg : Agg) (v : Ratio) → HasMeasure agg s.question.query.column → ValuesAt extreme agg listed seen v ↔ ShowsEnd extreme s agg v proofs.Values
   by_values High Count v measured = neither

@@ -16,76 +16,52 @@ use Rattle.pc_proof.specs.Demands.{Placed, Holds, tree_demands, Judges}
 use Rattle.pc_check.specs.declared.extreme.Extreme.{Extreme}
 use Rattle.pc_check.specs.declared.extreme.Extreme.TheVariants.{Low, High}
 use Rattle.pc_check.specs.declared.scene.Scene.{Scene}
+use Rattle.pc_check.specs.declared.walk.TreeFinding.{TreeFinding}
 use Rattle.pc_check.specs.declared.walk.TreeFinding.TheVariants as verdicts
 use Rattle.pc_check.specs.declared.finding.ProofFinding.{ProofFinding}
 use Rattle.pc_check.specs.declared.finding.ProofFinding.TheVariants as found
 use Rattle.pc_check.specs.Walk.{IsTreeFinding}
 use Rattle.pc_check.specs.Scene.{HasMeasure, IsSceneOf}
 use Rattle.pc_check.specs.Programs.{table_program}
-use Rattle.pc_check.specs.Shown.{IsSmall, counted, EndAt, RatioAt, RowsAt, ValuesAt}
-use Rattle.pc_check.specs.Findings.{end_trees, IsShown, ShowsEnd, IsEndFinding, IsTreeShown, IsRatioShown, IsUnnamed}
+use Rattle.pc_check.specs.Shown.{IsSmall, counted, EndAt, RatioAt, ValuesAt}
+use Rattle.pc_check.specs.Findings.{end_trees, IsShown, ShowsEnd, IsEndFinding, IsTreeShown, IsRatioShown, IsUnnamed, IsVerdict}
 use Rattle.pc_check.proofs.Verdicts.{proves-from_demands}
 use Rattle.pc_check.proofs.EndsShown.{end_tree}
-use Rattle.pc_check.proofs.RatiosShown.{by_rows, by_values, by_ratio}
+use Rattle.pc_check.proofs.RatiosShown.{by_values, by_ratio}
 
 pub both_ways : {A B C : Type 0} → (A ↔ B) → (B ↔ C) → A ↔ C
 both_ways first second = (λ a. second.0 (first.0 a), λ c. first.1 (second.1 c))
 
--- a line that breaks its rule is that of the program of the rules too
-pub tree_broken : (s : Setting) (at : ℕ) (t : Tree) (p table : Program) (line rule : ℕ) → p ≡ table → IsTreeFinding at p t.nodes (verdicts.Broken line rule)
-    → Judges s (tree_demands at table t) (Some (line, rule))
-tree_broken s at t p table line rule is broken = subst (λ q. Judges s (tree_demands at q t) (Some (line, rule))) is (broken s)
-
--- where no line is broken, the tree proves its bound
-pub tree_holds : (s : Setting) (at : ℕ) (t : Tree) (p table : Program) (most : Option ℤ) → p ≡ table → IsTreeFinding at p t.nodes (verdicts.Bounded most)
-    → Judges s (tree_demands at table t) None × (Proves table table.floor table.cap (tree_of t.nodes) × (most ≡ bound_for table t))
-tree_holds s at t p table most is bounded =
-    let moved : IsTreeFinding at table t.nodes (verdicts.Bounded most) = subst (λ q. IsTreeFinding at q t.nodes (verdicts.Bounded most)) is bounded in
-    (moved.0 s, (proves-from_demands s at table table.floor table.cap (tree_of t.nodes) (moved.0 s), moved.1))
+-- what is found of a tree of a program is a verdict on that of the rules
+pub verdict_of : (s : Setting) (line : ℕ) (t : Tree) (p table : Program) (finding : TreeFinding) → p ≡ table → IsTreeFinding line p t.nodes finding → IsVerdict s line table t finding
+verdict_of s line t p table (verdicts.Broken at rule) is broken = subst (λ q. Judges s (tree_demands line q t) (Some (at, rule))) is (broken s)
+verdict_of s line t p table (verdicts.Bounded most) is bounded =
+    let moved : IsTreeFinding line table t.nodes (verdicts.Bounded most) = subst (λ q. IsTreeFinding line q t.nodes (verdicts.Bounded most)) is bounded in
+    (moved.0 s, (proves-from_demands s line table table.floor table.cap (tree_of t.nodes) (moved.0 s), moved.1))
 
 measured_in : (scene : Scene) (s : Setting) → IsSceneOf scene s → HasMeasure scene.agg s.question.query.column
 measured_in scene s of_scene = subst (λ agg. HasMeasure agg s.question.query.column) of_scene.agg_is of_scene.measured
 
-pub end_of_tree : (scene : Scene) (s : Setting) → IsSceneOf scene s → (extreme : Extreme) (v : Ratio) (at : ℕ) (t : Tree) (p : Program) (most : Option ℤ) (shown : Bool)
-    → p ≡ table_program extreme s scene.agg v → IsTreeFinding at p t.nodes (verdicts.Bounded most)
+-- of a tree that is to show an end
+pub end_of_tree : (scene : Scene) (s : Setting) → IsSceneOf scene s → (extreme : Extreme) (v : Ratio) (at : ℕ) (t : Tree) (most : Option ℤ) (shown : Bool)
+    → IsVerdict s at (table_program extreme s scene.agg v) t (verdicts.Bounded most)
     → (IsTrue shown ↔ (IsSmall most × EndAt extreme scene.agg scene.seen v (counted most)))
-    → IsShown s (tree_demands at (table_program extreme s scene.agg v) t) (ShowsEnd extreme s scene.agg v (proofs.Tree t)) (found.Holds shown)
-end_of_tree scene s of_scene extreme v at t p most shown is bounded decides =
-    let held = tree_holds s at t p (table_program extreme s scene.agg v) most is bounded in
+    → IsTreeShown extreme s at scene.agg v t (found.Holds shown)
+end_of_tree scene s of_scene extreme v at t most shown held decides =
     (held.0, both_ways decides (end_tree s scene.seen of_scene.comes_to v t most extreme scene.agg (measured_in scene s of_scene) held.1))
 
--- ---- a tree at a ratio
-
-pub end_of_ratio : (scene : Scene) (s : Setting) → IsSceneOf scene s → scene.agg ≡ Avg → (extreme : Extreme) (v : Ratio) (ratio : Frac) (at : ℕ) (t : Tree) (p : Program) (most : Option ℤ) (shown : Bool)
-    → p ≡ table_program extreme s scene.agg (ratio_of ratio) → IsTreeFinding at p t.nodes (verdicts.Bounded most)
+-- of a tree at a ratio
+pub end_of_ratio : (scene : Scene) (s : Setting) → IsSceneOf scene s → scene.agg ≡ Avg → (extreme : Extreme) (v : Ratio) (ratio : Frac) (at : ℕ) (t : Tree) (most : Option ℤ) (shown : Bool)
+    → IsVerdict s at (table_program extreme s Avg (ratio_of ratio)) t (verdicts.Bounded most)
     → (IsTrue shown ↔ (IsSmall most × RatioAt extreme scene.cells.now scene.seen v (ratio_of ratio) (counted most)))
-    → IsShown s (tree_demands at (table_program extreme s Avg (ratio_of ratio)) t) (ShowsEnd extreme s Avg v (proofs.At ratio t)) (found.Holds shown)
-end_of_ratio scene s of_scene average extreme v ratio at t p most shown is bounded decides =
-    let here : p ≡ table_program extreme s Avg (ratio_of ratio) = is ∙ ap (λ agg. table_program extreme s agg (ratio_of ratio)) average in
-    let held = tree_holds s at t p (table_program extreme s Avg (ratio_of ratio)) most here bounded in
+    → IsRatioShown extreme s at v ratio t (found.Holds shown)
+end_of_ratio scene s of_scene average extreme v ratio at t most shown held decides =
     let measured : HasMeasure Avg s.question.query.column = subst (λ agg. HasMeasure agg s.question.query.column) average (measured_in scene s of_scene) in
     (held.0, both_ways decides (by_ratio s scene.seen of_scene.comes_to scene.cells.now of_scene.cells_are v ratio t most measured extreme held.1))
-
--- ---- a tree that the rules do not name
-
-pub unnamed_tree : (s : Setting) (at : ℕ) (t : Tree) (p : Program) (most : Option ℤ) → p ≡ program_for s none → IsTreeFinding at p t.nodes (verdicts.Bounded most) → IsUnnamed s at t (found.Holds false)
-unnamed_tree s at t p most is bounded = ((tree_holds s at t p (program_for s none) most is bounded).0, (λ h. absurd (true≢false (sym h)), λ h. absurd h))
 
 -- ---- an end with any proof
 
 module _ (s : Setting) (line : ℕ) (value : Frac) where
-  rows_lines : (extreme : Extreme) (agg : Agg) → end_trees extreme s line agg value proofs.Rows ≡ []
-  rows_lines High Count = refl
-  rows_lines High Sum = refl
-  rows_lines High Min = refl
-  rows_lines High Max = refl
-  rows_lines High Avg = refl
-  rows_lines Low Count = refl
-  rows_lines Low Sum = refl
-  rows_lines Low Min = refl
-  rows_lines Low Max = refl
-  rows_lines Low Avg = refl
-
   values_lines : (extreme : Extreme) (agg : Agg) → end_trees extreme s line agg value proofs.Values ≡ []
   values_lines High Count = refl
   values_lines High Sum = refl
@@ -114,12 +90,6 @@ module _ (s : Setting) (line : ℕ) (value : Frac) where
   none_broken lines empty = subst (λ (each : List Placed). All (Holds s) each) (sym empty) (All-nil (Holds s))
 
   module _ (scene : Scene) (of_scene : IsSceneOf scene s) (extreme : Extreme) where
-    pub end_of_rows : (shown : Bool) → (IsTrue shown ↔ RowsAt extreme scene.agg scene.seen (ratio_of value)) → IsEndFinding extreme s line scene.agg value proofs.Rows (found.Holds shown)
-    end_of_rows shown decides = (
-      none_broken (end_trees extreme s line scene.agg value proofs.Rows) (rows_lines extreme scene.agg),
-      both_ways decides (by_rows s scene.seen of_scene.comes_to scene.cells.now of_scene.cells_are extreme scene.agg (ratio_of value) (measured_in scene s of_scene)),
-    )
-
     pub end_of_values : (shown : Bool) → (IsTrue shown ↔ ValuesAt extreme scene.agg scene.cells.now scene.seen (ratio_of value)) → IsEndFinding extreme s line scene.agg value proofs.Values (found.Holds shown)
     end_of_values shown decides = (
       none_broken (end_trees extreme s line scene.agg value proofs.Values) (values_lines extreme scene.agg),

@@ -1,17 +1,25 @@
 -- What is found of the proof of a statement.
-use Rattle.std.specs.Prelude.{◌↔◌, IsTrue, ℕ, List, Some, None}
+use Rattle.std.specs.Prelude.{◌≡◌, ◌↔◌, IsTrue, ℕ, List, Some, None}
 use Rattle.pc_num.specs.declared.Frac.{Frac}
 use Rattle.pc_model.specs.declared.query.Agg.{Agg}
 use Rattle.pc_model.specs.declared.query.Agg.TheVariants.{Avg}
 use Rattle.pc_model.specs.declared.tree.Tree.{Tree}
 use Rattle.pc_model.specs.Aggregate.{Ratio}
+use Rattle.pc_bound.specs.declared.program.Program.{Program}
+use Rattle.pc_bound.specs.SplitTrees.{tree_of, Proves}
 use Rattle.pc_proof.specs.declared.answer.Proof.{Proof}
 use Rattle.pc_proof.specs.declared.answer.Proof.TheVariants as proofs
+use Rattle.pc_proof.specs.declared.answer.Bounded.{Bounded}
+use Rattle.pc_proof.specs.declared.answer.Why.{Why}
+use Rattle.pc_proof.specs.declared.answer.NeverBy.{NeverBy}
+use Rattle.pc_proof.specs.declared.answer.AlwaysBy.{AlwaysBy}
 use Rattle.pc_proof.specs.Setting.{Setting, program_for}
-use Rattle.pc_proof.specs.Table.{ratio_of, none, ShowsHigh, ShowsLow}
-use Rattle.pc_proof.specs.Demands.{Placed, high_trees, low_trees, tree_demands, Judges}
+use Rattle.pc_proof.specs.Table.{ratio_of, none, bound_for, ShowsHigh, ShowsLow, EndsCross, ShowsImpossible, ShowsNever, ShowsAlways}
+use Rattle.pc_proof.specs.Demands.{Placed, high_trees, low_trees, tree_demands, crossing_trees, why_trees, never_trees, always_trees, Judges}
 use Rattle.pc_check.specs.declared.extreme.Extreme.{Extreme}
 use Rattle.pc_check.specs.declared.extreme.Extreme.TheVariants.{Low, High}
+use Rattle.pc_check.specs.declared.walk.TreeFinding.{TreeFinding}
+use Rattle.pc_check.specs.declared.walk.TreeFinding.TheVariants as verdicts
 use Rattle.pc_check.specs.declared.finding.ProofFinding.{ProofFinding}
 use Rattle.pc_check.specs.declared.finding.ProofFinding.TheVariants as found
 use Rattle.pc_check.specs.Programs.{table_program}
@@ -20,6 +28,11 @@ use Rattle.pc_check.specs.Programs.{table_program}
 abbrev pub IsShown : Setting → List Placed → Type 0 → ProofFinding → Type 0
 IsShown s lines P (found.Broken line rule) = Judges s lines (Some (line, rule))
 IsShown s lines P (found.Holds shown) = Judges s lines None × (IsTrue shown ↔ P)
+
+-- the verdict on the lines of a tree of a program, and its bound where none is broken
+abbrev pub IsVerdict : Setting → ℕ → Program → Tree → TreeFinding → Type 0
+IsVerdict s line p t (verdicts.Broken at rule) = Judges s (tree_demands line p t) (Some (at, rule))
+IsVerdict s line p t (verdicts.Bounded most) = Judges s (tree_demands line p t) None × (Proves p p.floor p.cap (tree_of t.nodes) × (most ≡ bound_for p t))
 
 -- ---- an end
 
@@ -53,3 +66,18 @@ IsRatioShown extreme s line v ratio t finding =
 -- a tree that the rules do not name is tried with no gain, and shows nothing
 abbrev pub IsUnnamed : Setting → ℕ → Tree → ProofFinding → Type 0
 IsUnnamed s line t finding = IsShown s (tree_demands line (program_for s none) t) ⊥ finding
+
+-- ---- the other statements
+
+-- two ends that cross, the line before that of the low one
+abbrev pub IsCrossingFinding : Setting → ℕ → Bounded → Bounded → ProofFinding → Type 0
+IsCrossingFinding s line low high finding = IsShown s (crossing_trees s line low high) (EndsCross s low high) finding
+
+abbrev pub IsWhyFinding : Setting → ℕ → Why → ProofFinding → Type 0
+IsWhyFinding s line why finding = IsShown s (why_trees s line why) (ShowsImpossible s why) finding
+
+abbrev pub IsNeverFinding : Setting → ℕ → NeverBy → ProofFinding → Type 0
+IsNeverFinding s line by' finding = IsShown s (never_trees s line by') (ShowsNever s by') finding
+
+abbrev pub IsAlwaysFinding : Setting → ℕ → AlwaysBy → ProofFinding → Type 0
+IsAlwaysFinding s line by' finding = IsShown s (always_trees s line by') (ShowsAlways s by') finding

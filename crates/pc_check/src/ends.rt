@@ -11,10 +11,10 @@ ghost use Rattle.pc_check.specs.Findings.{IsHighFinding, IsLowFinding, IsEndFind
 
 use crate::extreme::Extreme;
 use crate::finding::ProofFinding;
-use crate::programs::{even_program, program_towards};
 use crate::scene::Scene;
 use crate::shown::{ratio_shows, rows_show, tree_shows, values_show};
-use crate::walk::{TreeFinding, judge_tree};
+use crate::trees::{judge_even, judge_towards};
+use crate::walk::TreeFinding;
 use pc_model::{Agg, Tree};
 use pc_num::{Frac, Memory};
 use pc_proof::Proof;
@@ -92,8 +92,7 @@ fn judge_end_tree(
     requires few_lines { line + length tree.now.nodes < 2 ^ 64 }
     ensures { IfOk result (λ f. (s : Setting) → IsSceneOf scene.now s → IsTreeShown extreme s line scene.now.agg (ratio_of value.now) tree.now f) }
 {
-    let program = program_towards(alloc, scene, extreme, value)?;
-    match judge_tree(alloc, &program, tree.nodes.as_slice(), line)? {
+    match judge_towards(alloc, scene, extreme, line, value, tree)? {
         TreeFinding::Broken { line, rule } => Ok(ProofFinding::Broken { line, rule }),
         TreeFinding::Bounded(most) => {
             Ok(ProofFinding::Holds(tree_shows(scene, extreme, value, most)))
@@ -142,8 +141,7 @@ fn judge_ratio(
     requires few_lines { line + length tree.now.nodes < 2 ^ 64 }
     ensures { IfOk result (λ f. (s : Setting) → IsSceneOf scene.now s → IsRatioShown extreme s line (ratio_of value.now) ratio.now tree.now f) }
 {
-    let program = program_towards(alloc, scene, extreme, ratio)?;
-    match judge_tree(alloc, &program, tree.nodes.as_slice(), line)? {
+    match judge_towards(alloc, scene, extreme, line, ratio, tree)? {
         TreeFinding::Broken { line, rule } => Ok(ProofFinding::Broken { line, rule }),
         TreeFinding::Bounded(most) => Ok(ProofFinding::Holds(ratio_shows(
             scene, extreme, value, ratio, most,
@@ -163,8 +161,7 @@ fn judge_unnamed(
     requires few_lines { line + length tree.now.nodes < 2 ^ 64 }
     ensures { IfOk result (λ f. (s : Setting) → IsSceneOf scene.now s → IsUnnamed s line tree.now f) }
 {
-    let program = even_program(alloc, scene, 0)?;
-    match judge_tree(alloc, &program, tree.nodes.as_slice(), line)? {
+    match judge_even(alloc, scene, 0, line, tree)? {
         TreeFinding::Broken { line, rule } => Ok(ProofFinding::Broken { line, rule }),
         TreeFinding::Bounded(_most) => Ok(ProofFinding::Holds(false)),
     }

@@ -18,4 +18,5 @@ mod shown;
 #[cfg(test)]
 mod tests;
 mod tree_line;
+mod trees;
 mod walk;

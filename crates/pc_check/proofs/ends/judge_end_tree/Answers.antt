@@ -1,22 +1,13 @@
 use Rattle.std.proofs.Common.{subst}
 use Rattle.pc_proof.specs.Table.{ratio_of}
-use Rattle.pc_check.specs.Walk.{IsTreeFinding}
 use Rattle.pc_check.specs.Programs.{table_program}
-use Rattle.pc_check.proofs.TreeFindings.{tree_broken, end_of_tree}
+use Rattle.pc_check.specs.Findings.{IsVerdict}
+use Rattle.pc_check.proofs.TreeFindings.{end_of_tree}
 use Rattle.pc_check.proofs.ends.judge_end_tree.Goals as goal
 
-pub returns-in-Broken : goal.returns-in-Broken
-returns-in-Broken c = λ s of_scene.
-    let tree = c.args.tree.now in
-    let p = c.in_ok-program.program in
-    let finding = subst (IsTreeFinding c.args.line p tree.nodes) c.in-Broken.is (rw c.as_slice.ensures at c.in_ok-line.ensures) in
-    tree_broken s c.args.line tree p (table_program c.args.extreme s c.args.scene.now.agg (ratio_of c.args.value.now)) c.in-Broken.line c.in-Broken.rule
-    (c.in_ok-program.ensures.program s of_scene) finding
-
-pub returns : goal.returns
-returns c = λ s of_scene.
-    let tree = c.args.tree.now in
-    let p = c.in_ok-program.program in
-    let finding = subst (IsTreeFinding c.args.line p tree.nodes) c.in-Bounded.is (rw c.as_slice.ensures at c.in_ok-line.ensures) in
-    end_of_tree c.args.scene.now s of_scene c.args.extreme (ratio_of c.args.value.now) c.args.line tree p c.in-Bounded.most c.tree_shows.result
-    (c.in_ok-program.ensures.program s of_scene) finding c.tree_shows.ensures
+pub returns-in-Bounded : goal.returns-in-Bounded
+returns-in-Bounded c = λ s of_scene.
+    let scene = c.args.scene.now in
+    let v = ratio_of c.args.value.now in
+    end_of_tree scene s of_scene c.args.extreme v c.args.line c.args.tree.now c.in-Bounded.most c.tree_shows.result
+    (subst (IsVerdict s c.args.line (table_program c.args.extreme s scene.agg v) c.args.tree.now) c.in-Bounded.is (c.in_ok-line.ensures s of_scene)) c.tree_shows.ensures
