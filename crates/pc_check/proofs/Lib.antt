@@ -2,6 +2,7 @@ pub mod Areas
 pub mod Choices
 pub mod Comparing
 pub mod Corners
+pub mod Crossing
 pub mod CutForest
 pub mod CutWalking
 pub mod EndsShown

@@ -9,13 +9,9 @@ use Rattle.pc_bound.specs.declared.program.Program.{Program}
 use Rattle.pc_bound.specs.SplitTrees.{tree_of, Proves}
 use Rattle.pc_proof.specs.declared.answer.Proof.{Proof}
 use Rattle.pc_proof.specs.declared.answer.Proof.TheVariants as proofs
-use Rattle.pc_proof.specs.declared.answer.Bounded.{Bounded}
-use Rattle.pc_proof.specs.declared.answer.Why.{Why}
-use Rattle.pc_proof.specs.declared.answer.NeverBy.{NeverBy}
-use Rattle.pc_proof.specs.declared.answer.AlwaysBy.{AlwaysBy}
 use Rattle.pc_proof.specs.Setting.{Setting, program_for}
-use Rattle.pc_proof.specs.Table.{ratio_of, none, bound_for, ShowsHigh, ShowsLow, EndsCross, ShowsImpossible, ShowsNever, ShowsAlways}
-use Rattle.pc_proof.specs.Demands.{Placed, high_trees, low_trees, tree_demands, crossing_trees, why_trees, never_trees, always_trees, Judges}
+use Rattle.pc_proof.specs.Table.{ratio_of, none, bound_for, ShowsHigh, ShowsLow}
+use Rattle.pc_proof.specs.Demands.{Placed, high_trees, low_trees, tree_demands, Judges}
 use Rattle.pc_check.specs.declared.extreme.Extreme.{Extreme}
 use Rattle.pc_check.specs.declared.extreme.Extreme.TheVariants.{Low, High}
 use Rattle.pc_check.specs.declared.walk.TreeFinding.{TreeFinding}
@@ -66,18 +62,3 @@ IsRatioShown extreme s line v ratio t finding =
 -- a tree that the rules do not name is tried with no gain, and shows nothing
 abbrev pub IsUnnamed : Setting → ℕ → Tree → ProofFinding → Type 0
 IsUnnamed s line t finding = IsShown s (tree_demands line (program_for s none) t) ⊥ finding
-
--- ---- the other statements
-
--- two ends that cross, the line before that of the low one
-abbrev pub IsCrossingFinding : Setting → ℕ → Bounded → Bounded → ProofFinding → Type 0
-IsCrossingFinding s line low high finding = IsShown s (crossing_trees s line low high) (EndsCross s low high) finding
-
-abbrev pub IsWhyFinding : Setting → ℕ → Why → ProofFinding → Type 0
-IsWhyFinding s line why finding = IsShown s (why_trees s line why) (ShowsImpossible s why) finding
-
-abbrev pub IsNeverFinding : Setting → ℕ → NeverBy → ProofFinding → Type 0
-IsNeverFinding s line by' finding = IsShown s (never_trees s line by') (ShowsNever s by') finding
-
-abbrev pub IsAlwaysFinding : Setting → ℕ → AlwaysBy → ProofFinding → Type 0
-IsAlwaysFinding s line by' finding = IsShown s (always_trees s line by') (ShowsAlways s by') finding

@@ -7,4 +7,5 @@ pub mod Lines
 pub mod Programs
 pub mod Scene
 pub mod Shown
+pub mod Statements
 pub mod Walk

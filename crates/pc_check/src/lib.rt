@@ -17,6 +17,7 @@ mod settled;
 mod shown;
 #[cfg(test)]
 mod tests;
+mod statements;
 mod tree_line;
 mod trees;
 mod walk;
