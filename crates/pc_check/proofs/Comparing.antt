@@ -1,5 +1,5 @@
 -- What the order of two products says.
-use Rattle.std.proofs.Common.{◌≡◌, ℤ, Bool, true, false, cond, Ordering, Less, Equal, Greater, int_cmp, is_le, is_ge, ◌≤ℤ◌, ◌<ℤ◌, refl, sym, ◌∙◌, ap, subst, true≢false, arith}
+use Rattle.std.proofs.Common.{◌≡◌, ℤ, Bool, true, false, cond, Ordering, Less, Equal, Greater, int_cmp, is_le, is_ge, ◌≤ℤ◌, refl, sym, ◌∙◌, ap, subst, true≢false, arith}
 use Rattle.std.specs.Prelude.{◌↔◌, IsTrue, int_lt}
 use Rattle.std.proofs.lemmas.Int.{ints}
 

@@ -1,5 +1,5 @@
 -- What is found of two trees, or of two ends, one after the other.
-use Rattle.std.proofs.Common.{◌≡◌, ℕ, ◌+◌, ℤ, pos, ◌<ℤ◌, Bool, true, false, ◌&&◌, List, ◌++◌, length, Option, Some, None, refl, sym, subst, true≢false}
+use Rattle.std.proofs.Common.{ℕ, ◌+◌, ℤ, Bool, true, false, ◌&&◌, List, length, Option, Some, None, refl, sym, subst, true≢false}
 use Rattle.std.specs.Prelude.{◌↔◌, IsTrue}
 use Rattle.pc_model.specs.declared.query.Agg.{Agg}
 use Rattle.pc_model.specs.declared.tree.Tree.{Tree}
@@ -8,15 +8,15 @@ use Rattle.pc_proof.specs.declared.answer.Proof.{Proof}
 use Rattle.pc_proof.specs.declared.answer.Proof.TheVariants as proofs
 use Rattle.pc_proof.specs.declared.answer.Bounded.{Bounded}
 use Rattle.pc_proof.specs.Setting.{Setting, program_for}
-use Rattle.pc_proof.specs.Table.{ratio_of, limit, one, minus_one, IsFormed, HasRatio, AreFormed, bound_for, Cross, EndsCross}
-use Rattle.pc_proof.specs.Demands.{Placed, proof_lines, tree_demands, high_trees, low_trees, crossing_trees, Judges}
+use Rattle.pc_proof.specs.Table.{ratio_of, one, minus_one, IsFormed, HasRatio, bound_for, Cross}
+use Rattle.pc_proof.specs.Demands.{Placed, proof_lines, tree_demands, high_trees, low_trees, Judges}
 use Rattle.pc_proof.specs.Form.{IsFormedProof, IsFormedBounded}
 use Rattle.pc_check.specs.declared.walk.TreeFinding.TheVariants as verdicts
 use Rattle.pc_check.specs.declared.finding.ProofFinding.{ProofFinding}
 use Rattle.pc_check.specs.declared.finding.ProofFinding.TheVariants as found
 use Rattle.pc_check.specs.Shown.{IsSmall}
 use Rattle.pc_check.specs.Findings.{IsVerdict, IsLowFinding, IsHighFinding}
-use Rattle.pc_check.specs.Statements.{also, CrossesWith, IsFewestFinding, IsCrossWhy, IsCrossingFinding}
+use Rattle.pc_check.specs.Statements.{also, IsFewestFinding, IsCrossWhy, IsCrossingFinding}
 use Rattle.pc_check.proofs.Verdicts.{judges-front, judges-back}
 use Rattle.pc_check.proofs.Formed.{formed_measured}
 
@@ -37,18 +37,20 @@ module _ (s : Setting) (line : ℕ) (t u : Tree) where
   both_bounds most (found.Broken at rule) first second = judges-back s greatest_lines fewest_lines (Some (at, rule)) first.0 second
   both_bounds most (found.Holds shown) first second = (
     judges-back s greatest_lines fewest_lines None first.0 second.0,
-    (λ h.
-        let crosses = second.1.0 h in (
-          record { proves = first.1.0; small = subst IsSmall first.1.1 crosses.small },
-          crosses.sound,
-          subst (λ o. Cross o (bound_for (program_for s minus_one) u)) first.1.1 crosses.cross,
-        ),
-    λ h.
-        second.1.1 (record {
-          small = subst IsSmall (sym first.1.1) h.0.small;
-          sound = h.1;
-          cross = subst (λ o. Cross o (bound_for (program_for s minus_one) u)) (sym first.1.1) h.2;
-        })),
+    (
+      λ h.
+          let crosses = second.1.0 h in (
+            record { proves = first.1.0; small = subst IsSmall first.1.1 crosses.small },
+            crosses.sound,
+            subst (λ o. Cross o (bound_for (program_for s minus_one) u)) first.1.1 crosses.cross,
+          ),
+      λ h.
+          second.1.1 (record {
+            small = subst IsSmall (sym first.1.1) h.0.small;
+            sound = h.1;
+            cross = subst (λ o. Cross o (bound_for (program_for s minus_one) u)) (sym first.1.1) h.2;
+          }),
+    ),
   )
 
 -- ---- two ends
@@ -87,15 +89,17 @@ module _ (s : Setting) (line : ℕ) (low high : Bounded) where
     both_ends shown (found.Broken at rule) first second = judges-back s low_lines high_lines (Some (at, rule)) first.0 second
     both_ends shown (found.Holds too) first second = (
       judges-back s low_lines high_lines None first.0 second.0,
-      (λ h.
-          let outer = (both_true (too && shown) above).0 h in
-          let inner = (both_true too shown).0 outer.0 in
-          record {
-            low_holds = first.1.0 inner.1;
-            high_holds = second.1.0 inner.0;
-            above = is_above.0 outer.1;
-            formed = (formed_end agg low low_formed, formed_end agg high high_formed);
-          },
-      λ crosses.
-          (both_true (too && shown) above).1 ((both_true too shown).1 (second.1.1 crosses.high_holds, first.1.1 crosses.low_holds), is_above.1 crosses.above)),
+      (
+        λ h.
+            let outer = (both_true (too && shown) above).0 h in
+            let inner = (both_true too shown).0 outer.0 in
+            record {
+              low_holds = first.1.0 inner.1;
+              high_holds = second.1.0 inner.0;
+              above = is_above.0 outer.1;
+              formed = (formed_end agg low low_formed, formed_end agg high high_formed);
+            },
+        λ crosses.
+            (both_true (too && shown) above).1 ((both_true too shown).1 (second.1.1 crosses.high_holds, first.1.1 crosses.low_holds), is_above.1 crosses.above),
+      ),
     )

@@ -1,11 +1,10 @@
 -- The greatest and the least number of the chosen cells, as far as a loop over the cells has come.
-use Rattle.std.proofs.Common.{◌≡◌, ℕ, ◌+◌, ◌<◌, ◌≤◌, ℤ, Bool, true, false, cond, List, [], ◌∷◌, length, map, filter, fold, drop, get_or, Option, Some, None, refl, sym, ap, ◌∙◌, arith}
+use Rattle.std.proofs.Common.{◌≡◌, ℕ, ◌+◌, ◌<◌, ◌≤◌, ℤ, Bool, true, false, cond, List, [], ◌∷◌, length, map, fold, drop, get_or, Option, Some, None, refl, sym, ap, ◌∙◌, arith}
 use Rattle.std.specs.List.{reduce}
 use Rattle.std.specs.Int.{int_min, int_max}
 use Rattle.std.proofs.lemmas.List.{drop_more, drop_all}
 use Rattle.std.proofs.lemmas.Int.{ints, clamps}
 use Rattle.pc_model.specs.Folds.{better}
-use Rattle.pc_proof.specs.Table.{greater_of, lesser_of}
 use Rattle.pc_check.specs.declared.cells.Cell.{Cell}
 use Rattle.pc_check.specs.Cells.{no_cell}
 use Rattle.pc_check.specs.Shown.{chosen_only, greatest_on, least_on}

@@ -1,5 +1,5 @@
 -- What the numbers of rows and a tree at a ratio show of an end.
-use Rattle.std.proofs.Common.{◌≡◌, ℕ, ℤ, pos, neg_ℤ, ◌+ℤ◌, ◌-ℤ◌, ◌*ℤ◌, Bool, true, false, cond, ◌⊎◌, List, [], ◌∷◌, map, filter, Option, Some, None, refl, sym, ap, ap₂, subst, ◌∙◌}
+use Rattle.std.proofs.Common.{◌≡◌, ℤ, pos, neg_ℤ, ◌+ℤ◌, ◌-ℤ◌, ◌*ℤ◌, Bool, true, false, cond, ◌⊎◌, List, [], ◌∷◌, map, filter, Option, Some, None, refl, sym, ap, ap₂, subst, ◌∙◌}
 use Rattle.std.specs.Prelude.{◌↔◌, IsSome, IsSomeAnd}
 use Rattle.std.specs.List.{reduce}
 use Rattle.std.specs.Int.{int_min, int_max}
@@ -7,15 +7,13 @@ use Rattle.pc_num.specs.declared.Frac.{Frac}
 use Rattle.pc_model.specs.declared.query.Agg.{Agg}
 use Rattle.pc_model.specs.declared.query.Agg.TheVariants.{Count, Sum, Min, Max, Avg}
 use Rattle.pc_model.specs.declared.query.Folded.{Folded}
-use Rattle.pc_model.specs.declared.tree.Leaf.{Leaf}
 use Rattle.pc_model.specs.declared.tree.Tree.{Tree}
 use Rattle.pc_model.specs.Aggregate.{Ratio, whole, IsAtMost}
-use Rattle.pc_model.specs.Cells.{Class}
 use Rattle.pc_bound.specs.declared.program.Program.{Program}
 use Rattle.pc_bound.specs.SplitTrees.{tree_of, Proves}
 use Rattle.pc_proof.specs.declared.answer.Proof.TheVariants as proofs
-use Rattle.pc_proof.specs.Setting.{Setting, column_of, leaves, cells, high_in, low_in, seen_count, seen_least, seen_greatest}
-use Rattle.pc_proof.specs.Table.{ratio_of, bound_for, IsSound, seen_above, left_over, raised_by, lowered_by, greater_of, lesser_of, chosen_cells, greatest_number, least_number, high_program, low_program, ShowsHigh, ShowsLow}
+use Rattle.pc_proof.specs.Setting.{Setting, column_of, leaves, cells}
+use Rattle.pc_proof.specs.Table.{ratio_of, bound_for, seen_above, left_over, raised_by, lowered_by, greater_of, lesser_of, chosen_cells, greatest_number, least_number, high_program, low_program, ShowsHigh, ShowsLow}
 use Rattle.pc_proof.specs.Observed.{ComesTo}
 use Rattle.pc_proof.proofs.Masks.{map_twice}
 use Rattle.pc_check.specs.declared.cells.Cell.{Cell}
@@ -24,7 +22,7 @@ use Rattle.pc_check.specs.declared.extreme.Extreme.TheVariants.{Low, High}
 use Rattle.pc_check.specs.Cells.{cell_of, cells_from}
 use Rattle.pc_check.specs.Scene.{HasMeasure}
 use Rattle.pc_check.specs.Programs.{table_program}
-use Rattle.pc_check.specs.Shown.{IsSmall, counted, observed_above, fewest_rows, rest_over, raised_at, lowered_at, chosen_only, greatest_on, least_on, RatioAt, ValuesAt}
+use Rattle.pc_check.specs.Shown.{IsSmall, counted, rest_over, raised_at, lowered_at, chosen_only, greatest_on, least_on, RatioAt, ValuesAt}
 use Rattle.pc_check.specs.Findings.{ShowsEnd}
 use Rattle.pc_check.proofs.EndsShown.{sound_with, least_is, greatest_is, above_is}
 

@@ -1,5 +1,5 @@
 -- Programs made of limited constraints have lists of the right lengths, and ends in order.
-use Rattle.std.proofs.Common.{◌≡◌, ℕ, ◌≤◌, ◌<◌, ◌/◌, min, ℤ, cond, Bool, true, false, ◌&&◌, List, [], ◌∷◌, length, map, get_or, fold, All, refl, sym, ap, ◌∙◌, arith}
+use Rattle.std.proofs.Common.{◌≡◌, ℕ, ◌≤◌, ◌<◌, ◌/◌, min, ℤ, cond, Bool, true, false, ◌&&◌, List, [], ◌∷◌, length, map, get_or, fold, All, refl, sym, ◌∙◌, arith}
 use Rattle.std.specs.Prelude.{if◌then◌else◌, unwrap_or}
 use Rattle.std.specs.List.{reduce}
 use Rattle.std.proofs.lemmas.List.{length-map, get_or-map}
@@ -12,7 +12,7 @@ use Rattle.pc_model.specs.Cells.{Class}
 use Rattle.pc_model.specs.Places.{has_bit}
 use Rattle.pc_bound.specs.declared.program.Program.{Program}
 use Rattle.pc_bound.specs.Allocation.{IsProgram}
-use Rattle.pc_bound.specs.CellPrograms.{members, cap_of, program_with}
+use Rattle.pc_bound.specs.CellPrograms.{members, cap_of}
 use Rattle.pc_bound.proofs.CellPlaces.{no_class, no_constraint, cell_inside, constraint_inside, cap_is, floor_is, least_is, most_is}
 use Rattle.pc_check.specs.declared.cells.Cell.{Cell}
 use Rattle.pc_check.specs.declared.extreme.Extreme.{Extreme}

@@ -8,7 +8,6 @@ use Rattle.pc_model.specs.declared.query.Agg.TheVariants.{Count, Sum, Min, Max, 
 use Rattle.pc_model.specs.declared.tree.Leaf.{Leaf}
 use Rattle.pc_model.specs.Aggregate.{Ratio}
 use Rattle.pc_model.specs.Cells.{Class, classes_of}
-use Rattle.pc_bound.specs.declared.program.Program.{Program}
 use Rattle.pc_bound.specs.CellPrograms.{cap_of, program_with}
 use Rattle.pc_proof.specs.Setting.{Setting, column_of, leaves, on_chosen, program_for}
 use Rattle.pc_proof.proofs.Masks.{map_twice}
@@ -47,7 +46,7 @@ module _ (constraints : List Constraint) (column : ℕ) (ls : List Leaf) where
 
   closed : (extreme : Extreme) (v : Ratio) (gain : Cell → ℤ) → with_closed extreme v cells (program_on constraints cells (map gain cells))
       ≡ record (program_with constraints classes (map (λ class. gain (cell_of column ls class)) classes)) {
-        cap = map (λ class. open_cap extreme v (cell_of column ls class) (cap_of constraints class)) classes
+        cap = map (λ class. open_cap extreme v (cell_of column ls class) (cap_of constraints class)) classes;
       }
   closed extreme v gain =
       let p = program_with constraints classes (map (λ class. gain (cell_of column ls class)) classes) in

@@ -1,5 +1,5 @@
 -- What is found of a proof is a verdict on its lines, and says whether it shows an end.
-use Rattle.std.proofs.Common.{◌≡◌, ℕ, ◌+◌, ℤ, Bool, true, false, List, [], All, Option, Some, None, refl, sym, ap, subst, ◌∙◌, true≢false}
+use Rattle.std.proofs.Common.{◌≡◌, ℕ, ◌+◌, ℤ, Bool, List, [], All, Option, Some, None, refl, sym, subst}
 use Rattle.std.proofs.lemmas.List.Elements.{All-nil}
 use Rattle.std.specs.Prelude.{◌↔◌, IsTrue}
 use Rattle.pc_num.specs.declared.Frac.{Frac}
@@ -8,10 +8,10 @@ use Rattle.pc_model.specs.declared.query.Agg.TheVariants.{Count, Sum, Min, Max, 
 use Rattle.pc_model.specs.declared.tree.Tree.{Tree}
 use Rattle.pc_model.specs.Aggregate.{Ratio}
 use Rattle.pc_bound.specs.declared.program.Program.{Program}
-use Rattle.pc_bound.specs.SplitTrees.{tree_of, Proves}
+use Rattle.pc_bound.specs.SplitTrees.{tree_of}
 use Rattle.pc_proof.specs.declared.answer.Proof.TheVariants as proofs
-use Rattle.pc_proof.specs.Setting.{Setting, program_for}
-use Rattle.pc_proof.specs.Table.{ratio_of, none, bound_for}
+use Rattle.pc_proof.specs.Setting.{Setting}
+use Rattle.pc_proof.specs.Table.{ratio_of}
 use Rattle.pc_proof.specs.Demands.{Placed, Holds, tree_demands, Judges}
 use Rattle.pc_check.specs.declared.extreme.Extreme.{Extreme}
 use Rattle.pc_check.specs.declared.extreme.Extreme.TheVariants.{Low, High}
@@ -109,16 +109,3 @@ module _ (s : Setting) (line : ℕ) (value : Frac) where
       by_extreme : (end : Extreme) → IsRatioShown end s (line + 1) (ratio_of value) ratio t finding → IsEndFinding end s line Avg value (proofs.At ratio t) finding
       by_extreme High h = h
       by_extreme Low h = h
-
-  pub end_unnamed : (extreme : Extreme) (agg : Agg) (ratio : Frac) (t : Tree) (finding : ProofFinding) → (agg ≡ Avg → ⊥) → IsUnnamed s (line + 1) t finding
-      → IsEndFinding extreme s line agg value (proofs.At ratio t) finding
-  end_unnamed High Count ratio t finding other shown = shown
-  end_unnamed High Sum ratio t finding other shown = shown
-  end_unnamed High Min ratio t finding other shown = shown
-  end_unnamed High Max ratio t finding other shown = shown
-  end_unnamed High Avg ratio t finding other shown = absurd (other refl)
-  end_unnamed Low Count ratio t finding other shown = shown
-  end_unnamed Low Sum ratio t finding other shown = shown
-  end_unnamed Low Min ratio t finding other shown = shown
-  end_unnamed Low Max ratio t finding other shown = shown
-  end_unnamed Low Avg ratio t finding other shown = absurd (other refl)

@@ -42,7 +42,9 @@ proves-from_demands s line p floors caps (split cell at t u) all =
     let first = split_demands (line + 1) p floors (less_caps caps cell at) t in
     let second = split_demands (line + 1 + size_of t) p (more_floors floors cell at) caps u in
     let parts = the-parts s (record { line = line; rule = 7; demand = splits p floors caps cell at }) first second all in (
-      parts.0.0, parts.0.1, parts.0.2,
+      parts.0.0,
+      parts.0.1,
+      parts.0.2,
       proves-from_demands s (line + 1) p floors (less_caps caps cell at) t parts.1,
       proves-from_demands s (line + 1 + size_of t) p (more_floors floors cell at) caps u parts.2,
     )

@@ -1,5 +1,5 @@
 -- The fractions of a document.
-use Rattle.std.specs.Prelude.{ℕ, ◌≤◌, ◌*◌, ◌^◌, nat_abs, ℤ, pos, ◌<ℤ◌, ◌≤ℤ◌}
+use Rattle.std.specs.Prelude.{◌≤◌, ◌*◌, ◌^◌, nat_abs, pos, ◌<ℤ◌, ◌≤ℤ◌}
 use Rattle.pc_num.specs.declared.Frac.{Frac}
 
 -- a denominator above 0, and numbers of the sizes that a value can have

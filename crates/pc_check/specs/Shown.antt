@@ -1,17 +1,15 @@
 -- What the bound of a tree, the observed rows and the numbers of rows show, where each is known.
-use Rattle.std.specs.Prelude.{◌≡◌, ℤ, pos, neg_ℤ, ◌+ℤ◌, ◌-ℤ◌, ◌*ℤ◌, ◌≤ℤ◌, ⊤, ◌⊎◌, List, map, filter, Option, Some, None, IfSome, IsSomeAnd, option_map, unwrap_or}
+use Rattle.std.specs.Prelude.{◌≡◌, ℤ, pos, neg_ℤ, ◌+ℤ◌, ◌-ℤ◌, ◌*ℤ◌, ◌≤ℤ◌, ◌⊎◌, List, map, filter, Option, Some, None, IfSome, IsSomeAnd, option_map}
 use Rattle.std.specs.List.{reduce}
 use Rattle.std.specs.Int.{int_min, int_max}
 use Rattle.pc_model.specs.declared.query.Agg.{Agg}
 use Rattle.pc_model.specs.declared.query.Agg.TheVariants.{Count, Sum, Min, Max, Avg}
 use Rattle.pc_model.specs.declared.query.Folded.{Folded}
 use Rattle.pc_model.specs.Aggregate.{Ratio, whole, IsAtMost}
-use Rattle.pc_proof.specs.Setting.{Setting}
 use Rattle.pc_proof.specs.Table.{limit, greater_of, lesser_of}
 use Rattle.pc_check.specs.declared.cells.Cell.{Cell}
 use Rattle.pc_check.specs.declared.extreme.Extreme.{Extreme}
 use Rattle.pc_check.specs.declared.extreme.Extreme.TheVariants.{Low, High}
-use Rattle.pc_check.specs.declared.scene.Scene.{Scene}
 
 -- ---- bounds
 

@@ -1,5 +1,5 @@
 -- Findings of the statements that are no ends.
-use Rattle.std.specs.Prelude.{◌≡◌, ℕ, pos, neg_ℤ, ◌<ℤ◌, ◌≤ℤ◌, true, Bool, ◌&&◌, ⊤, ◌⊎◌, ℤ, Option, Some, None, IfSome}
+use Rattle.std.specs.Prelude.{◌≡◌, ℕ, pos, neg_ℤ, ◌<ℤ◌, true, Bool, ◌&&◌, ⊤, ◌⊎◌, ℤ, Option, Some, None}
 use Rattle.pc_model.specs.declared.query.Agg.{Agg}
 use Rattle.pc_model.specs.declared.tree.Tree.{Tree}
 use Rattle.pc_model.specs.Right.{always_has_value}
@@ -15,7 +15,7 @@ use Rattle.pc_proof.specs.Table.{minus_one, bound_for, IsSound, Cross, EndsCross
 use Rattle.pc_proof.specs.Demands.{tree_demands, crossing_trees, why_trees, never_trees, always_trees}
 use Rattle.pc_check.specs.declared.finding.ProofFinding.{ProofFinding}
 use Rattle.pc_check.specs.declared.finding.ProofFinding.TheVariants as found
-use Rattle.pc_check.specs.Shown.{IsSmall, counted}
+use Rattle.pc_check.specs.Shown.{IsSmall}
 use Rattle.pc_check.specs.Findings.{IsShown}
 
 -- ---- what is found of each

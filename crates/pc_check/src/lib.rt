@@ -15,9 +15,9 @@ mod ratios;
 mod scene;
 mod settled;
 mod shown;
+mod statements;
 #[cfg(test)]
 mod tests;
-mod statements;
 mod tree_line;
 mod trees;
 mod walk;

@@ -120,11 +120,7 @@ fn open_caps(
 }
 
 /// The program with the same gain for each cell.
-pub(crate) fn even_program(
-    alloc: Global,
-    scene: &Scene<'_>,
-    gain: i128,
-) -> Result<Program, Memory>
+pub(crate) fn even_program(alloc: Global, scene: &Scene<'_>, gain: i128) -> Result<Program, Memory>
     requires limited { AreLimited scene.now.constraints.now }
     ensures program { IfOk result (λ p. (s : Setting) → IsSceneOf scene.now s → p ≡ program_for s (λ class. gain)) }
     ensures is_program { IfOk result IsProgram }

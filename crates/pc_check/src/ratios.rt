@@ -11,7 +11,12 @@ use pc_model::Folded;
 use pc_num::Frac;
 
 /// Whether a ratio with what is left over, spread over the fewest rows, is at most a value.
-pub(crate) fn is_raised_within(seen: &Folded, value: &Frac, ratio: &Frac, bound: Option<i128>) -> bool
+pub(crate) fn is_raised_within(
+    seen: &Folded,
+    value: &Frac,
+    ratio: &Frac,
+    bound: Option<i128>,
+) -> bool
     requires seen { IsCounted seen.now }
     requires measured { IsMeasured value.now }
     requires ratio { IsMeasured ratio.now }
@@ -20,11 +25,20 @@ pub(crate) fn is_raised_within(seen: &Folded, value: &Frac, ratio: &Frac, bound:
 {
     let fewest = fewest_rows(seen);
     let rest = rest_over(observed_above(seen, ratio), bound);
-    is_at_most(num_over(ratio, fewest) + rest, den_over(ratio, fewest), value)
+    is_at_most(
+        num_over(ratio, fewest) + rest,
+        den_over(ratio, fewest),
+        value,
+    )
 }
 
 /// Whether a ratio less what is left over, spread over the fewest rows, is at least a value.
-pub(crate) fn is_lowered_from(seen: &Folded, value: &Frac, ratio: &Frac, bound: Option<i128>) -> bool
+pub(crate) fn is_lowered_from(
+    seen: &Folded,
+    value: &Frac,
+    ratio: &Frac,
+    bound: Option<i128>,
+) -> bool
     requires seen { IsCounted seen.now }
     requires measured { IsMeasured value.now }
     requires ratio { IsMeasured ratio.now }
@@ -34,7 +48,11 @@ pub(crate) fn is_lowered_from(seen: &Folded, value: &Frac, ratio: &Frac, bound: 
     let fewest = fewest_rows(seen);
     let below = negated(observed_above(seen, ratio));
     let rest = rest_over(below, bound);
-    is_at_least(num_over(ratio, fewest) - rest, den_over(ratio, fewest), value)
+    is_at_least(
+        num_over(ratio, fewest) - rest,
+        den_over(ratio, fewest),
+        value,
+    )
 }
 
 fn negated(number: i128) -> i128

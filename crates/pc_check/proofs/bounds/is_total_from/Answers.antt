@@ -2,7 +2,6 @@ use Rattle.std.proofs.Common.{◌≡◌, ◌^◌, ◌≤◌, ◌-ℤ◌, to_z, o
 use Rattle.std.specs.Prelude.{nat_abs}
 use Rattle.std.specs.Int.{w128}
 use Rattle.std.proofs.lemmas.Int.{ints}
-use Rattle.pc_check.proofs.Passing.{as_it_is}
 use Rattle.pc_check.proofs.bounds.is_total_from.Goals as goal
 
 pub returns-in-Some : goal.returns-in-Some

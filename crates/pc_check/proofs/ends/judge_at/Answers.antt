@@ -1,5 +1,5 @@
 use Rattle.std.proofs.lemmas.Result.{IfOk-weaker}
-use Rattle.pc_check.proofs.TreeFindings.{end_by_ratio, end_unnamed}
+use Rattle.pc_check.proofs.TreeFindings.{end_by_ratio}
 use Rattle.pc_check.proofs.ends.judge_at.Goals as goal
 
 pub returns-in-Avg : goal.returns-in-Avg

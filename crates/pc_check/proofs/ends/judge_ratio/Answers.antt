@@ -1,5 +1,4 @@
 use Rattle.std.proofs.Common.{subst}
-use Rattle.pc_model.specs.declared.query.Agg.TheVariants.{Avg}
 use Rattle.pc_proof.specs.Table.{ratio_of}
 use Rattle.pc_check.specs.Programs.{table_program}
 use Rattle.pc_check.specs.Findings.{IsVerdict}

@@ -14,7 +14,7 @@ returns-clause-program c =
     let scene = c.args.scene.now in
     let gain_is : to_z w128 (of_z w128 c.args.gain) ≡ c.args.gain = to_z-of_z w128 c.args.gain c.ranges.gain in
     let gains_are : c.from_vec.result ≡ replicate (length scene.cells.now) c.args.gain =
-        c.from_vec.ensures ∙ c.in_ok-gains.ensures.items_if_clones_equal (λ y same. same) ∙ ap (replicate (length scene.cells.now)) gain_is in
+    c.from_vec.ensures ∙ c.in_ok-gains.ensures.items_if_clones_equal (λ y same. same) ∙ ap (replicate (length scene.cells.now)) gain_is in
     IfOk-weaker c.program_on.result _ _ (λ p is s of_scene. is ∙ even_table scene c.args.gain c.from_vec.result s gains_are of_scene) c.program_on.ensures
 
 pub returns-clause-is_program : goal.returns-clause-is_program

@@ -1,4 +1,4 @@
-use Rattle.std.proofs.Common.{◌≡◌, ◌+ℤ◌, ◌-ℤ◌, ◌*ℤ◌, neg_ℤ, to_z, of_z, ap, ◌∙◌, arith}
+use Rattle.std.proofs.Common.{◌≡◌, ◌+ℤ◌, ◌*ℤ◌, to_z, of_z, ap, ◌∙◌, arith}
 use Rattle.std.specs.Int.{w128}
 use Rattle.std.proofs.lemmas.Int.{ints}
 use Rattle.pc_proof.specs.Table.{ratio_of}
@@ -21,7 +21,7 @@ returns c =
     let den_is : den ≡ ratio.den *ℤ fewest_rows seen = c.den_over.ensures.den ∙ ap (λ rows. ratio.den *ℤ rows) (fewest_as ∙ c.fewest_rows-fewest.ensures.fewest) in
     let above_as : to_z w128 (of_z w128 c.observed_above.result) ≡ c.observed_above.result = omega (arith, ints, c.observed_above.ensures.small) in
     let rest_is : rest ≡ rest_over (observed_above seen (ratio_of ratio)) c.args.bound =
-        c.rest_over-rest.ensures.rest ∙ ap (λ before. rest_over before c.args.bound) (above_as ∙ c.observed_above.ensures.above) in
+    c.rest_over-rest.ensures.rest ∙ ap (λ before. rest_over before c.args.bound) (above_as ∙ c.observed_above.ensures.above) in
     let num_as : to_z w128 (of_z w128 num) ≡ num = omega (arith, ints, c.num_over.ensures.small) in
     let rest_as : to_z w128 (of_z w128 rest) ≡ rest = omega (arith, ints, c.rest_over-rest.ensures.some, c.rest_over-rest.ensures.small) in
     let both_as : to_z w128 (of_z w128 (num +ℤ rest)) ≡ num +ℤ rest = omega (arith, ints, c.num_over.ensures.small, c.rest_over-rest.ensures.some, c.rest_over-rest.ensures.small) in

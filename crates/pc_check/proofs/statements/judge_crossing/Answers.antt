@@ -18,6 +18,6 @@ returns-in_ok-finding-in-Holds c = λ s of_scene.
     let first = subst (IsLowFinding s (c.args.line + 2) agg low.value low.proof) c.in-Holds.is (c.in_ok-line.ensures s of_scene) in
     let second = subst (λ lines. IsHighFinding s (c.args.line + 3 + lines) agg high.value high.proof finding) c.lines_of.ensures (c.in_ok-finding-in-Holds.ensures s of_scene) in
     let result_is : c.also-in-Holds.result ≡ also (also finding c.in-Holds.shown) c.is_above-above.result =
-        c.also-in-Holds.ensures ∙ ap (λ each. also each c.is_above-above.result) c.also.ensures in
+    c.also-in-Holds.ensures ∙ ap (λ each. also each c.is_above-above.result) c.also.ensures in
     subst (IsCrossingFinding s c.args.line low high) (sym result_is)
     (both_ends s c.args.line low high c.args.scene.now.agg c.requires.low c.requires.high c.is_above-above.result c.is_above-above.ensures c.in-Holds.shown finding first second)

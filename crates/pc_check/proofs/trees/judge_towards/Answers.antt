@@ -1,4 +1,3 @@
-use Rattle.std.proofs.Common.{to_z, of_z, ap, ◌∙◌}
 use Rattle.std.proofs.lemmas.Result.{IfOk-weaker}
 use Rattle.pc_proof.specs.Table.{ratio_of}
 use Rattle.pc_check.specs.Programs.{table_program}
