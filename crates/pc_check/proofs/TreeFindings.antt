@@ -24,7 +24,7 @@ use Rattle.pc_check.specs.Walk.{IsTreeFinding}
 use Rattle.pc_check.specs.Scene.{HasMeasure, IsSceneOf}
 use Rattle.pc_check.specs.Programs.{table_program}
 use Rattle.pc_check.specs.Shown.{IsSmall, counted, EndAt, RatioAt, ValuesAt}
-use Rattle.pc_check.specs.Findings.{end_trees, IsShown, ShowsEnd, IsEndFinding, IsTreeShown, IsRatioShown, IsUnnamed, IsVerdict}
+use Rattle.pc_check.specs.Findings.{end_trees, IsShown, ShowsEnd, IsEndFinding, IsTreeShown, IsRatioShown, IsVerdict}
 use Rattle.pc_check.proofs.Verdicts.{proves-from_demands}
 use Rattle.pc_check.proofs.EndsShown.{end_tree}
 use Rattle.pc_check.proofs.RatiosShown.{by_values, by_ratio}
