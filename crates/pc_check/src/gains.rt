@@ -1,4 +1,4 @@
-ghost use Rattle.std.specs.Prelude.{◌≡◌, ◌&&◌, cond, pos, neg_ℤ, ◌*ℤ◌, ◌-ℤ◌};
+ghost use Rattle.std.specs.Prelude.{◌≡◌, ◌≤◌, ◌^◌, ◌&&◌, cond, nat_abs, pos, neg_ℤ, ◌*ℤ◌, ◌-ℤ◌};
 ghost use Rattle.pc_proof.specs.Table.{ratio_of, is_under, is_over, is_within, is_from};
 ghost use Rattle.pc_check.specs.Fractions.{IsMeasured};
 ghost use Rattle.pc_check.specs.Programs.{chosen_gain, counted_gain, high_gain, low_gain, gain_towards, is_closed, open_cap};
@@ -49,7 +49,7 @@ fn above(number: i64, ratio: &Frac) -> i128
     requires { IsMeasured ratio.now }
     ensures { result ≡ (ratio.now.den *ℤ number -ℤ ratio.now.num) }
 {
-    ratio.den * i128::from(number) - ratio.num
+    scaled(number, ratio) - ratio.num
 }
 
 /// How far a number is below a ratio, times the denominator.
@@ -57,7 +57,7 @@ fn below(number: i64, ratio: &Frac) -> i128
     requires { IsMeasured ratio.now }
     ensures { result ≡ (ratio.now.num -ℤ ratio.now.den *ℤ number) }
 {
-    ratio.num - ratio.den * i128::from(number)
+    ratio.num - scaled(number, ratio)
 }
 
 fn negated(number: i64) -> i128
@@ -111,28 +111,36 @@ fn is_under(number: i64, value: &Frac) -> bool
     requires { IsMeasured value.now }
     ensures { result ≡ is_under number (ratio_of value.now) }
 {
-    i128::from(number) * value.den < value.num
+    scaled(number, value) < value.num
 }
 
 fn is_over(number: i64, value: &Frac) -> bool
     requires { IsMeasured value.now }
     ensures { result ≡ is_over number (ratio_of value.now) }
 {
-    let scaled = i128::from(number) * value.den;
-    value.num < scaled
+    value.num < scaled(number, value)
 }
 
 fn is_within(number: i64, value: &Frac) -> bool
     requires { IsMeasured value.now }
     ensures { result ≡ is_within number (ratio_of value.now) }
 {
-    i128::from(number) * value.den <= value.num
+    scaled(number, value) <= value.num
 }
 
 fn is_from(number: i64, value: &Frac) -> bool
     requires { IsMeasured value.now }
     ensures { result ≡ is_from number (ratio_of value.now) }
 {
-    let scaled = i128::from(number) * value.den;
-    value.num <= scaled
+    value.num <= scaled(number, value)
+}
+
+/// A number times the denominator of a value.
+fn scaled(number: i64, value: &Frac) -> i128
+    requires { IsMeasured value.now }
+    ensures product { result ≡ number *ℤ value.now.den }
+    ensures turned { result ≡ value.now.den *ℤ number }
+    ensures small { nat_abs result ≤ 10 ^ 36 }
+{
+    i128::from(number) * value.den
 }
