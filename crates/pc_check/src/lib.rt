@@ -1,4 +1,4 @@
-//! The checker: it goes through the lines of a document, and finds the first one that breaks a rule.
+//! The checker: it judges search trees, trees of cuts, and the proof of each statement.
 #![tactic(auto)]
 
 mod bounds;

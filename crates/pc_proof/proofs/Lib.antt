@@ -14,6 +14,7 @@ pub mod Kept
 pub mod Lacks
 pub mod Masks
 pub mod Numbers
+pub mod Observing
 pub mod Parts
 pub mod Seen
 pub mod Shown

@@ -42,7 +42,7 @@ use Rattle.pc_proof.specs.Documents.{Premises}
 abbrev pub places : List Placed → List (ℕ × ℕ)
 places demands = map (λ (d : Placed). (d.line, d.rule)) demands
 
--- ---- the shop of the worked rows: a branch, a day and a price, of which two rows were observed
+-- ---- a shop: a branch, a day and a price, of which two rows were observed
 
 abbrev pub shop : Schema
 shop = record {
@@ -126,7 +126,7 @@ run_line times price = record { times = times; row = row 0 1 price } ∷ []
 
 -- ---- answers
 
--- that of the document of the paper: low 150.00, high 899.95 by five rows
+-- low 150.00, high 899.95 by five rows
 abbrev pub shop_answer : Answer
 shop_answer = record {
   relation = relations.Possible [];
