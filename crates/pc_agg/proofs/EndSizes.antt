@@ -27,7 +27,7 @@ use Rattle.pc_search.specs.declared.extreme.Extreme.TheVariants.{Low, High}
 use Rattle.pc_search.specs.Ends.{gain_towards, adds, signed, IsPick}
 use Rattle.pc_search.specs.Settings.{unseen}
 use Rattle.pc_search.proofs.ManyCells.{many_cells, worth_at_most}
-use Rattle.pc_search.proofs.RowNumbers.{asked_small}
+use Rattle.pc_proof.proofs.RowNumbers.{asked_small}
 use Rattle.pc_search.proofs.SettledPrograms.{have_rows}
 use Rattle.pc_agg.specs.declared.aim.Aim.{Aim}
 use Rattle.pc_agg.specs.Marks.{IsAim}

@@ -36,7 +36,7 @@ use Rattle.pc_search.specs.Ends.{signed}
 use Rattle.pc_search.specs.Fitting.{AreObserved}
 use Rattle.pc_search.specs.Keys.{key_of}
 use Rattle.pc_search.specs.Settings.{unseen}
-use Rattle.pc_search.proofs.RowNumbers.{asked_small}
+use Rattle.pc_proof.proofs.RowNumbers.{asked_small}
 use Rattle.pc_ratio.specs.declared.fractional.Fractional.{Fractional}
 use Rattle.pc_ratio.specs.Fractional.{most_sum, over_before}
 use Rattle.pc_ratio.specs.Highest.{IsAbove, IsLesser, fewest_rows}

@@ -13,7 +13,7 @@ use Rattle.pc_search.specs.declared.extreme.Extreme.{Extreme}
 use Rattle.pc_search.specs.declared.extreme.Extreme.TheVariants.{Low, High}
 use Rattle.pc_search.specs.Ends.{signed}
 use Rattle.pc_search.specs.Keys.{key_of, IsAtEnd}
-use Rattle.pc_search.proofs.RowNumbers.{asked_small}
+use Rattle.pc_proof.proofs.RowNumbers.{asked_small}
 
 signed_small : (extreme : Extreme) (n : ℤ) (most : ℕ) → nat_abs n ≤ most → nat_abs (signed extreme n) ≤ most
 signed_small Low n most small = omega (arith, ints, small)

@@ -6,5 +6,4 @@ mod Narrowed
 mod Owing
 mod Regions
 mod SameNodes
-mod SeenSums
 mod Telling

@@ -13,10 +13,10 @@ use Rattle.pc_model.specs.Accepted.{IsQuery}
 use Rattle.pc_model.specs.Regions.{is_region_of}
 use Rattle.pc_tree.specs.Linked.{IsDividedFor}
 use Rattle.pc_proof.specs.Unbroken.{AllowsName}
+use Rattle.pc_proof.proofs.NameParts.{narrowed_is_region}
 use Rattle.pc_group.specs.Trees.{AreDividedFor}
 use Rattle.pc_group.specs.Wanted.{Wanted, allowed_names, region_of, wanted, wanted_by, wanted_in, wanted_of}
 use Rattle.pc_group.proofs.GroupNames.{names_allowed}
-use Rattle.pc_group.proofs.Narrowed.{narrowed_is_region}
 
 -- ---- lists
 

@@ -3,10 +3,10 @@ ghost use Rattle.pc_model.specs.CutTrees.{side_at};
 ghost use Rattle.pc_model.specs.WellFormed.{IsWellFormed, HasFewNames};
 ghost use Rattle.pc_group.specs.Wanted.{Wanted, allowed_names, is_allowed, names_at, names_in, region_of, wanted, wanted_by, wanted_of};
 
-use crate::narrowing::narrowed;
 use pc_list::Seq;
 use pc_model::{Kind, Query, Region, Schema, Side};
 use pc_num::Memory;
+use pc_proof::narrowed;
 use std::alloc::Global;
 
 /// The regions of the blocks that the queries want.

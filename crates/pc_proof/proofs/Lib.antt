@@ -13,10 +13,13 @@ pub mod Groups
 pub mod Kept
 pub mod Lacks
 pub mod Masks
+pub mod NameParts
 pub mod Numbers
 pub mod Observing
 pub mod Parts
+pub mod RowNumbers
 pub mod Seen
+pub mod SeenSums
 pub mod Shown
 pub mod Sound
 pub mod TreeLines

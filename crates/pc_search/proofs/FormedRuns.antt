@@ -24,7 +24,7 @@ use Rattle.pc_witness.specs.Checks.{rows_under}
 use Rattle.pc_witness.proofs.Checks.{count-rows_of}
 use Rattle.pc_witness.proofs.Repeats.{All-from_repeats}
 use Rattle.pc_proof.specs.Form.{IsFormedCell, IsFormedCellOf, AreFormedRuns}
-use Rattle.pc_search.proofs.RowNumbers.{between_small}
+use Rattle.pc_proof.proofs.RowNumbers.{between_small}
 
 -- ---- numbers
 

@@ -14,7 +14,6 @@ pub mod ManyCells
 pub mod OneBits
 pub mod Probing
 pub mod ProgramEnds
-pub mod RowNumbers
 pub mod SettledPrograms
 pub mod Shorts
 pub mod Sizes

@@ -11,7 +11,7 @@ use Rattle.pc_group.specs.Wanted.{Wanted, wanted_of}
 use Rattle.pc_group.specs.Written.{AreBlocksOf}
 use Rattle.pc_group.proofs.GroupNames.{different_names, names_allowed}
 use Rattle.pc_group.proofs.Regions.{grouped}
-use Rattle.pc_group.proofs.SeenSums.{each_small}
+use Rattle.pc_proof.proofs.SeenSums.{each_small}
 use Rattle.pc_group.proofs.answering.answer_group.Goals as goal
 
 pub fold_each-requires-clause-once : goal.fold_each-requires-clause-once

@@ -1,6 +1,6 @@
 use Rattle.std.proofs.Common.{None}
 use Rattle.pc_group.proofs.Regions.{divided_alone}
-use Rattle.pc_group.proofs.SeenSums.{seen_small}
+use Rattle.pc_proof.proofs.SeenSums.{seen_small}
 use Rattle.pc_group.proofs.answering.answer_query.Goals as goal
 
 pub answer_block-requires-clause-small_seen : goal.answer_block-requires-clause-small_seen

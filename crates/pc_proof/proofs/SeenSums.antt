@@ -12,7 +12,7 @@ use Rattle.pc_model.specs.Aggregate.{asked, kept, is_in_group, int_sum, number_a
 use Rattle.pc_model.specs.Folds.{IsFold, sum_at}
 use Rattle.pc_model.specs.Membership.{has, in_domain}
 use Rattle.pc_model.specs.WellFormed.{IsWellFormed}
-use Rattle.pc_search.proofs.RowNumbers.{asked_small}
+use Rattle.pc_proof.proofs.RowNumbers.{asked_small}
 
 sum_small : (f : Row → ℤ) (rows : List Row) → All (λ row. nat_abs (f row) ≤ 10 ^ 15) rows → nat_abs (int_sum (map f rows)) ≤ length rows * 10 ^ 15
 sum_small f [] each = omega arith
