@@ -1,11 +1,1 @@
-pub mod Cells
-pub mod CutLines
-pub mod Cuts
-pub mod Findings
-pub mod Fractions
-pub mod Lines
-pub mod Programs
-pub mod Scene
-pub mod Shown
-pub mod Statements
-pub mod Walk
+pub mod Verdicts

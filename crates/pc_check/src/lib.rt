@@ -1,23 +1,10 @@
-//! The checker: it judges search trees, trees of cuts, and the proof of each statement.
+//! The checker: whether a document breaks no rule, or the first line that breaks one.
 #![tactic(auto)]
 
-mod bounds;
-mod cells;
-mod cuts;
-mod ends;
-mod extreme;
-mod finding;
-mod fractions;
-mod gains;
-mod numbers;
-mod programs;
-mod ratios;
-mod scene;
-mod settled;
-mod shown;
-mod statements;
-#[cfg(test)]
-mod tests;
-mod tree_line;
-mod trees;
-mod walk;
+mod answers;
+mod document;
+mod matter;
+mod verdict;
+
+pub use document::check;
+pub use verdict::Verdict;

@@ -1,0 +1,11 @@
+pub mod Cells
+pub mod CutLines
+pub mod Cuts
+pub mod Findings
+pub mod Fractions
+pub mod Lines
+pub mod Programs
+pub mod Scene
+pub mod Shown
+pub mod Statements
+pub mod Walk
