@@ -1,5 +1,6 @@
 pub mod BlockFormats
 pub mod BlockSteps
+pub mod Counting
 pub mod CutPlacing
 pub mod CutSteps
 pub mod CutsFormat

@@ -1,7 +1,8 @@
-ghost use Rattle.std.specs.Prelude.{◌≡◌, ℕ, List, Ok};
+ghost use Rattle.std.specs.Prelude.{◌≡◌, ◌+◌, ◌≤◌, ℕ, List, length, Ok};
 ghost use Rattle.pc_model.specs.WellFormed.{IsWellFormed};
 ghost use Rattle.pc_model.specs.declared.schema.Schema.{Schema};
 ghost use Rattle.pc_proof.specs.declared.document.Document.{Document};
+ghost use Rattle.pc_proof.specs.Counts.{blocks_count};
 ghost use Rattle.pc_document.specs.Reading.{document_of};
 ghost use Rattle.pc_document.specs.Told.{IsDocumentText, Told};
 
@@ -18,4 +19,9 @@ pub fn reading_tells()
 /// Bytes are the text of at most one document in form.
 pub fn one_document()
     ensures { (schema : Schema) (bytes : List ℕ) (doc other : Document) → IsWellFormed schema → IsDocumentText schema bytes doc → IsDocumentText schema bytes other → doc ≡ other }
+{}
+
+/// A document has no more lines than its text has bytes.
+pub fn lines_are_bytes()
+    ensures { (schema : Schema) (bytes : List ℕ) (doc : Document) → IsDocumentText schema bytes doc → 2 + blocks_count doc.blocks ≤ length bytes }
 {}

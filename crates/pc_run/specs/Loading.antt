@@ -4,7 +4,7 @@ use Rattle.pc_model.specs.declared.fault.FileKind.{FileKind}
 use Rattle.pc_model.specs.declared.fault.FileKind.TheVariants as kinds
 use Rattle.pc_base.specs.Counts.{Rose}
 use Rattle.pc_base.specs.Files.{Files, IsAbsent}
-use Rattle.pc_words.specs.Words.{Asked, bound, show, gen}
+use Rattle.pc_words.specs.Words.{Asked, bound, prove, check, show, gen}
 use Rattle.pc_run.specs.declared.stop.Stop.{Stop}
 use Rattle.pc_run.specs.declared.stop.Stop.TheVariants as stops
 use Rattle.pc_run.specs.Outcome.{Obstacle, refused}
@@ -23,12 +23,21 @@ HasCause told name before now (Err (stops.Refused fault)) = ⊤
 HasCause told name before now (Err (stops.Unread kind)) = Rose before now ⊎ IsAbsent told name
 HasCause told name before now (Err stops.Memory) = ⊤
 
--- the name of a file of a command, if it has that file; no document is named yet
+-- the name of a file of a command, if it has that file
 abbrev pub name_of : Asked → FileKind → List ℕ
 name_of (bound names) kinds.Schema = names.schema
 name_of (bound names) kinds.Rows = names.rows
 name_of (bound names) kinds.Constraints = names.constraints
 name_of (bound names) other = []
+name_of (prove names) kinds.Schema = names.schema
+name_of (prove names) kinds.Rows = names.rows
+name_of (prove names) kinds.Constraints = names.constraints
+name_of (prove names) other = []
+name_of (check names) kinds.Schema = names.schema
+name_of (check names) kinds.Rows = names.rows
+name_of (check names) kinds.Constraints = names.constraints
+name_of (check names) kinds.Document = names.document
+name_of (check names) other = []
 name_of (show names) kinds.Schema = names.schema
 name_of (show names) kinds.Constraints = names.constraints
 name_of (show names) other = []

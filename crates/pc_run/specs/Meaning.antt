@@ -1,14 +1,16 @@
 -- What the status of a run means for the files, the words and what was written.
-use Rattle.std.specs.Prelude.{◌≡◌, ℕ, ◌⊎◌, ◌++◌, take, List, Option, Some, None, Ok, Err, IfSome}
+use Rattle.std.specs.Prelude.{◌≡◌, ℕ, ◌⊎◌, ◌++◌, take, List, Option, Some, None, Ok, Err, IfSome, IsSomeAnd}
 use Rattle.pc_model.specs.declared.fault.FileKind.{FileKind}
 use Rattle.pc_model.specs.declared.fault.Fault.{Fault}
 use Rattle.pc_base.specs.declared.status.Status.{Status}
 use Rattle.pc_base.specs.declared.status.Status.TheVariants as ended
 use Rattle.pc_base.specs.Counts.{Rose}
 use Rattle.pc_base.specs.Files.{Files}
-use Rattle.pc_words.specs.Words.{Asked, command_of}
-use Rattle.pc_run.specs.Outcome.{Input, refused, ComesTo, AreAccepted}
-use Rattle.pc_run.specs.Replies.{SaysInput, IsUnread}
+use Rattle.pc_words.specs.Words.{Asked, CheckNames, bound, prove, check, show, gen, command_of}
+use Rattle.pc_rows.specs.declared.case.Case.{Case}
+use Rattle.pc_run.specs.declared.claim.Claim.{Claim}
+use Rattle.pc_run.specs.Outcome.{Input, refused, claim_under, ComesTo, AreAccepted}
+use Rattle.pc_run.specs.Replies.{SaysInput, SaysProof, IsUnread}
 use Rattle.pc_run.specs.Reports.{usage_line, fault_line, malformed_line}
 
 -- what a run is given and what it leaves: the files, where the shelf tells them, and the bytes that the sink holds before
@@ -48,22 +50,24 @@ pub record IsCutOff (call : Call) (text : List ℕ) : Type 0 where
 abbrev pub IsTold : Call → List ℕ → Type 0
 IsTold call line = IsWritten call line ⊎ IsCutOff call line
 
--- the words are a command whose files are accepted, and this is what is said of them
-pub record IsAnswered (call : Call) (text : List ℕ) : Type 0 where
+-- the words are a command whose files are accepted, and this is what is said of them, with this status
+pub record IsAnswered (call : Call) (status : Status) (text : List ℕ) : Type 0 where
   pub asked : Asked
   pub command : command_of call.words ≡ Some asked
   pub input : Input
   pub agrees : ComesTo call.files asked (Ok input)
-  pub says : SaysInput input text
+  pub says : SaysInput input status text
 
-pub record IsDone (call : Call) : Type 0 where
+-- what is said was written
+pub record HasEnded (call : Call) (status : Status) : Type 0 where
   pub text : List ℕ
-  pub answered : IsAnswered call text
+  pub answered : IsAnswered call status text
   pub written : IsWritten call text
 
 pub record HasWriteFault (call : Call) : Type 0 where
+  pub status : Status
   pub text : List ℕ
-  pub answered : IsAnswered call text
+  pub answered : IsAnswered call status text
   pub cut_off : IsCutOff call text
 
 pub record IsNoCommand (call : Call) : Type 0 where
@@ -87,8 +91,8 @@ pub record HasReadFault (call : Call) : Type 0 where
   pub told : IsTold call (fault_line file)
 
 abbrev pub Means : Call → Status → Type 0
-Means call ended.Done = IsDone call
-Means call ended.SaidNo = ⊥
+Means call ended.Done = HasEnded call ended.Done
+Means call ended.SaidNo = HasEnded call ended.SaidNo
 Means call ended.Usage = IsNoCommand call
 Means call ended.Malformed = IsRefused call
 Means call ended.ReadFault = HasReadFault call
@@ -103,7 +107,34 @@ pub record IsAnswerable (call : Call) : Type 0 where
   pub loads : ¬ Rose call.loads_before call.loads_after
   pub puts : ¬ Rose call.puts_before call.puts_after
 
--- such a run is done, or there was no memory for it
+-- such a run is done, or says no where a document is checked, or there was no memory for it
+abbrev pub IsAnswer : Asked → Status → Type 0
+IsAnswer (bound names) status = status ≡ ended.Done
+IsAnswer (prove names) status = status ≡ ended.Done
+IsAnswer (check names) status = (status ≡ ended.Done) ⊎ (status ≡ ended.SaidNo)
+IsAnswer (show names) status = status ≡ ended.Done
+IsAnswer (gen numbers) status = status ≡ ended.Done
+
+abbrev pub IsAnswerUnlessMemory : Asked → Status → Type 0
+IsAnswerUnlessMemory asked status = IsAnswer asked status ⊎ (status ≡ ended.Memory)
+
+-- The words check a document that is held and not too long, which `prove` wrote for the same schema, observed rows and
+-- constraints, whatever the queries and the budget were; and no load and no put failed.
+pub record ChecksProof (call : Call) : Type 0 where
+  pub names : CheckNames
+  pub command : command_of call.words ≡ Some (check names)
+  pub claim : Claim
+  pub held : IsSomeAnd call.files (λ files. claim_under names files ≡ Ok claim)
+  pub nodes : ℕ
+  pub case : Case
+  pub same_schema : claim.schema ≡ case.schema
+  pub same_rows : claim.rows ≡ case.rows
+  pub same_constraints : claim.constraints ≡ case.constraints
+  pub proof : SaysProof nodes case claim.bytes
+  pub loads : ¬ Rose call.loads_before call.loads_after
+  pub puts : ¬ Rose call.puts_before call.puts_after
+
+-- it says yes to such a document
 abbrev pub IsDoneUnlessMemory : Status → Type 0
 IsDoneUnlessMemory status = (status ≡ ended.Done) ⊎ (status ≡ ended.Memory)
 

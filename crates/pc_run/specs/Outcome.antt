@@ -15,8 +15,9 @@ use Rattle.pc_base.specs.Files.{Files, file_of}
 use Rattle.pc_schema.specs.SchemaFile.{schema_of}
 use Rattle.pc_rows.specs.RowFile.{rows_of}
 use Rattle.pc_lang.specs.Files.{constraints_of, query_at}
+use Rattle.pc_run.specs.declared.claim.Claim.{Claim}
 use Rattle.pc_run.specs.declared.listing.Listing.{Listing}
-use Rattle.pc_words.specs.Words.{BoundNames, ShowNames, GenNumbers, Asked, bound, show, gen}
+use Rattle.pc_words.specs.Words.{BoundNames, CheckNames, ShowNames, GenNumbers, Asked, bound, prove, check, show, gen}
 
 -- a file or query that is refused, or a file that is not held
 pub data Obstacle : Type 0 where
@@ -31,10 +32,21 @@ abbrev pub and_then : {X Y : Type 0} → Result X Obstacle → (X → Result Y O
 and_then (Ok x) next = next x
 and_then (Err obstacle) next = Err obstacle
 
+-- a document may be longer than other files
+abbrev pub document_limit : ℕ
+document_limit = 268435456
+
+abbrev pub limit_of : FileKind → ℕ
+limit_of kinds.Schema = file_limit
+limit_of kinds.Rows = file_limit
+limit_of kinds.Constraints = file_limit
+limit_of kinds.Query = file_limit
+limit_of kinds.Document = document_limit
+
 -- the bytes of a file that is held and not too long
 abbrev pub bytes_in : FileKind → Option (List ℕ) → Result (List ℕ) Obstacle
 bytes_in file None = Err (absent file)
-bytes_in file (Some bytes) = if nat_lt file_limit (length bytes) then Err (refused (fault_at file 0 reasons.TooLong)) else Ok bytes
+bytes_in file (Some bytes) = if nat_lt (limit_of file) (length bytes) then Err (refused (fault_at file 0 reasons.TooLong)) else Ok bytes
 
 unfoldable pub bytes_under : FileKind → List ℕ → Files → Result (List ℕ) Obstacle
 bytes_under file name files = bytes_in file (file_of files name)
@@ -57,7 +69,7 @@ queries_from schema place (text ∷ texts) =
 abbrev pub queries_of : Schema → List (List ℕ) → Result (List Query) Fault
 queries_of schema texts = queries_from schema 1 texts
 
--- of `bound`: the files in their order, then the queries
+-- of `bound` and `prove`: the files in their order, then the queries
 unfoldable pub case_under : BoundNames → Files → Result Case Obstacle
 case_under names files =
     and_then (schema_under names.schema files) (λ schema.
@@ -66,6 +78,15 @@ case_under names files =
     and_then (or_refused (queries_of schema names.queries)) (λ queries.
     Ok (record { schema = schema; rows = rows; constraints = constraints; queries = queries })))))
 
+-- of `check`: the files in their order, and the bytes of the document
+unfoldable pub claim_under : CheckNames → Files → Result Claim Obstacle
+claim_under names files =
+    and_then (schema_under names.schema files) (λ schema.
+    and_then (rows_under schema names.rows files) (λ rows.
+    and_then (constraints_under schema names.constraints files) (λ constraints.
+    and_then (bytes_under kinds.Document names.document files) (λ bytes.
+    Ok (record { schema = schema; rows = rows; constraints = constraints; bytes = bytes })))))
+
 -- of `show`: the files in their order
 unfoldable pub listing_under : ShowNames → Files → Result Listing Obstacle
 listing_under names files =
@@ -73,34 +94,38 @@ listing_under names files =
     and_then (constraints_under schema names.constraints files) (λ constraints.
     Ok (record { schema = schema; constraints = constraints })))
 
--- what a command comes to with its files: a case that is asked about, by searches of at most so many nodes each,
--- constraints that are shown, or a case that is made
+-- what a command comes to with its files: a case that is asked about, or answered with proofs, by searches of at most so
+-- many nodes each; a document that is checked; constraints that are shown; or a case that is made
 pub data Input : Type 0 where
   asks : (nodes : ℕ) → Case → Input
+  proves : (nodes : ℕ) → Case → Input
+  claims : Claim → Input
   shows : Listing → Input
   makes : GenNumbers → Input
 
-abbrev pub asking : ℕ → Result Case Obstacle → Result Input Obstacle
-asking nodes (Ok case) = Ok (asks nodes case)
-asking nodes (Err obstacle) = Err obstacle
-
-abbrev pub showing : Result Listing Obstacle → Result Input Obstacle
-showing (Ok listing) = Ok (shows listing)
-showing (Err obstacle) = Err obstacle
+abbrev pub as_input : {X : Type 0} → (X → Input) → Result X Obstacle → Result Input Obstacle
+as_input input (Ok x) = Ok (input x)
+as_input input (Err obstacle) = Err obstacle
 
 abbrev pub accepted_under : Asked → Files → Result Input Obstacle
-accepted_under (bound names) files = asking names.nodes (case_under names files)
-accepted_under (show names) files = showing (listing_under names files)
+accepted_under (bound names) files = as_input (asks names.nodes) (case_under names files)
+accepted_under (prove names) files = as_input (proves names.nodes) (case_under names files)
+accepted_under (check names) files = as_input claims (claim_under names files)
+accepted_under (show names) files = as_input shows (listing_under names files)
 accepted_under (gen numbers) files = Ok (makes numbers)
 
 -- where the shelf tells its files, the command comes to this with them; a case that is made needs none
 abbrev pub ComesTo : Option Files → Asked → Result Input Obstacle → Type 0
 ComesTo told (bound names) outcome = IfSome told (λ files. accepted_under (bound names) files ≡ outcome)
+ComesTo told (prove names) outcome = IfSome told (λ files. accepted_under (prove names) files ≡ outcome)
+ComesTo told (check names) outcome = IfSome told (λ files. accepted_under (check names) files ≡ outcome)
 ComesTo told (show names) outcome = IfSome told (λ files. accepted_under (show names) files ≡ outcome)
 ComesTo told (gen numbers) outcome = Ok (makes numbers) ≡ outcome
 
 -- the shelf tells files that are held and accepted; a case that is made needs none
 abbrev pub AreAccepted : Option Files → Asked → Type 0
 AreAccepted told (bound names) = IsSomeAnd told (λ files. IsOk (accepted_under (bound names) files))
+AreAccepted told (prove names) = IsSomeAnd told (λ files. IsOk (accepted_under (prove names) files))
+AreAccepted told (check names) = IsSomeAnd told (λ files. IsOk (accepted_under (check names) files))
 AreAccepted told (show names) = IsSomeAnd told (λ files. IsOk (accepted_under (show names) files))
 AreAccepted told (gen numbers) = ⊤

@@ -13,18 +13,24 @@ use Rattle.pc_base.specs.Counts.{Rose}
 use Rattle.pc_base.specs.Files.{Files, IsAbsent}
 use Rattle.pc_proof.specs.declared.document.Document.{Document}
 use Rattle.pc_proof.specs.declared.document.Block.{Block}
+use Rattle.pc_proof.specs.Documents.{Premises, AreRight, AreUnbroken, IsFirstBrokenIn}
 use Rattle.pc_proof.specs.Unbroken.{plain_relation}
+use Rattle.pc_document.specs.DocumentLines.{document_text}
+use Rattle.pc_document.specs.Told.{IsDocumentText, IsFaultLine}
 use Rattle.pc_report.specs.Report.{report_text}
 use Rattle.pc_report.specs.Summary.{summary_text}
 use Rattle.pc_gen.specs.Generated.{generated_case}
 use Rattle.pc_rows.specs.declared.case.Case.{Case}
 use Rattle.pc_run.specs.declared.stop.Stop.{Stop}
 use Rattle.pc_run.specs.declared.stop.Stop.TheVariants as stops
-use Rattle.pc_words.specs.Words.{Asked, bound, show, gen, command_of, usual_nodes}
-use Rattle.pc_run.specs.Outcome.{Obstacle, refused, absent, Input, asks, shows, makes, schema_under, rows_under, ComesTo}
+use Rattle.pc_words.specs.Words.{Asked, bound, prove, check, show, gen, command_of, usual_nodes}
+use Rattle.pc_run.specs.Outcome.{Obstacle, refused, absent, Input, asks, proves, claims, shows, makes, schema_under, rows_under, constraints_under, ComesTo}
 use Rattle.pc_run.specs.Loading.{name_of}
-use Rattle.pc_run.specs.Reports.{usage_line, fault_line, malformed_line, listing_of}
+use Rattle.pc_run.specs.Reports.{usage_line, fault_line, malformed_line, listing_of, yes_line, no_line}
 use Rattle.pc_run.specs.Answers.{AnswersCase}
+use Rattle.pc_check.specs.declared.verdict.Verdict.{Verdict}
+use Rattle.pc_check.specs.declared.verdict.Verdict.TheVariants as verdicts
+use Rattle.pc_run.specs.declared.claim.Claim.{Claim}
 use Rattle.pc_run.specs.declared.listing.Listing.{Listing}
 
 -- what the answer and its report need of what was read
@@ -33,6 +39,12 @@ pub record IsSound (case : Case) : Type 0 where
   pub seen : AllPass (in_domain case.schema) case.rows
   pub accepted : AreConstraints case.schema case.constraints
   pub asked : All (IsQuery case.schema) case.queries
+
+-- what the check of a document needs of what was read
+pub record IsCheckable (claim : Claim) : Type 0 where
+  pub well_formed : IsWellFormed claim.schema
+  pub seen : AllPass (in_domain claim.schema) claim.rows
+  pub accepted : AreConstraints claim.schema claim.constraints
 
 -- what the text of constraints needs of what was read
 pub record IsShowable (listing : Listing) : Type 0 where
@@ -45,6 +57,12 @@ IsReached told (gen numbers) file = ⊥
 IsReached told asked kinds.Schema = ⊤
 IsReached told (bound names) kinds.Rows = IfSome told (λ files. IsOk (schema_under names.schema files))
 IsReached told (bound names) kinds.Constraints = IfSome told (λ files. IsOkAnd (schema_under names.schema files) (λ schema. IsOk (rows_under schema names.rows files)))
+IsReached told (prove names) kinds.Rows = IfSome told (λ files. IsOk (schema_under names.schema files))
+IsReached told (prove names) kinds.Constraints = IfSome told (λ files. IsOkAnd (schema_under names.schema files) (λ schema. IsOk (rows_under schema names.rows files)))
+IsReached told (check names) kinds.Rows = IfSome told (λ files. IsOk (schema_under names.schema files))
+IsReached told (check names) kinds.Constraints = IfSome told (λ files. IsOkAnd (schema_under names.schema files) (λ schema. IsOk (rows_under schema names.rows files)))
+IsReached told (check names) kinds.Document =
+    IfSome told (λ files. IsOkAnd (schema_under names.schema files) (λ schema. IsOk (rows_under schema names.rows files) × IsOk (constraints_under schema names.constraints files)))
 IsReached told (show names) kinds.Constraints = IfSome told (λ files. IsOk (schema_under names.schema files))
 IsReached told asked other = ⊥
 
@@ -76,6 +94,60 @@ pub record SaysReport (nodes : ℕ) (case : Case) (text : List ℕ) : Type 0 whe
   pub answers : AnswersCase nodes case document
   pub reported : text ≡ report_text case.schema document
 
+-- the text is that of a document that answers the case, by searches of at most so many nodes each
+pub record SaysProof (nodes : ℕ) (case : Case) (text : List ℕ) : Type 0 where
+  pub document : Document
+  pub answers : AnswersCase nodes case document
+  pub proved : text ≡ document_text case.schema document
+
+-- ---- the verdict on a document
+
+abbrev pub premises_for : Claim → Premises
+premises_for claim = record { schema = claim.schema; observed = claim.rows; constraints = claim.constraints }
+
+-- the bytes are the text of a document that breaks no rule, and each of its blocks is right
+pub record IsUnbrokenText (claim : Claim) : Type 0 where
+  pub document : Document
+  pub spelled : IsDocumentText claim.schema claim.bytes document
+  pub unbroken : AreUnbroken (premises_for claim) None document.blocks
+  pub right : AreRight (premises_for claim) document.blocks
+
+-- this line of the document that the bytes spell is the first that breaks a rule, which this is
+pub record BreaksRule (claim : Claim) (line rule : ℕ) : Type 0 where
+  pub document : Document
+  pub spelled : IsDocumentText claim.schema claim.bytes document
+  pub first : IsFirstBrokenIn (premises_for claim) None 2 line rule document.blocks
+
+-- the bytes are the text of no document, and this is the line of the first fault
+pub record IsNoDocument (claim : Claim) (line rule : ℕ) : Type 0 where
+  pub fault : IsFaultLine claim.schema claim.bytes line
+  pub first_rule : rule ≡ 1
+
+-- the first rule that is broken, with its line
+abbrev pub BreaksFirst : Claim → ℕ → ℕ → Type 0
+BreaksFirst claim line rule = IsNoDocument claim line rule ⊎ BreaksRule claim line rule
+
+abbrev pub HasVerdict : Claim → Verdict → Type 0
+HasVerdict claim verdicts.Yes = IsUnbrokenText claim
+HasVerdict claim (verdicts.No line rule) = BreaksFirst claim line rule
+
+abbrev pub status_of : Verdict → Status
+status_of verdicts.Yes = ended.Done
+status_of (verdicts.No line rule) = ended.SaidNo
+
+abbrev pub verdict_line : Verdict → List ℕ
+verdict_line verdicts.Yes = yes_line
+verdict_line (verdicts.No line rule) = no_line line rule
+
+-- the status and the text say what the verdict is
+pub record SaysVerdict (claim : Claim) (status : Status) (text : List ℕ) : Type 0 where
+  pub verdict : Verdict
+  pub holds : HasVerdict claim verdict
+  pub ended : status ≡ status_of verdict
+  pub said : text ≡ verdict_line verdict
+
+-- ---- made cases
+
 -- a block that does not say that no relation is possible
 abbrev pub IsPossibleBlock : Block → Type 0
 IsPossibleBlock block = is_impossible (plain_relation block.answer.relation) ≡ false
@@ -93,14 +165,16 @@ pub record SaysListing (listing : Listing) (text : List ℕ) : Type 0 where
   pub means : IsTrue disjoint ↔ AreDisjoint listing.schema listing.constraints
   pub listed : text ≡ listing_of listing disjoint
 
-abbrev pub SaysInput : Input → List ℕ → Type 0
-SaysInput (asks nodes case) text = SaysReport nodes case text
-SaysInput (shows listing) text = SaysListing listing text
-SaysInput (makes numbers) text = SaysSummary (generated_case numbers.seed numbers.size) text
+abbrev pub SaysInput : Input → Status → List ℕ → Type 0
+SaysInput (asks nodes case) status text = (status ≡ ended.Done) × SaysReport nodes case text
+SaysInput (proves nodes case) status text = (status ≡ ended.Done) × SaysProof nodes case text
+SaysInput (claims claim) status text = SaysVerdict claim status text
+SaysInput (shows listing) status text = (status ≡ ended.Done) × SaysListing listing text
+SaysInput (makes numbers) status text = (status ≡ ended.Done) × SaysSummary (generated_case numbers.seed numbers.size) text
 
 -- the reply to files that are accepted, or refused
 abbrev pub Says : Result Input Obstacle → Status → List ℕ → Type 0
-Says (Ok input) status text = (status ≡ ended.Done) × SaysInput input text
+Says (Ok input) status text = SaysInput input status text
 Says (Err (refused fault)) status text = (status ≡ ended.Malformed) × (text ≡ malformed_line fault)
 Says (Err (absent file)) status text = ⊥
 

@@ -22,6 +22,13 @@ abbrev pub malformed_line : Fault → List ℕ
 malformed_line fault =
     concat (codes "malformed " ∷ file_name_of fault.file ∷ codes " at " ∷ decimal fault.place ∷ codes ": reason " ∷ decimal (number_of fault.reason) ∷ codes " " ∷ name_of fault.reason ∷ line_break ∷ [])
 
+abbrev pub yes_line : List ℕ
+yes_line = codes "yes" ++ line_break
+
+-- the first line that breaks a rule, and the number of the rule
+abbrev pub no_line : ℕ → ℕ → List ℕ
+no_line line rule = concat (codes "no line " ∷ decimal line ∷ codes " rule " ∷ decimal rule ∷ line_break ∷ [])
+
 abbrev pub disjoint_line : Bool → List ℕ
 disjoint_line answer = if answer then codes "disjoint yes" ++ line_break else codes "disjoint no" ++ line_break
 

@@ -3,8 +3,8 @@ ghost use Rattle.pc_model.specs.Accepted.{IsQuery};
 ghost use Rattle.pc_model.specs.Refusals.{Gives};
 ghost use Rattle.pc_model.specs.WellFormed.{IsWellFormed, HaveFewNames};
 ghost use Rattle.pc_words.specs.Commands.{bound_names};
-ghost use Rattle.pc_words.specs.Words.{bound};
-ghost use Rattle.pc_run.specs.Outcome.{asks, queries_of};
+ghost use Rattle.pc_words.specs.Words.{bound, prove};
+ghost use Rattle.pc_run.specs.Outcome.{asks, proves, queries_of};
 ghost use Rattle.pc_run.specs.Replies.{InputAgrees, IsSound};
 
 use crate::loading::{load_constraints, load_rows, load_schema};
@@ -17,13 +17,14 @@ use pc_rows::Case;
 use pc_words::Bound;
 use std::alloc::Global;
 
-/// Reads the files of `bound` in their order, and then its queries.
+/// Reads the files of `bound` or `prove` in their order, and then its queries.
 pub(crate) fn read_case<F: Shelf>(
     alloc: Global,
     files: &mut F,
     command: &Bound,
 ) -> Result<Case, Stop>
     ensures agrees { InputAgrees (asks command.now.nodes) (F.files files.old) (bound (bound_names command.now)) (F.faults files.old) (F.faults files.new) result }
+    ensures proves { InputAgrees (proves command.now.nodes) (F.files files.old) (prove (bound_names command.now)) (F.faults files.old) (F.faults files.new) result }
     ensures sound { IfOk result IsSound }
     ensures files_stay { F.files files.new ≡ F.files files.old }
     ensures faults_stay { F.faults files.old ≤ F.faults files.new }

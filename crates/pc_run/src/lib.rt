@@ -3,9 +3,10 @@
 
 ghost use Rattle.std.specs.Prelude.{◌≡◌, ◌≤◌, ◌+◌, map, string_bytes};
 ghost use Rattle.pc_words.specs.Words.{command_of, file_count};
-ghost use Rattle.pc_run.specs.Meaning.{Call, Means, IsAnswerable, IsDoneUnlessMemory, call_of, after_failed_put};
+ghost use Rattle.pc_run.specs.Meaning.{Call, ChecksProof, Means, IsAnswerUnlessMemory, IsAnswerable, IsDoneUnlessMemory, call_of, after_failed_put};
 
 mod case;
+mod claim;
 mod line;
 mod listing;
 mod loading;
@@ -13,6 +14,7 @@ mod making;
 mod reply;
 mod show;
 mod stop;
+mod verdict;
 
 use pc_base::{Put, Shelf, Sink, Status};
 use reply::respond;
@@ -22,7 +24,8 @@ use std::alloc::Global;
 /// refusal by at most one put.
 pub fn run<F: Shelf, K: Sink>(alloc: Global, words: &[String], files: &mut F, out: &mut K) -> Status
     ensures means { Means (call_of (F.files files.old) (K.kept out.old) (K.kept out.new) (map string_bytes words.now) (F.faults files.old) (F.faults files.new) (K.faults out.old) (K.faults out.new)) result }
-    ensures answers { IsAnswerable (call_of (F.files files.old) (K.kept out.old) (K.kept out.new) (map string_bytes words.now) (F.faults files.old) (F.faults files.new) (K.faults out.old) (K.faults out.new)) → IsDoneUnlessMemory result }
+    ensures answers { (can : IsAnswerable (call_of (F.files files.old) (K.kept out.old) (K.kept out.new) (map string_bytes words.now) (F.faults files.old) (F.faults files.new) (K.faults out.old) (K.faults out.new))) → IsAnswerUnlessMemory can.asked result }
+    ensures agrees { ChecksProof (call_of (F.files files.old) (K.kept out.old) (K.kept out.new) (map string_bytes words.now) (F.faults files.old) (F.faults files.new) (K.faults out.old) (K.faults out.new)) → IsDoneUnlessMemory result }
     ensures files_stay { F.files files.new ≡ F.files files.old }
     ensures loads { F.calls files.new ≤ F.calls files.old + file_count (command_of (map string_bytes words.now)) }
     ensures puts { K.calls out.new ≤ K.calls out.old + 1 }

@@ -1,6 +1,8 @@
 ghost use Rattle.std.specs.Prelude.{◌≡◌, IfOk, string_bytes};
+ghost use Rattle.pc_run.specs.Replies.{verdict_line};
 ghost use Rattle.pc_run.specs.Reports.{usage_line, fault_line, malformed_line};
 
+use pc_check::Verdict;
 use pc_model::{Fault, FileKind};
 use std::alloc::{AllocError, Global};
 
@@ -12,6 +14,16 @@ pub(crate) fn usage_line(alloc: Global) -> Result<String, AllocError>
         alloc,
         "usage: pc bound|prove [--nodes N] SCHEMA ROWS CONSTRAINTS QUERY... | pc check SCHEMA ROWS CONSTRAINTS DOCUMENT | pc show SCHEMA CONSTRAINTS | pc gen SEED SIZE\n",
     )
+}
+
+/// The line that says what the verdict on a document is.
+pub(crate) fn verdict_line(alloc: Global, verdict: Verdict) -> Result<String, AllocError>
+    ensures { IfOk result (λ text. string_bytes text ≡ verdict_line verdict) }
+{
+    match verdict {
+        Verdict::Yes => String::from_str(alloc, "yes\n"),
+        Verdict::No { line, rule } => format!(in alloc; "no line {line} rule {rule}\n"),
+    }
 }
 
 /// The line for a file that could not be read.

@@ -7,7 +7,7 @@ ghost use Rattle.pc_model.specs.Membership.{in_domain};
 ghost use Rattle.pc_model.specs.Refusals.{fault_at};
 ghost use Rattle.pc_model.specs.WellFormed.{IsWellFormed, HaveFewNames};
 ghost use Rattle.pc_base.specs.Counts.{RoseByOne};
-ghost use Rattle.pc_run.specs.Outcome.{bytes_under, schema_under, rows_under, constraints_under};
+ghost use Rattle.pc_run.specs.Outcome.{bytes_under, limit_of, schema_under, rows_under, constraints_under};
 ghost use Rattle.pc_run.specs.Loading.{Agrees, HasCause};
 
 use crate::stop::Stop;
@@ -18,6 +18,9 @@ use pc_model::{Constraint, FILE_LIMIT, Fault, FileKind, Reason, Schema};
 use pc_rows::{Rows, read_rows};
 use pc_schema::read_schema;
 use std::alloc::Global;
+
+/// The greatest number of bytes of a document.
+const DOCUMENT_LIMIT: usize = 268_435_456;
 
 /// Loads the bytes of a file.
 fn load_bytes<F: Shelf>(
@@ -33,11 +36,21 @@ fn load_bytes<F: Shelf>(
     ensures one_call { RoseByOne (F.calls files.old) (F.calls files.new) }
 {
     let mut bytes = Vec::new(alloc);
-    match files.load(alloc, name, &mut bytes, FILE_LIMIT) {
+    match files.load(alloc, name, &mut bytes, limit_of(file)) {
         Loaded::Whole => Ok(Seq::from_vec(bytes)),
         Loaded::Long => Err(Stop::Refused(too_long(file))),
         Loaded::Failed => Err(Stop::Unread(file)),
         Loaded::Memory => Err(Stop::Memory),
+    }
+}
+
+/// The greatest number of bytes that a file may have.
+fn limit_of(file: FileKind) -> usize
+    ensures { result ≡ limit_of file }
+{
+    match file {
+        FileKind::Document => DOCUMENT_LIMIT,
+        _ => FILE_LIMIT,
     }
 }
 
@@ -106,4 +119,19 @@ pub(crate) fn load_constraints<F: Shelf>(
 {
     let bytes = load_bytes(alloc, files, FileKind::Constraints, name)?;
     Ok(read_constraints(alloc, schema, bytes.as_slice())?)
+}
+
+/// Loads the bytes of a document.
+pub(crate) fn load_document<F: Shelf>(
+    alloc: Global,
+    files: &mut F,
+    name: &str,
+) -> Result<Seq<u8>, Stop>
+    ensures agrees { Agrees kinds.Document (F.files files.old) (bytes_under kinds.Document name.now) result }
+    ensures cause { HasCause (F.files files.old) name.now (F.faults files.old) (F.faults files.new) result }
+    ensures files_stay { F.files files.new ≡ F.files files.old }
+    ensures faults_stay { F.faults files.old ≤ F.faults files.new }
+    ensures one_call { RoseByOne (F.calls files.old) (F.calls files.new) }
+{
+    load_bytes(alloc, files, FileKind::Document, name)
 }

@@ -1,21 +1,24 @@
 ghost use Rattle.std.specs.Prelude.{◌≡◌, ◌≤◌, ◌+◌, ℕ, map, Option, IfOk, string_bytes};
 ghost use Rattle.pc_base.specs.Files.{Files};
-ghost use Rattle.pc_words.specs.Commands.{bound_names, gen_numbers, show_names};
-ghost use Rattle.pc_run.specs.Replies.{IsSound, RepliesTo, RepliesToStop, Responds, SaysReport};
-ghost use Rattle.pc_words.specs.Words.{bound, gen, show, command_of, file_count, IsBudget, IsSize};
+ghost use Rattle.pc_words.specs.Commands.{bound_names, check_names, gen_numbers, show_names};
+ghost use Rattle.pc_run.specs.Replies.{IsSound, RepliesTo, RepliesToStop, Responds, SaysProof, SaysReport};
+ghost use Rattle.pc_words.specs.Words.{bound, check, gen, prove, show, command_of, file_count, IsBudget, IsSize};
 
 use crate::case::read_case;
+use crate::claim::read_claim;
 use crate::line::{fault_line, malformed_line, usage_line};
 use crate::listing::read_listing;
 use crate::making::summarize;
 use crate::show::report_listing;
 use crate::stop::Stop;
+use crate::verdict::report_verdict;
 use pc_base::{Shelf, Status};
+use pc_document::put_document;
 use pc_group::answer_all;
 use pc_num::Memory;
 use pc_report::put_report;
 use pc_rows::Case;
-use pc_words::{Bound, Command, Gen, Show, read_command};
+use pc_words::{Bound, Check, Command, Gen, Show, read_command};
 use std::alloc::Global;
 
 /// The status with which a run ends, and the text that it writes.
@@ -38,6 +41,8 @@ pub(crate) fn respond<F: Shelf>(
 {
     match read_command(alloc, words)? {
         Some(Command::Bound(command)) => reply_to_bound(alloc, files, &command),
+        Some(Command::Prove(command)) => reply_to_prove(alloc, files, &command),
+        Some(Command::Check(command)) => reply_to_check(alloc, files, &command),
         Some(Command::Show(command)) => reply_to_show(alloc, files, &command),
         Some(Command::Gen(command)) => reply_to_gen(alloc, &command),
         None => Ok(Reply {
@@ -60,6 +65,36 @@ fn reply_to_bound<F: Shelf>(alloc: Global, files: &mut F, command: &Bound) -> Re
             status: Status::Done,
             text: report_case(alloc, &case, command.nodes)?,
         }),
+        Err(stop) => reply_to_stop(alloc, stop),
+    }
+}
+
+/// The reply to `prove`.
+fn reply_to_prove<F: Shelf>(alloc: Global, files: &mut F, command: &Bound) -> Result<Reply, Memory>
+    requires { IsBudget command.now.nodes }
+    ensures replies { IfOk result (λ reply. RepliesTo (F.files files.old) (prove (bound_names command.now)) (F.faults files.old) (F.faults files.new) reply.status reply.text.items) }
+    ensures files_stay { F.files files.new ≡ F.files files.old }
+    ensures faults_stay { F.faults files.old ≤ F.faults files.new }
+    ensures calls { F.calls files.new ≤ F.calls files.old + 3 }
+{
+    match read_case(alloc, files, command) {
+        Ok(case) => Ok(Reply {
+            status: Status::Done,
+            text: prove_case(alloc, &case, command.nodes)?,
+        }),
+        Err(stop) => reply_to_stop(alloc, stop),
+    }
+}
+
+/// The reply to `check`.
+fn reply_to_check<F: Shelf>(alloc: Global, files: &mut F, command: &Check) -> Result<Reply, Memory>
+    ensures replies { IfOk result (λ reply. RepliesTo (F.files files.old) (check (check_names command.now)) (F.faults files.old) (F.faults files.new) reply.status reply.text.items) }
+    ensures files_stay { F.files files.new ≡ F.files files.old }
+    ensures faults_stay { F.faults files.old ≤ F.faults files.new }
+    ensures calls { F.calls files.new ≤ F.calls files.old + 4 }
+{
+    match read_claim(alloc, files, command) {
+        Ok(claim) => report_verdict(alloc, &claim),
         Err(stop) => reply_to_stop(alloc, stop),
     }
 }
@@ -117,5 +152,17 @@ fn report_case(alloc: Global, case: &Case, nodes: u32) -> Result<Vec<u8>, Memory
     let document = answer_all(alloc, case, nodes)?;
     let mut text = Vec::new(alloc);
     put_report(alloc, &case.schema, &mut text, &document)?;
+    Ok(text)
+}
+
+/// The document of the answers to the queries, with what shows each.
+fn prove_case(alloc: Global, case: &Case, nodes: u32) -> Result<Vec<u8>, Memory>
+    requires sound { IsSound case.now }
+    requires budget { IsBudget nodes }
+    ensures { IfOk result (λ text. SaysProof nodes case.now text.items) }
+{
+    let document = answer_all(alloc, case, nodes)?;
+    let mut text = Vec::new(alloc);
+    put_document(alloc, &case.schema, &mut text, &document)?;
     Ok(text)
 }

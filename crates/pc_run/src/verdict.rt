@@ -1,0 +1,50 @@
+ghost use Rattle.std.specs.Prelude.{◌≡◌, IfOk};
+ghost use Rattle.pc_run.specs.Replies.{HasVerdict, IsCheckable, SaysVerdict, status_of};
+
+use crate::claim::Claim;
+use crate::line::verdict_line;
+use crate::reply::Reply;
+use pc_base::Status;
+use pc_check::{Verdict, check};
+use pc_document::{NoDocument, read_document};
+use pc_num::Memory;
+use std::alloc::Global;
+
+/// What is said of a document.
+pub(crate) fn report_verdict(alloc: Global, claim: &Claim) -> Result<Reply, Memory>
+    requires { IsCheckable claim.now }
+    ensures { IfOk result (λ reply. SaysVerdict claim.now reply.status reply.text.items) }
+{
+    let verdict = verdict_on(alloc, claim)?;
+    Ok(Reply {
+        status: status_of(verdict),
+        text: verdict_line(alloc, verdict)?.into_bytes(),
+    })
+}
+
+fn status_of(verdict: Verdict) -> Status
+    ensures { result ≡ status_of verdict }
+{
+    match verdict {
+        Verdict::Yes => Status::Done,
+        Verdict::No { .. } => Status::SaidNo,
+    }
+}
+
+/// The verdict on the document that the bytes spell. Where they spell none, the first rule is broken.
+fn verdict_on(alloc: Global, claim: &Claim) -> Result<Verdict, Memory>
+    requires { IsCheckable claim.now }
+    ensures { IfOk result (HasVerdict claim.now) }
+{
+    match read_document(alloc, &claim.schema, claim.bytes.as_slice()) {
+        Ok(document) => check(
+            alloc,
+            &claim.schema,
+            &claim.rows,
+            claim.constraints.as_slice(),
+            &document,
+        ),
+        Err(NoDocument::Fault { line }) => Ok(Verdict::No { line, rule: 1 }),
+        Err(NoDocument::Memory) => Err(Memory),
+    }
+}
