@@ -33,7 +33,7 @@ value_found found = first_value (found_of found) (codes "nodes")
 abbrev pub plain_found : ArgMatches → List Text
 plain_found found = unwrap_or (option_map raw_values (matched_of (found_of found) (codes "words"))) []
 
--- no command has these words: of the three, the one with `--nodes` wants a number there
+-- no command has these words: one that has `--nodes` wants a number there
 abbrev pub IsRefused : Bool → Option Given → Type 0
 IsRefused has_nodes None = ⊤
 IsRefused has_nodes (Some words) = (has_nodes ≡ true) × (budget_of words.value ≡ None)

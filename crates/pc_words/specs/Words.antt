@@ -4,7 +4,7 @@ use Rattle.std.specs.Char.{is_ascii_digit}
 use Rattle.std.specs.List.{list_all}
 use Rattle.std.specs.Str.Parse.{digits_value}
 
--- of `bound`: how many nodes each search may have, the names of its three files, and the texts of its queries
+-- of `bound`, and of `prove`: how many nodes each search may have, the names of its three files, and the texts of its queries
 pub record BoundNames : Type 0 where
   pub nodes : ℕ
   pub schema : List ℕ
@@ -17,6 +17,13 @@ pub record ShowNames : Type 0 where
   pub schema : List ℕ
   pub constraints : List ℕ
 
+-- of `check`: the names of its four files
+pub record CheckNames : Type 0 where
+  pub schema : List ℕ
+  pub rows : List ℕ
+  pub constraints : List ℕ
+  pub document : List ℕ
+
 -- of `gen`: what its draws begin with, and how large its case is
 pub record GenNumbers : Type 0 where
   pub seed : ℕ
@@ -25,6 +32,8 @@ pub record GenNumbers : Type 0 where
 -- a command with its values
 pub data Asked : Type 0 where
   bound : BoundNames → Asked
+  prove : BoundNames → Asked
+  check : CheckNames → Asked
   show : ShowNames → Asked
   gen : GenNumbers → Asked
 
@@ -104,15 +113,23 @@ query_limit = 16
 -- ---- commands
 
 -- three files, and one query or more
-abbrev pub bound_at : List (List ℕ) → ℕ → Option Asked
-bound_at (schema ∷ rows ∷ constraints ∷ query ∷ queries) nodes =
+abbrev pub names_at : List (List ℕ) → ℕ → Option BoundNames
+names_at (schema ∷ rows ∷ constraints ∷ query ∷ queries) nodes =
     if nat_lt (length queries) query_limit
-    then Some (bound (record { nodes = nodes; schema = schema; rows = rows; constraints = constraints; queries = query ∷ queries }))
+    then Some (record { nodes = nodes; schema = schema; rows = rows; constraints = constraints; queries = query ∷ queries })
     else None
-bound_at words nodes = None
+names_at words nodes = None
 
-abbrev pub bound_of : Given → Option Asked
-bound_of words = option_and_then (bound_at words.plain) (budget_of words.value)
+abbrev pub names_of : Given → Option BoundNames
+names_of words = option_and_then (names_at words.plain) (budget_of words.value)
+
+-- four files
+abbrev pub check_at : List (List ℕ) → Option Asked
+check_at (schema ∷ rows ∷ constraints ∷ document ∷ []) = Some (check (record { schema = schema; rows = rows; constraints = constraints; document = document }))
+check_at words = None
+
+abbrev pub check_of : Given → Option Asked
+check_of words = check_at words.plain
 
 -- two files
 abbrev pub show_at : List (List ℕ) → Option Asked
@@ -137,10 +154,12 @@ gen_of words = gen_at words.plain
 -- the first word says which command it is
 abbrev pub command_with : List ℕ → List (List ℕ) → Option Asked
 command_with name words =
-    if bytes_eq name (codes "bound") then option_and_then bound_of (given true words)
+    if bytes_eq name (codes "bound") then option_map bound (option_and_then names_of (given true words))
+    else (if bytes_eq name (codes "prove") then option_map prove (option_and_then names_of (given true words))
+    else (if bytes_eq name (codes "check") then option_and_then check_of (given false words)
     else (if bytes_eq name (codes "show") then option_and_then show_of (given false words)
     else (if bytes_eq name (codes "gen") then option_and_then gen_of (given false words)
-    else None))
+    else None))))
 
 abbrev pub command_of : List (List ℕ) → Option Asked
 command_of [] = None
@@ -162,5 +181,7 @@ pub record IsSize (size : ℕ) : Type 0 where
 abbrev pub file_count : Option Asked → ℕ
 file_count None = 0
 file_count (Some (bound names)) = 3
+file_count (Some (prove names)) = 3
+file_count (Some (check names)) = 4
 file_count (Some (show names)) = 2
 file_count (Some (gen numbers)) = 0

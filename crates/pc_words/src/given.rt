@@ -1,4 +1,4 @@
-ghost use Rattle.std.specs.Prelude.{◌≡◌, ℕ, Bool, List, map, string_bytes, codes, true, false, IfOk, option_map};
+ghost use Rattle.std.specs.Prelude.{◌≡◌, ℕ, Bool, List, map, string_bytes, true, false, IfOk, option_map};
 ghost use Rattle.clap.specs.Words.{app_of, rule_of};
 ghost use Rattle.pc_words.specs.Parsers.{bare_app, parser_app, plain_found, plain_rule, value_found, IsFound};
 
@@ -7,34 +7,26 @@ use clap::{Arg, ArgAction, ArgMatches, Command};
 use pc_num::Memory;
 use std::alloc::{AllocError, Global};
 
-/// What the words after `bound` give, where `clap` takes them.
-pub(crate) fn bound_words<'a>(
+/// What the words after the name of a command that has `--nodes` give, where `clap` takes them.
+pub(crate) fn words_with_nodes<'a>(
     alloc: Global,
+    name: &'a str,
     words: &'a [String],
 ) -> Result<Option<ArgMatches<'a>>, Memory>
     ensures { IfOk result (IsFound true (map string_bytes words.now)) }
 {
-    found_in(bound_parser(alloc)?, words)
+    found_in(nodes_parser(alloc, name)?, words)
 }
 
-/// The same after `show`.
-pub(crate) fn show_words<'a>(
+/// The same of a command that has no option.
+pub(crate) fn words_alone<'a>(
     alloc: Global,
+    name: &'a str,
     words: &'a [String],
 ) -> Result<Option<ArgMatches<'a>>, Memory>
     ensures { IfOk result (IsFound false (map string_bytes words.now)) }
 {
-    found_in(show_parser(alloc)?, words)
-}
-
-/// The same after `gen`.
-pub(crate) fn gen_words<'a>(
-    alloc: Global,
-    words: &'a [String],
-) -> Result<Option<ArgMatches<'a>>, Memory>
-    ensures { IfOk result (IsFound false (map string_bytes words.now)) }
-{
-    found_in(gen_parser(alloc)?, words)
+    found_in(plain_parser(alloc, name)?, words)
 }
 
 /// The value of `--nodes`, where it is given.
@@ -51,26 +43,20 @@ pub(crate) fn plain_in<'b, 'a>(found: &'b ArgMatches<'a>) -> &'b [&'a str]
     found.get_strs("words").unwrap_or_default()
 }
 
-fn bound_parser<'a>(alloc: Global) -> Result<Command<'a>, AllocError>
-    ensures { IfOk result (λ command. app_of command ≡ parser_app (codes "bound") true) }
+fn nodes_parser<'a>(alloc: Global, name: &'a str) -> Result<Command<'a>, AllocError>
+    ensures { IfOk result (λ command. app_of command ≡ parser_app name.now true) }
 {
     let nodes = Arg::new(alloc, "nodes")
         .long("nodes")
         .action(ArgAction::Set);
-    let command = bare_parser(alloc, "bound").arg(nodes)?;
+    let command = bare_parser(alloc, name).arg(nodes)?;
     command.arg(plain_words(alloc))
 }
 
-fn show_parser<'a>(alloc: Global) -> Result<Command<'a>, AllocError>
-    ensures { IfOk result (λ command. app_of command ≡ parser_app (codes "show") false) }
+fn plain_parser<'a>(alloc: Global, name: &'a str) -> Result<Command<'a>, AllocError>
+    ensures { IfOk result (λ command. app_of command ≡ parser_app name.now false) }
 {
-    bare_parser(alloc, "show").arg(plain_words(alloc))
-}
-
-fn gen_parser<'a>(alloc: Global) -> Result<Command<'a>, AllocError>
-    ensures { IfOk result (λ command. app_of command ≡ parser_app (codes "gen") false) }
-{
-    bare_parser(alloc, "gen").arg(plain_words(alloc))
+    bare_parser(alloc, name).arg(plain_words(alloc))
 }
 
 /// A command that takes no word, not even those that ask for help.

@@ -5,7 +5,7 @@ mod command;
 mod given;
 mod number;
 
-pub use command::{Bound, Command, Gen, Show, USUAL_NODES, read_command};
+pub use command::{Bound, Check, Command, Gen, Show, USUAL_NODES, read_command};
 
 #[cfg(test)]
 mod tests;

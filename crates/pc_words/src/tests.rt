@@ -1,4 +1,4 @@
-use crate::{Bound, Command, read_command};
+use crate::{Bound, Check, Command, read_command};
 use pc_num::Memory;
 use std::alloc::Global;
 use std::test::Fail;
@@ -89,6 +89,47 @@ static CALLS: [(&str, &str); 66] = [
     ("bound help r c q", "bound 10000 help r c q"),
 ];
 
+static CHECKS: [(&str, &str); 36] = [
+    // as `bound` reads them
+    ("prove", "-"),
+    ("prove s r c", "-"),
+    ("prove s r c q", "prove 10000 s r c q"),
+    ("prove s r c q p", "prove 10000 s r c q p"),
+    ("prove --nodes=5 s r c q", "prove 5 s r c q"),
+    ("prove --nodes 5 s r c q", "prove 5 s r c q"),
+    ("prove s r c q p --nodes 00005", "prove 5 s r c q p"),
+    ("prove --nodes 1 s r c q", "prove 1 s r c q"),
+    ("prove --nodes 0 s r c q", "-"),
+    ("prove --nodes 100000 s r c q", "prove 100000 s r c q"),
+    ("prove --nodes 100001 s r c q", "-"),
+    ("prove --nodes= s r c q", "-"),
+    ("prove s r c q --nodes", "-"),
+    ("prove --nodes=5 --nodes 5 s r c q", "-"),
+    ("prove --fast s r c q", "-"),
+    ("prove --help", "-"),
+    ("prove -- s r c --nodes=6", "prove 10000 s r c --nodes=6"),
+    ("prove - r c q", "prove 10000 - r c q"),
+    ("proves s r c q", "-"),
+    // four files, and no option
+    ("check", "-"),
+    ("check s r c", "-"),
+    ("check s r c d", "check s r c d"),
+    ("check s r c d e", "-"),
+    ("check a b c d", "check a b c d"),
+    ("check -- a b c d", "check a b c d"),
+    ("check a b -- c -d", "check a b c -d"),
+    ("check -- a b c d e", "-"),
+    ("check -- a b c", "-"),
+    ("check --nodes 5 a b c d", "-"),
+    ("check --nodes=5 a b c d", "-"),
+    ("check a b c --nodes", "-"),
+    ("check a b c -d", "-"),
+    ("check - b c d", "check - b c d"),
+    ("check  b c d", "check  b c d"),
+    ("checks a b c d", "-"),
+    ("check prove b c d", "check prove b c d"),
+];
+
 static DRAWS: [(&str, &str); 15] = [
     ("gen", "-"),
     ("gen 7", "-"),
@@ -107,9 +148,14 @@ static DRAWS: [(&str, &str); 15] = [
     ("gen 7 +5", "-"),
 ];
 
-fn put_bound(alloc: Global, told: &mut String, command: &Bound<'_>) -> Result<(), Fail> {
+fn put_names(
+    alloc: Global,
+    told: &mut String,
+    name: &str,
+    command: &Bound<'_>,
+) -> Result<(), Fail> {
     let head = format!(in alloc;
-        "bound {} {} {} {}",
+        "{name} {} {} {} {}",
         command.nodes, command.schema, command.rows, command.constraints
     )?;
     told.push_str(head.as_str())?;
@@ -120,10 +166,21 @@ fn put_bound(alloc: Global, told: &mut String, command: &Bound<'_>) -> Result<()
     Ok(())
 }
 
+fn put_check(alloc: Global, told: &mut String, command: &Check<'_>) -> Result<(), Fail> {
+    let text = format!(in alloc;
+        "check {} {} {} {}",
+        command.schema, command.rows, command.constraints, command.document
+    )?;
+    told.push_str(text.as_str())?;
+    Ok(())
+}
+
 fn told(alloc: Global, command: &Command<'_>) -> Result<String, Fail> {
     let mut told = String::new(alloc);
     match command {
-        Command::Bound(command) => put_bound(alloc, &mut told, command)?,
+        Command::Bound(command) => put_names(alloc, &mut told, "bound", command)?,
+        Command::Prove(command) => put_names(alloc, &mut told, "prove", command)?,
+        Command::Check(command) => put_check(alloc, &mut told, command)?,
         Command::Show(command) => {
             let text = format!(in alloc; "show {} {}", command.schema, command.constraints)?;
             told.push_str(text.as_str())?;
@@ -160,6 +217,9 @@ fn is_told(alloc: Global, call: &str, want: &str) -> Result<bool, Fail> {
 #[test]
 fn calls(rt: HostRuntime) -> Result<(), Fail> {
     for (call, want) in CALLS {
+        assert!(rt; is_told(rt.alloc(), call, want)?, "{call}");
+    }
+    for (call, want) in CHECKS {
         assert!(rt; is_told(rt.alloc(), call, want)?, "{call}");
     }
     for (call, want) in DRAWS {
