@@ -3,7 +3,14 @@
 
 mod answers;
 mod document;
+mod ends;
+mod lacks;
+mod lines;
 mod matter;
+mod relations;
+mod runs;
+mod statements;
+mod totals;
 mod verdict;
 
 pub use document::check;
