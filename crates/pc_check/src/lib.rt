@@ -2,8 +2,12 @@
 #![tactic(auto)]
 
 mod answers;
+mod area;
+mod block;
 mod document;
+mod line_counts;
 mod matter;
+mod observed;
 mod verdict;
 
 pub use document::check;

@@ -1,0 +1,5 @@
+pub mod Allowing
+pub mod BlockParts
+pub mod DocumentSteps
+pub mod Matters
+pub mod SharedTrees
