@@ -88,11 +88,11 @@ module _ (case : Premises) (blocks : List Block) where
       same (verdicts.No line rule) found = found
 
   pub at_end : (place line : ℕ) (before : Option (List CutNode)) → length blocks ≤ place → IsAt place line before → AreUnbroken case None blocks
-  at_end place line before past at_place = at_place.decides verdicts.Yes (subst (λ (left : List Block). AreUnbroken case before left) (sym (drop_all blocks place past)) tt)
+  at_end place line before past at_place = at_place.decides verdicts.Yes (subst (λ (left : List Block). AreUnbroken case before left) (sym (drop_all place blocks past)) tt)
 
-  module _ (place line : ℕ) (before : Option (List CutNode)) (block : Block) (there : place < length blocks) (is : block ≡ get_or blocks place block) (at_place : IsAt place line before) where
+  module _ (place line : ℕ) (before : Option (List CutNode)) (block other : Block) (there : place < length blocks) (is : block ≡ get_or blocks place other) (at_place : IsAt place line before) where
     left_are : drop place blocks ≡ block ∷ drop (place + 1) blocks
-    left_are = drop_more blocks place block there is
+    left_are = drop_more blocks place other there ∙ ap (λ (b : Block). b ∷ drop (place + 1) blocks) (sym is)
 
     pub few_here : line + block_count block < 2 ^ 64
     few_here = let count = ap blocks_count left_are in let few = at_place.few in omega (arith, count, few)
