@@ -1,11 +1,10 @@
 -- A name of a column without a side is not allowed.
-use Rattle.std.proofs.Common.{◌≡◌, ℕ, ◌≤◌, pos, true, false, ◌==◌, length, Some, sym, ap, ◌∙◌, true≢false, arith}
+use Rattle.std.proofs.Common.{◌≡◌, ℕ, ◌≤◌, pos, true, ◌==◌, length, Some, sym, ap, ◌∙◌, true≢false, arith}
 use Rattle.std.proofs.lemmas.List.{get_or_past}
 use Rattle.std.proofs.lemmas.Nat.Bits.{bit_at_above}
 use Rattle.pc_model.specs.declared.region.Side.{Side}
 use Rattle.pc_model.specs.declared.region.Side.TheVariants.{Names}
 use Rattle.pc_model.specs.declared.region.Region.{Region}
-use Rattle.pc_model.specs.CutTrees.{side_at}
 use Rattle.pc_model.specs.Membership.{holds}
 use Rattle.pc_model.specs.Places.{has_bit}
 use Rattle.pc_proof.specs.Unbroken.{AllowsName}

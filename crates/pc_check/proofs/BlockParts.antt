@@ -1,8 +1,7 @@
 -- The verdict on a block by its parts: the name, the tree, and the answer.
-use Rattle.std.proofs.Common.{◌≡◌, ℕ, ◌+◌, List, [], ◌∷◌, ◌++◌, length, All, Option, Some, None, refl, sym, ap, ◌∙◌, subst, arith}
+use Rattle.std.proofs.Common.{◌≡◌, ℕ, ◌+◌, List, ◌++◌, length, All, Option, Some, None, refl, sym, ap, arith}
 use Rattle.std.proofs.lemmas.List.Elements.{All-nil}
-use Rattle.pc_model.specs.declared.region.Region.{Region}
-use Rattle.pc_model.specs.CutTrees.{size_of, nodes_from, shape_of, IsInPreorder}
+use Rattle.pc_model.specs.CutTrees.{shape_of, IsInPreorder}
 use Rattle.pc_class.proofs.Trees.{length-nodes}
 use Rattle.pc_proof.specs.declared.answer.Answer.{Answer}
 use Rattle.pc_proof.specs.declared.document.Block.{Block}
@@ -11,10 +10,10 @@ use Rattle.pc_proof.specs.declared.document.BlockTree.TheVariants as trees
 use Rattle.pc_proof.specs.Setting.{Setting}
 use Rattle.pc_proof.specs.Unbroken.{AllowsName}
 use Rattle.pc_proof.specs.Counts.{tree_count, block_count}
-use Rattle.pc_proof.specs.Demands.{Placed, Holds, TreeLines, Judges, allowed, tree_before, treeless_demands, name_demands, front_lines, cells_demands, tree_lines, relation_line, block_demands, next_line}
+use Rattle.pc_proof.specs.Demands.{Placed, Holds, TreeLines, Judges, allowed, name_demands, front_lines, cells_demands, tree_lines, relation_line, block_demands, next_line}
 use Rattle.pc_proof.specs.Documents.{lines_of}
 use Rattle.pc_proof.proofs.Parts.{one-holds}
-use Rattle.pc_judge.proofs.Verdicts.{judges-front, judges-back, judges-here}
+use Rattle.pc_judge.proofs.Verdicts.{judges-front, judges-back}
 use Rattle.pc_check.specs.declared.verdict.Verdict.{Verdict}
 use Rattle.pc_check.specs.declared.verdict.Verdict.TheVariants as verdicts
 use Rattle.pc_check.specs.Blocks.{HasNodes}
@@ -40,11 +39,6 @@ module _ (s : Setting) (block : Block) (line : ℕ) (has : HasNodes block.tree s
 
 -- ---- verdicts
 
-allowed_without : (chosen : Region) (group name : Option ℕ) → name ≡ None → AllowsName chosen group name
-allowed_without chosen (Some column) None without = tt
-allowed_without chosen (Some column) (Some place) without = absurd cc
-allowed_without chosen None name without = tt
-
 module _ (s : Setting) where
   abbrev IsAllowed : Type 0
   IsAllowed = AllowsName s.question.query.chosen s.question.query.group s.question.name
@@ -52,17 +46,6 @@ module _ (s : Setting) where
   name_held : (line : ℕ) (name : Option ℕ) → IsAllowed → All (Holds s) (name_demands line name)
   name_held line None held = All-nil (Holds s)
   name_held line (Some place) held = one-holds s (record { line = line + 1; rule = 2; demand = allowed }) held
-
-  -- a name that is not allowed is the first that is broken
-  pub name_broken : (line : ℕ) (name : Option ℕ) (ds : List Placed) → s.question.name ≡ name → (IsAllowed → ⊥) → Finds s (name_demands line name ++ ds) (verdicts.No (line + 1) 2)
-  name_broken line None ds same broken = absurd (broken (allowed_without s.question.query.chosen s.question.query.group s.question.name same))
-  name_broken line (Some place) ds same broken = judges-here s (record { line = line + 1; rule = 2; demand = allowed }) ds broken
-
-  -- and otherwise the lack of a tree before
-  pub tree_lacking : (line : ℕ) → IsAllowed → Finds s (treeless_demands line s.question.name) (verdicts.No (line + front_lines s.question.name) 2)
-  tree_lacking line held =
-      let lacking : Placed = record { line = line + front_lines s.question.name; rule = 2; demand = tree_before } in
-      judges-back s (name_demands line s.question.name) (lacking ∷ []) (Some (line + front_lines s.question.name, 2)) (name_held line s.question.name held) (judges-here s lacking [] (λ none. none))
 
 module _ (s : Setting) (kind : TreeLines) (line : ℕ) (answer : Answer) (held : IsAllowed s) where
   abbrev names : List Placed

@@ -1,24 +1,22 @@
 -- The verdict on a document by its blocks: what is left decides.
-use Rattle.std.proofs.Common.{◌≡◌, ℕ, ◌+◌, ◌<◌, ◌≤◌, ◌^◌, List, [], ◌∷◌, ◌++◌, length, drop, get_or, All, Option, Some, None, IfSome, inl, inr, refl, sym, ap, ◌∙◌, subst, arith}
-
+use Rattle.std.proofs.Common.{◌≡◌, ℕ, ◌+◌, ◌<◌, ◌≤◌, ◌^◌, List, [], ◌∷◌, length, drop, get_or, Option, Some, None, IfSome, inl, inr, refl, sym, ap, ◌∙◌, subst, arith}
 use Rattle.std.proofs.lemmas.List.{drop_all, drop_more}
 use Rattle.pc_model.specs.declared.schema.Schema.{Schema}
-use Rattle.pc_model.specs.declared.row.Row.{Row}
 use Rattle.pc_model.specs.declared.tree.CutNode.{CutNode}
 use Rattle.pc_model.specs.CutTrees.{IsInPreorder}
 use Rattle.pc_proof.specs.declared.document.Block.{Block}
 use Rattle.pc_proof.specs.declared.document.BlockTree.{BlockTree}
 use Rattle.pc_proof.specs.declared.document.BlockTree.TheVariants as trees
 use Rattle.pc_proof.specs.Counts.{block_count, blocks_count}
-use Rattle.pc_proof.specs.Demands.{Placed, Holds, name_demands, front_lines, tree_before, treeless_demands, next_line}
+use Rattle.pc_proof.specs.Demands.{Placed, Holds, name_demands, front_lines, tree_before}
 use Rattle.pc_proof.specs.Documents.{Premises, AreUnbroken, IsFirstBrokenIn, broken_with, lines_of, nodes_after, setting_of, unbroken_with}
-use Rattle.pc_proof.specs.Form.{IsFormedBlock, IsFormedBlockTree}
+use Rattle.pc_proof.specs.Form.{IsFormedBlockTree}
 use Rattle.pc_proof.specs.Unbroken.{IsUnbroken}
 use Rattle.pc_proof.proofs.BlockLines.{demands-are_rules}
 use Rattle.pc_proof.proofs.Parts.{All-back, the-one}
 use Rattle.pc_check.specs.declared.verdict.Verdict.{Verdict}
 use Rattle.pc_check.specs.declared.verdict.Verdict.TheVariants as verdicts
-use Rattle.pc_check.specs.Blocks.{FindsIn, HasNodes, demands_on}
+use Rattle.pc_check.specs.Blocks.{FindsIn, HasNodes}
 use Rattle.pc_check.specs.Verdicts.{IsVerdictOn}
 use Rattle.pc_check.proofs.BlockParts.{next_line_is}
 
@@ -93,9 +91,6 @@ module _ (case : Premises) (blocks : List Block) where
   module _ (place line : ℕ) (before : Option (List CutNode)) (block other : Block) (there : place < length blocks) (is : block ≡ get_or blocks place other) (at_place : IsAt place line before) where
     left_are : drop place blocks ≡ block ∷ drop (place + 1) blocks
     left_are = drop_more blocks place other there ∙ ap (λ (b : Block). b ∷ drop (place + 1) blocks) (sym is)
-
-    pub few_here : line + block_count block < 2 ^ 64
-    few_here = let count = ap blocks_count left_are in let few = at_place.few in omega (arith, count, few)
 
     pub stop_here : (at rule : ℕ) → FindsIn case line block (nodes_after before block.tree) (verdicts.No at rule) → IsVerdictOn case blocks (verdicts.No at rule)
     stop_here at rule found =

@@ -1,8 +1,7 @@
 -- What the statements of a block are about is made of its cells and of its observed rows.
-use Rattle.std.proofs.Common.{◌≡◌, ℕ, ◌*◌, ◌≤◌, ◌^◌, List, length, All, Option, Some, None, IsSome, refl, sym, ap, ◌∙◌, subst, arith}
-use Rattle.std.specs.Prelude.{is_none, nat_abs, unwrap_or, IsSomeAnd}
+use Rattle.std.proofs.Common.{◌≡◌, ℕ, ◌≤◌, List, Option, Some, None, IsSome, refl, sym, ap, ◌∙◌, arith}
+use Rattle.std.specs.Prelude.{unwrap_or, IsSomeAnd}
 use Rattle.std.specs.List.{AllPass}
-use Rattle.std.proofs.lemmas.List.Elements.{All-map}
 use Rattle.pc_model.specs.declared.schema.Schema.{Schema}
 use Rattle.pc_model.specs.declared.row.Row.{Row}
 use Rattle.pc_model.specs.declared.region.Region.{Region}
@@ -13,21 +12,19 @@ use Rattle.pc_model.specs.declared.query.Agg.{Agg}
 use Rattle.pc_model.specs.declared.query.Agg.TheVariants.{Count, Sum, Min, Max, Avg}
 use Rattle.pc_model.specs.declared.query.Query.{Query}
 use Rattle.pc_model.specs.declared.query.Folded.{Folded}
-use Rattle.pc_model.specs.Accepted.{AreConstraints, IsColumnWhere, IsNumeric, IsQuery, Measures}
-use Rattle.pc_model.specs.Boxes.{IsServable}
+use Rattle.pc_model.specs.Accepted.{AreConstraints, IsColumnWhere, IsNumeric, Measures}
 use Rattle.pc_model.specs.Cells.{leaves_in}
 use Rattle.pc_model.specs.Folds.{IsFold}
 use Rattle.pc_model.specs.Membership.{in_domain}
 use Rattle.pc_model.specs.WellFormed.{IsWellFormed}
 use Rattle.pc_proof.specs.declared.document.Block.{Block}
 use Rattle.pc_proof.specs.Form.{IsFormedBlock}
-use Rattle.pc_proof.specs.Setting.{Setting, narrowed}
+use Rattle.pc_proof.specs.Setting.{narrowed}
 use Rattle.pc_proof.specs.Unbroken.{AllowsName}
 use Rattle.pc_proof.proofs.Observing.{comes}
 use Rattle.pc_proof.proofs.SeenSums.{seen_small}
 use Rattle.pc_judge.specs.Cells.{cells_from}
-use Rattle.pc_judge.specs.Scene.{AreLimited, IsCounted, HasMeasure, IsSceneOf}
-use Rattle.pc_judge.specs.declared.scene.Scene.{Scene}
+use Rattle.pc_judge.specs.Scene.{AreLimited, IsCounted, HasMeasure}
 use Rattle.pc_check.specs.declared.matter.Matter.{Matter}
 use Rattle.pc_check.specs.Blocks.{setting_in}
 use Rattle.pc_check.specs.Verdicts.{IsMatterOf}

@@ -1,5 +1,5 @@
 -- The verdict on one block of a document, and on the lines of its tree.
-use Rattle.std.specs.Prelude.{◌≡◌, ℕ, ⊤, List, [], IfSome, Option, Some, None, MatchOption}
+use Rattle.std.specs.Prelude.{◌≡◌, ℕ, ⊤, List, [], Option, Some, None}
 use Rattle.pc_model.specs.declared.schema.Schema.{Schema}
 use Rattle.pc_model.specs.declared.row.Row.{Row}
 use Rattle.pc_model.specs.declared.region.Region.{Region}

@@ -21,7 +21,7 @@ use crate::matter::Matter;
 use crate::observed::seen_in;
 use crate::verdict::Verdict;
 use pc_judge::{CutFinding, Scene, cells_of};
-use pc_model::{Constraint, CutNode, Leaf, Query, Region, Schema, Side};
+use pc_model::{Constraint, CutNode, Leaf, Query, Region, Schema};
 use pc_num::Memory;
 use pc_proof::{Block, narrowed};
 use pc_rows::Rows;
@@ -108,7 +108,16 @@ fn judge_allowed(
         CutFinding::Settled(leaves) => {
             let line = tree_line + tree_count(&block.tree);
             let leaves = leaves.as_slice();
-            judge_cells(alloc, schema, rows, constraints, block, region, leaves, line)
+            judge_cells(
+                alloc,
+                schema,
+                rows,
+                constraints,
+                block,
+                region,
+                leaves,
+                line,
+            )
         }
     }
 }

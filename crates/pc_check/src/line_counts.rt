@@ -2,9 +2,7 @@ ghost use Rattle.std.specs.Prelude.{◌≡◌, ◌<◌, ◌^◌};
 ghost use Rattle.pc_proof.specs.Counts.{block_count, tree_count};
 ghost use Rattle.pc_proof.specs.Demands.{ends_lines, front_lines, lack_lines, mark_lines, proof_lines, relation_lines, why_lines, never_lines, always_lines};
 
-use pc_proof::{
-    AlwaysBy, Block, BlockTree, End, Lack, Mark, NeverBy, Proof, Relation, Why,
-};
+use pc_proof::{AlwaysBy, Block, BlockTree, End, Lack, Mark, NeverBy, Proof, Relation, Why};
 
 /// How many lines a block has.
 pub(crate) fn block_count(block: &Block) -> u64

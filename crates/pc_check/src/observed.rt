@@ -25,12 +25,7 @@ pub(crate) fn seen_in(
     seen_of_name(alloc, rows, query, place)
 }
 
-fn seen_of_name(
-    alloc: Global,
-    rows: &Rows,
-    query: &Query,
-    place: u32,
-) -> Result<Folded, Memory>
+fn seen_of_name(alloc: Global, rows: &Rows, query: &Query, place: u32) -> Result<Folded, Memory>
     requires grouped { IsSome query.now.group }
     requires place { place < 128 }
     ensures folded { IfOk result (IsFold query.now (Some place) rows.now) }

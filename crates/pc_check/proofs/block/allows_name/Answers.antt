@@ -1,5 +1,4 @@
-use Rattle.std.proofs.Common.{true≢false, sym, subst}
-use Rattle.pc_proof.specs.Unbroken.{AllowsName}
+use Rattle.std.proofs.Common.{true≢false, sym}
 use Rattle.pc_check.proofs.Allowing.{no_name_without}
 use Rattle.pc_check.proofs.block.allows_name.Goals as goal
 

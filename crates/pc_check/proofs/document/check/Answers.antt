@@ -1,4 +1,4 @@
-use Rattle.std.proofs.Common.{◌≡◌, None, subst}
+use Rattle.std.proofs.Common.{None, subst}
 use Rattle.std.specs.Prelude.{IfOk}
 use Rattle.pc_proof.proofs.DocumentLines.{right-from_document}
 use Rattle.pc_proof.proofs.Formed.{form_of_document}

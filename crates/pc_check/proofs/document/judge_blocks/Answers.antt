@@ -1,9 +1,9 @@
-use Rattle.std.proofs.Common.{◌≡◌, ◌+◌, sym, subst}
+use Rattle.std.proofs.Common.{sym, subst}
 use Rattle.std.specs.Prelude.{option_copied}
 use Rattle.pc_proof.specs.Form.{IsFormedBlock}
 use Rattle.pc_check.specs.Blocks.{FindsIn}
 use Rattle.pc_check.specs.Verdicts.{premises_of}
-use Rattle.pc_check.proofs.DocumentSteps.{IsAt, in_preorder, stop_here, go_on}
+use Rattle.pc_check.proofs.DocumentSteps.{in_preorder, stop_here, go_on}
 use Rattle.pc_check.proofs.document.judge_blocks.Goals as goal
 
 pub returns-in-No : goal.returns-in-No
