@@ -2,11 +2,15 @@
 #![tactic(auto)]
 
 mod answers;
+mod area;
+mod block;
 mod document;
 mod ends;
 mod lacks;
+mod line_counts;
 mod lines;
 mod matter;
+mod observed;
 mod relations;
 mod runs;
 mod statements;
