@@ -7,12 +7,7 @@ use pc_judge::ProofFinding;
 
 /// The verdict on a statement and its proof: `other` is what else the statement needs, `line` that of the statement, and
 /// `rule` the one that it stands under.
-pub(crate) fn statement_verdict(
-    finding: ProofFinding,
-    other: bool,
-    line: u64,
-    rule: u8,
-) -> Verdict
+pub(crate) fn statement_verdict(finding: ProofFinding, other: bool, line: u64, rule: u8) -> Verdict
     ensures { result ≡ statement_verdict finding other line rule }
 {
     match finding {
