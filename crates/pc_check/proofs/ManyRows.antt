@@ -1,8 +1,8 @@
 -- Possible rows are few: each is under a constraint, and each constraint allows few.
-use Rattle.std.proofs.Common.{◌≡◌, ℕ, ◌+◌, ◌*◌, ◌≤◌, ◌^◌, Bool, true, false, ◌||◌, cond, List, [], ◌∷◌, length, replicate, All, refl, sym, ap, subst, ◌∙◌, true≢false, arith}
+use Rattle.std.proofs.Common.{◌≡◌, ℕ, ◌+◌, ◌*◌, ◌≤◌, ◌^◌, Bool, true, false, ◌||◌, cond, List, [], ◌∷◌, length, replicate, All, refl, sym, subst, true≢false, arith}
 use Rattle.std.specs.List.{sum_by, count_by, flat_map, AllPass}
 use Rattle.std.proofs.lemmas.List.{length-append, length-replicate}
-use Rattle.std.proofs.lemmas.List.Elements.{All-head, All-tail, All-weaker}
+use Rattle.std.proofs.lemmas.List.Elements.{All-head, All-tail}
 use Rattle.std.proofs.lemmas.List.Sums.{sum_by-cons, sum_by-le}
 use Rattle.std.proofs.lemmas.Nat.{mul-le}
 use Rattle.pc_model.specs.declared.schema.Schema.{Schema}
@@ -10,7 +10,7 @@ use Rattle.pc_model.specs.declared.row.Row.{Row}
 use Rattle.pc_model.specs.declared.row.Run.{Run}
 use Rattle.pc_model.specs.declared.constraint.Constraint.{Constraint}
 use Rattle.pc_model.specs.Membership.{is_under}
-use Rattle.pc_model.specs.Possible.{Meets, IsPossible, is_covered, count_of}
+use Rattle.pc_model.specs.Possible.{IsPossible, is_covered, count_of}
 use Rattle.pc_model.specs.Runs.{rows_of}
 use Rattle.pc_judge.specs.Scene.{AreLimited}
 

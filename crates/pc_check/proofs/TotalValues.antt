@@ -1,5 +1,5 @@
 -- The aggregate of rows is the value of what they come to.
-use Rattle.std.proofs.Common.{◌≡◌, ℕ, zero, suc, ℤ, pos, List, [], ◌∷◌, length, map, Option, Some, None, IfSome, IsSome, refl, sym, ap, ap₂, subst, ◌∙◌, arith}
+use Rattle.std.proofs.Common.{◌≡◌, ℕ, zero, suc, ℤ, pos, List, [], ◌∷◌, length, Option, Some, None, IfSome, IsSome, refl, ap, ap₂, ◌∙◌, arith}
 use Rattle.std.specs.Prelude.{option_map}
 use Rattle.std.proofs.lemmas.Int.{ints}
 use Rattle.std.proofs.lemmas.List.{length-map}
@@ -7,7 +7,7 @@ use Rattle.pc_model.specs.declared.row.Row.{Row}
 use Rattle.pc_model.specs.declared.query.Agg.{Agg}
 use Rattle.pc_model.specs.declared.query.Agg.TheVariants.{Count, Sum, Min, Max, Avg}
 use Rattle.pc_model.specs.declared.query.Folded.{Folded}
-use Rattle.pc_model.specs.Aggregate.{Ratio, whole, asked, int_sum, value_of}
+use Rattle.pc_model.specs.Aggregate.{whole, asked, int_sum, value_of}
 use Rattle.pc_model.specs.Right.{Question, value_for}
 use Rattle.pc_proof.specs.Observed.{ComesTo}
 use Rattle.pc_proof.specs.Setting.{Setting, seen, seen_numbers}

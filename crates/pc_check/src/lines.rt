@@ -1,4 +1,3 @@
-//! How many lines each part of an answer has.
 ghost use Rattle.std.specs.Prelude.{◌≡◌, ◌<◌, ◌^◌};
 ghost use Rattle.pc_proof.specs.Demands.{always_lines, lack_lines, mark_lines, never_lines, proof_lines, relation_lines, why_lines};
 

@@ -1,14 +1,13 @@
-ghost use Rattle.std.specs.Prelude.{◌≡◌, ◌+◌, ◌≤◌, ◌<◌, ◌^◌, ◌↔◌, ◌+ℤ◌, pos, Some, IsTrue, IsSome, IsSomeAnd};
+ghost use Rattle.std.specs.Prelude.{◌≡◌, ◌+◌, ◌≤◌, ◌<◌, ◌^◌, ◌↔◌, ◌+ℤ◌, IsTrue, IsSome, IsSomeAnd, option_map};
 ghost use Rattle.pc_num.specs.Signs.{Fits};
 ghost use Rattle.pc_model.specs.Aggregate.{IsSame, whole};
 ghost use Rattle.pc_model.specs.Possible.{IsPossible};
 ghost use Rattle.pc_model.specs.Runs.{rows_of};
-ghost use Rattle.std.specs.Prelude.{option_map};
 ghost use Rattle.pc_proof.specs.Form.{IsFormedRatio, IsFormedValue, IsFormedWhole};
 ghost use Rattle.pc_proof.specs.Observed.{ComesTo};
 ghost use Rattle.pc_proof.specs.Setting.{Setting};
 ghost use Rattle.pc_proof.specs.Table.{greater_of, lesser_of, ratio_of};
-ghost use Rattle.pc_judge.specs.Scene.{IsCounted, IsJudged};
+ghost use Rattle.pc_judge.specs.Scene.{IsJudged};
 ghost use Rattle.pc_check.specs.Totals.{average_of, question_with, total_value};
 ghost use Rattle.pc_check.specs.Verdicts.{IsMatterOf};
 
@@ -29,8 +28,7 @@ pub(crate) fn total_with(matter: &Matter<'_>, runs: &[Run]) -> Folded
     joined(&matter.scene.seen, &lost)
 }
 
-/// What observed rows and lost ones come to, of which each come to these. Where the sum does not fit, it is 0: of rows
-/// of a schema it fits.
+/// What observed and lost rows come to together. The sum is 0 where it does not fit; that of rows of a schema fits.
 fn joined(seen: &Folded, lost: &Folded) -> Folded
     requires few { seen.now.count + lost.now.count < 2 ^ 64 }
     ensures count { result.count ≡ seen.now.count + lost.now.count }

@@ -1,6 +1,4 @@
-use Rattle.std.proofs.Common.{◌≤◌, ◌^◌, subst, sym, arith}
-use Rattle.std.proofs.lemmas.Int.{ints}
-use Rattle.pc_model.specs.Folds.{IsFold}
+use Rattle.std.proofs.Common.{arith}
 use Rattle.pc_model.specs.Runs.{rows_of}
 use Rattle.pc_check.proofs.ManyRows.{possible_few, runs_few}
 use Rattle.pc_check.proofs.FoldedRows.{fold_few}
