@@ -7,23 +7,22 @@ use Rattle.pc_model.specs.declared.fault.Reason.TheVariants as reasons
 use Rattle.pc_model.specs.declared.fault.Refusal.{Refusal}
 use Rattle.pc_model.specs.declared.fault.Refusal.TheVariants as refusals
 use Rattle.pc_model.specs.Refusals.{fault_at, Gives}
-use Rattle.pc_model.specs.Texts.{file_limit}
 use Rattle.pc_base.specs.Files.{Files, file_of}
 use Rattle.pc_run.specs.declared.stop.Stop.{Stop}
 use Rattle.pc_run.specs.declared.stop.Stop.TheVariants as stops
-use Rattle.pc_run.specs.Outcome.{Obstacle, refused, bytes_in, bytes_under, and_then, or_refused}
+use Rattle.pc_run.specs.Outcome.{Obstacle, refused, bytes_in, bytes_under, limit_of, and_then, or_refused}
 use Rattle.pc_run.specs.Loading.{Agrees}
 use Rattle.pc_run.specs.Stops.{stop_of}
 
 -- a file that is not too long gives its bytes
-whole_in : (file : FileKind) (held : Option (List ℕ)) (bytes : List ℕ) → held ≡ Some bytes → length bytes ≤ file_limit → bytes_in file held ≡ Ok bytes
-whole_in file held bytes is short = rw is (rw (le-ltb file_limit (length bytes) short) refl)
+whole_in : (file : FileKind) (held : Option (List ℕ)) (bytes : List ℕ) → held ≡ Some bytes → length bytes ≤ limit_of file → bytes_in file held ≡ Ok bytes
+whole_in file held bytes is short = rw is (rw (le-ltb (limit_of file) (length bytes) short) refl)
 
-long_in : (file : FileKind) (held : Option (List ℕ)) → IsSomeAnd held (λ bytes. file_limit < length bytes) → bytes_in file held ≡ Err (refused (fault_at file 0 reasons.TooLong))
+long_in : (file : FileKind) (held : Option (List ℕ)) → IsSomeAnd held (λ bytes. limit_of file < length bytes) → bytes_in file held ≡ Err (refused (fault_at file 0 reasons.TooLong))
 long_in file None none = absurd none
-long_in file (Some bytes) long = rw (lt-ltb file_limit (length bytes) long) refl
+long_in file (Some bytes) long = rw (lt-ltb (limit_of file) (length bytes) long) refl
 
-pub agrees_whole : (file : FileKind) (told : Option Files) (name bytes : List ℕ) → length bytes ≤ file_limit → IfSome told (λ files. file_of files name ≡ Some bytes) → Agrees file told (bytes_under file name) (Ok bytes)
+pub agrees_whole : (file : FileKind) (told : Option Files) (name bytes : List ℕ) → length bytes ≤ limit_of file → IfSome told (λ files. file_of files name ≡ Some bytes) → Agrees file told (bytes_under file name) (Ok bytes)
 unfolding bytes_under
 agrees_whole file None name bytes short is = tt
 agrees_whole file (Some files) name bytes short is = whole_in file (file_of files name) bytes is short
@@ -32,10 +31,10 @@ only_long : (held : Option (List ℕ)) (into : List ℕ) (limit : ℕ) → IsSom
 only_long None into limit none = none
 only_long (Some bytes) into limit both = both.1
 
-pub agrees_long : (file : FileKind) (told : Option Files) (name into : List ℕ) → IfSome told (λ files. IsSomeAnd (file_of files name) (λ bytes. (into ≡ take (file_limit + 1) bytes) × (file_limit < length bytes))) → Agrees file told (bytes_under file name) (Err (stops.Refused (fault_at file 0 reasons.TooLong)))
+pub agrees_long : (file : FileKind) (told : Option Files) (name into : List ℕ) → IfSome told (λ files. IsSomeAnd (file_of files name) (λ bytes. (into ≡ take (limit_of file + 1) bytes) × (limit_of file < length bytes))) → Agrees file told (bytes_under file name) (Err (stops.Refused (fault_at file 0 reasons.TooLong)))
 unfolding bytes_under
 agrees_long file None name into is = tt
-agrees_long file (Some files) name into is = long_in file (file_of files name) (only_long (file_of files name) into file_limit is)
+agrees_long file (Some files) name into is = long_in file (file_of files name) (only_long (file_of files name) into (limit_of file) is)
 
 -- what a reader answers for the bytes of a file
 pub stopped : {X : Type 0} → Result X Refusal → Result X Stop

@@ -1,9 +1,12 @@
+pub mod Agreement
 pub mod Answering
 pub mod Asked
 pub mod Cases
+pub mod Claims
 pub mod Documents
 pub mod Files
 pub mod Listings
 pub mod MadeCases
 pub mod Meanings
 pub mod StopReplies
+pub mod Unbroken

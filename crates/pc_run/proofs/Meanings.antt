@@ -1,15 +1,17 @@
 -- What the status of a run means, from the reply and what the put of it left.
-use Rattle.std.proofs.Common.{◌≡◌, ℕ, ⊎_elim, inl, inr, ◌++◌, List, take, Option, Some, None, Result, Ok, Err, IfSome, subst, ap}
+use Rattle.std.proofs.Common.{◌≡◌, ℕ, ⊎_elim, inl, inr, ◌++◌, List, take, Option, Some, None, Result, Ok, Err, IfSome, ◌⊎◌, sym, subst, refl, ap}
 use Rattle.pc_base.specs.declared.status.Status.{Status}
 use Rattle.pc_base.specs.declared.status.Status.TheVariants as ended
 use Rattle.pc_base.specs.declared.outside.Put.TheVariants.{All, Failed}
 use Rattle.pc_base.specs.Puts.{Leaves}
 use Rattle.pc_words.specs.Words.{Asked, command_of}
-use Rattle.pc_run.specs.Outcome.{Obstacle, Input, refused, absent, ComesTo}
+use Rattle.pc_check.specs.declared.verdict.Verdict.{Verdict}
+use Rattle.pc_check.specs.declared.verdict.Verdict.TheVariants as verdicts
+use Rattle.pc_run.specs.Outcome.{Obstacle, Input, asks, proves, claims, shows, makes, refused, absent, ComesTo}
 use Rattle.pc_model.specs.declared.fault.Fault.{Fault}
 use Rattle.pc_run.specs.Reports.{usage_line, malformed_line}
-use Rattle.pc_run.specs.Replies.{SaysInput, Says, SaysOutcome, SaysFault, RepliesToCommand, Responds}
-use Rattle.pc_run.specs.Meaning.{Call, IsWritten, IsCutOff, IsTold, IsAnswered, IsDone, HasWriteFault, IsNoCommand, IsRefused, HasReadFault, Means, after_failed_put}
+use Rattle.pc_run.specs.Replies.{SaysInput, Says, status_of, SaysOutcome, SaysFault, RepliesToCommand, Responds}
+use Rattle.pc_run.specs.Meaning.{Call, IsWritten, IsCutOff, IsTold, IsAnswered, HasEnded, HasWriteFault, IsNoCommand, IsRefused, HasReadFault, Means, after_failed_put}
 
 -- what the sink holds after its put
 pub written_from : (kept left : Option (List ℕ)) (text : List ℕ) → Leaves kept left text All → IfSome kept (λ before. left ≡ Some (before ++ text))
@@ -40,8 +42,29 @@ told_fault call asked status text command says told = record {
   told = subst (λ (t : List ℕ). IsTold call t) says.line told;
 }
 
-answered : (call : Call) (asked : Asked) (text : List ℕ) (input : Input) → command_of call.words ≡ Some asked → ComesTo call.files asked (Ok input) → SaysInput input text → IsAnswered call text
-answered call asked text input command agrees says = record { asked = asked; command = command; input = input; agrees = agrees; says = says }
+answered : (call : Call) (asked : Asked) (status : Status) (text : List ℕ) (input : Input) → command_of call.words ≡ Some asked → ComesTo call.files asked (Ok input) → SaysInput input status text → IsAnswered call status text
+answered call asked status text input command agrees says = record { asked = asked; command = command; input = input; agrees = agrees; says = says }
+
+-- what is said of an input is done, or no
+abbrev IsEnd : Status → Type 0
+IsEnd status = (status ≡ ended.Done) ⊎ (status ≡ ended.SaidNo)
+
+verdict_ends : (verdict : Verdict) → IsEnd (status_of verdict)
+verdict_ends verdicts.Yes = inl refl
+verdict_ends (verdicts.No line rule) = inr refl
+
+ends : (input : Input) (status : Status) (text : List ℕ) → SaysInput input status text → IsEnd status
+ends (asks nodes case) status text says = inl says.0
+ends (proves nodes case) status text says = inl says.0
+ends (claims claim) status text says = subst IsEnd (sym says.ended) (verdict_ends says.verdict)
+ends (shows listing) status text says = inl says.0
+ends (makes numbers) status text says = inl says.0
+
+ended_whole : (call : Call) (status : Status) → HasEnded call status → IsEnd status → Means call status
+ended_whole call status has end = ⊎_elim (λ done. rw done (rw done at has)) (λ no. rw no (rw no at has)) end
+
+ended_cut_off : (call : Call) (status : Status) → HasWriteFault call → IsEnd status → Means call (after_failed_put status)
+ended_cut_off call status fault end = ⊎_elim (λ done. rw done fault) (λ no. rw no fault) end
 
 told_refusal : (call : Call) (asked : Asked) (text : List ℕ) (fault : Fault) → command_of call.words ≡ Some asked → ComesTo call.files asked (Err (refused fault)) → text ≡ malformed_line fault → IsTold call text → IsRefused call
 told_refusal call asked text fault command agrees is told = record {
@@ -55,7 +78,7 @@ told_refusal call asked text fault command agrees is told = record {
 -- the whole text was put
 outcome_whole : (call : Call) (asked : Asked) (status : Status) (text : List ℕ) → command_of call.words ≡ Some asked → (outcome : Result Input Obstacle) → Says outcome status text → ComesTo call.files asked outcome → IsWritten call text → Means call status
 outcome_whole call asked status text command (Ok input) says agrees written =
-    rw says.0 (let done : IsDone call = record { text = text; answered = answered call asked text input command agrees says.1; written = written } in done)
+    ended_whole call status (record { text = text; answered = answered call asked status text input command agrees says; written = written }) (ends input status text says)
 outcome_whole call asked status text command (Err (refused fault)) says agrees written =
     rw says.0 (told_refusal call asked text fault command agrees says.1 (inl written))
 outcome_whole call asked status text command (Err (absent file)) says agrees written = absurd says
@@ -77,7 +100,7 @@ means_whole call status text responds written =
 -- a front of it was put
 outcome_cut_off : (call : Call) (asked : Asked) (status : Status) (text : List ℕ) → command_of call.words ≡ Some asked → (outcome : Result Input Obstacle) → Says outcome status text → ComesTo call.files asked outcome → IsCutOff call text → Means call (after_failed_put status)
 outcome_cut_off call asked status text command (Ok input) says agrees cut =
-    rw says.0 (let fault : HasWriteFault call = record { text = text; answered = answered call asked text input command agrees says.1; cut_off = cut } in fault)
+    ended_cut_off call status (record { status = status; text = text; answered = answered call asked status text input command agrees says; cut_off = cut }) (ends input status text says)
 outcome_cut_off call asked status text command (Err (refused fault)) says agrees cut =
     rw says.0 (told_refusal call asked text fault command agrees says.1 (inr cut))
 outcome_cut_off call asked status text command (Err (absent file)) says agrees cut = absurd says

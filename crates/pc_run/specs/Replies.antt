@@ -1,5 +1,5 @@
 -- With which status and text a run replies to the files of a command.
-use Rattle.std.specs.Prelude.{◌≡◌, ◌↔◌, ℕ, ◌⊎◌, ⊤, Bool, false, IsTrue, List, length, All, Option, Some, None, Result, Ok, Err, IsOk, IsOkAnd, IfSome}
+use Rattle.std.specs.Prelude.{◌≡◌, ◌↔◌, ℕ, ◌⊎◌, ⊤, Bool, false, IsTrue, List, length, All, Option, Some, None, Result, Ok, Err, IsOk, IsOkAnd, IfOk, IfSome}
 use Rattle.std.specs.List.{AllPass, AllZip}
 use Rattle.pc_model.specs.declared.fault.FileKind.{FileKind}
 use Rattle.pc_model.specs.declared.fault.FileKind.TheVariants as kinds
@@ -178,9 +178,18 @@ Says (Ok input) status text = SaysInput input status text
 Says (Err (refused fault)) status text = (status ≡ ended.Malformed) × (text ≡ malformed_line fault)
 Says (Err (absent file)) status text = ⊥
 
+-- what was read is as its command needs it
+abbrev pub IsSoundInput : Input → Type 0
+IsSoundInput (asks nodes case) = IsSound case
+IsSoundInput (proves nodes case) = IsSound case
+IsSoundInput (claims claim) = IsCheckable claim
+IsSoundInput (shows listing) = IsShowable listing
+IsSoundInput (makes numbers) = ⊤
+
 -- the reply to an outcome, which is that of the files where the shelf tells them
 pub record SaysOutcome (told : Option Files) (asked : Asked) (status : Status) (text : List ℕ) : Type 0 where
   pub outcome : Result Input Obstacle
+  pub sound : IfOk outcome IsSoundInput
   pub says : Says outcome status text
   pub agrees : ComesTo told asked outcome
 

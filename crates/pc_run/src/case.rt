@@ -18,6 +18,7 @@ use pc_words::Bound;
 use std::alloc::Global;
 
 /// Reads the files of `bound` or `prove` in their order, and then its queries.
+#[tactic(auto, using(crate::proofs::Cases::proves_too))]
 pub(crate) fn read_case<F: Shelf>(
     alloc: Global,
     files: &mut F,
@@ -25,6 +26,17 @@ pub(crate) fn read_case<F: Shelf>(
 ) -> Result<Case, Stop>
     ensures agrees { InputAgrees (asks command.now.nodes) (F.files files.old) (bound (bound_names command.now)) (F.faults files.old) (F.faults files.new) result }
     ensures proves { InputAgrees (proves command.now.nodes) (F.files files.old) (prove (bound_names command.now)) (F.faults files.old) (F.faults files.new) result }
+    ensures sound { IfOk result IsSound }
+    ensures files_stay { F.files files.new ≡ F.files files.old }
+    ensures faults_stay { F.faults files.old ≤ F.faults files.new }
+    ensures calls { F.calls files.new ≤ F.calls files.old + 3 }
+{
+    case_under(alloc, files, command)
+}
+
+/// The same as the input of `bound`, which `prove` reads too.
+fn case_under<F: Shelf>(alloc: Global, files: &mut F, command: &Bound) -> Result<Case, Stop>
+    ensures agrees { InputAgrees (asks command.now.nodes) (F.files files.old) (bound (bound_names command.now)) (F.faults files.old) (F.faults files.new) result }
     ensures sound { IfOk result IsSound }
     ensures files_stay { F.files files.new ≡ F.files files.old }
     ensures faults_stay { F.faults files.old ≤ F.faults files.new }

@@ -1,6 +1,7 @@
 use Rattle.std.proofs.Common.{map, string_bytes}
 use Rattle.pc_run.specs.Meaning.{call_of}
 use Rattle.pc_run.proofs.Meanings.{written_from, front_from, means_whole, means_cut_off}
+use Rattle.pc_run.proofs.Agreement.{agrees}
 use Rattle.pc_run.proofs.Answering.{answers}
 use Rattle.pc_run.proofs.run.Goals as goal
 
@@ -17,6 +18,12 @@ returns-in-All-clause-answers g c =
     answers
     (call_of (g.F.Shelf.files c.args.files.now) (g.K.Sink.kept c.args.out.now) (g.K.Sink.kept c.put.new.self) (map string_bytes c.args.words.now) (g.F.Shelf.faults c.args.files.now) (g.F.Shelf.faults c.respond.new.files) (g.K.Sink.faults c.args.out.now) (g.K.Sink.faults c.put.new.self))
     c.in-Ok.reply.status (returns-in-All-clause-means g c)
+
+pub returns-in-All-clause-agrees : goal.returns-in-All-clause-agrees
+returns-in-All-clause-agrees g c =
+    agrees
+    (call_of (g.F.Shelf.files c.args.files.now) (g.K.Sink.kept c.args.out.now) (g.K.Sink.kept c.put.new.self) (map string_bytes c.args.words.now) (g.F.Shelf.faults c.args.files.now) (g.F.Shelf.faults c.respond.new.files) (g.K.Sink.faults c.args.out.now) (g.K.Sink.faults c.put.new.self))
+    c.in-Ok.reply.status c.in-Ok.reply.text.items c.in-Ok.ensures.responds (returns-in-All-clause-means g c)
 
 pub returns-in-Failed-clause-means : goal.returns-in-Failed-clause-means
 returns-in-Failed-clause-means g c =

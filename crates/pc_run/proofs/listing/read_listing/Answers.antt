@@ -1,25 +1,26 @@
-use Rattle.std.proofs.Common.{List}
+use Rattle.std.proofs.Common.{◌≤◌, refl, arith}
 use Rattle.std.proofs.lemmas.Result.{err_from_is_err_and}
-use Rattle.pc_model.specs.declared.constraint.Constraint.{Constraint}
 use Rattle.pc_model.specs.declared.fault.FileKind.TheVariants as kinds
 use Rattle.pc_words.specs.Commands.{show_names}
-use Rattle.pc_run.specs.Outcome.{constraints_under}
-use Rattle.pc_run.proofs.Cases.{moved, moved_cause}
-use Rattle.pc_run.proofs.Listings.{at_schema, at_constraints, at_end}
+use Rattle.pc_words.specs.Words.{show}
+use Rattle.pc_run.specs.Outcome.{schema_under, constraints_under}
+use Rattle.pc_run.proofs.Cases.{at_file, schema_read}
+use Rattle.pc_run.proofs.Listings.{schema_refused, constraints_refused, at_end}
 use Rattle.pc_run.proofs.listing.read_listing.Goals as goal
 
 pub returns-in_err-schema-clause-agrees : goal.returns-in_err-schema-clause-agrees
 returns-in_err-schema-clause-agrees g c =
     let p = err_from_is_err_and c.from_residual.result c.from_residual.ensures.1 in
-    rw (p.1, p.2) (at_schema (g.F.Shelf.files c.args.files.now) (show_names c.args.command.now) (g.F.Shelf.faults c.args.files.now) (g.F.Shelf.faults c.load_schema.new.files) c.in_err-schema.field-0.0 c.in_err-schema.ensures.agrees c.in_err-schema.ensures.cause)
+    let earlier : g.F.Shelf.faults c.args.files.now ≤ g.F.Shelf.faults c.args.files.now = omega arith in
+    rw (p.1, p.2) (at_file (g.F.Shelf.files c.args.files.now) (g.F.Shelf.files c.args.files.now) refl (show (show_names c.args.command.now)) kinds.Schema (schema_under c.args.command.now.schema.now) (g.F.Shelf.faults c.args.files.now) (g.F.Shelf.faults c.args.files.now) (g.F.Shelf.faults c.load_schema.new.files) earlier tt
+    (schema_refused (g.F.Shelf.files c.args.files.now) (show_names c.args.command.now)) c.in_err-schema.field-0.0 c.in_err-schema.ensures.agrees c.in_err-schema.ensures.cause)
 
 pub returns-in_err-constraints-clause-agrees : goal.returns-in_err-constraints-clause-agrees
 returns-in_err-constraints-clause-agrees g c =
     let p = err_from_is_err_and c.from_residual-in_err-constraints.result c.from_residual-in_err-constraints.ensures.1 in
-    let same = c.in_ok-schema.ensures.files_stay in
-    let agrees = moved {X = List Constraint} kinds.Constraints (constraints_under c.in_ok-schema.schema c.args.command.now.constraints.now) c.in_err-constraints.field-0.0 (g.F.Shelf.files c.load_schema.new.files) (g.F.Shelf.files c.args.files.now) same c.in_err-constraints.ensures.agrees in
-    let cause = moved_cause (List Constraint) c.args.command.now.constraints.now (g.F.Shelf.faults c.load_schema.new.files) (g.F.Shelf.faults c.load_constraints.new.files) c.in_err-constraints.field-0.0 (g.F.Shelf.files c.load_schema.new.files) (g.F.Shelf.files c.args.files.now) same c.in_err-constraints.ensures.cause in
-    rw (p.1, p.2) (at_constraints (g.F.Shelf.files c.args.files.now) (show_names c.args.command.now) (g.F.Shelf.faults c.args.files.now) (g.F.Shelf.faults c.load_schema.new.files) (g.F.Shelf.faults c.load_constraints.new.files) c.in_ok-schema.schema c.in_ok-schema.ensures.agrees c.in_ok-schema.ensures.faults_stay c.in_err-constraints.field-0.0 agrees cause)
+    rw (p.1, p.2) (at_file (g.F.Shelf.files c.args.files.now) (g.F.Shelf.files c.load_schema.new.files) c.in_ok-schema.ensures.files_stay (show (show_names c.args.command.now)) kinds.Constraints (constraints_under c.in_ok-schema.schema c.args.command.now.constraints.now) (g.F.Shelf.faults c.args.files.now) (g.F.Shelf.faults c.load_schema.new.files) (g.F.Shelf.faults c.load_constraints.new.files) c.in_ok-schema.ensures.faults_stay
+    (schema_read (g.F.Shelf.files c.args.files.now) c.args.command.now.schema.now c.in_ok-schema.schema c.in_ok-schema.ensures.agrees)
+    (constraints_refused (g.F.Shelf.files c.args.files.now) (show_names c.args.command.now) c.in_ok-schema.schema c.in_ok-schema.ensures.agrees) c.in_err-constraints.field-0.0 c.in_err-constraints.ensures.agrees c.in_err-constraints.ensures.cause)
 
 pub returns-clause-agrees : goal.returns-clause-agrees
 returns-clause-agrees g c =

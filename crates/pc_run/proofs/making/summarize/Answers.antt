@@ -11,6 +11,7 @@ use Rattle.pc_report.specs.Summary.{summary_text}
 use Rattle.pc_run.specs.Replies.{SaysSummary}
 use Rattle.pc_run.proofs.Documents.{blocks_are_accepted, ends_can_be_printed}
 use Rattle.pc_run.proofs.MadeCases.{case_is, made_asked, none_is_impossible}
+use Rattle.pc_run.proofs.Unbroken.{answers_case}
 use Rattle.pc_run.proofs.making.summarize.Goals as goal
 
 pub answer_all-requires-clause-well_formed : goal.answer_all-requires-clause-well_formed
@@ -30,18 +31,18 @@ summary_of-requires-clause-well_formed c = rw c.in_ok-case.ensures.schema schema
 
 pub summary_of-requires-clause-queries : goal.summary_of-requires-clause-queries
 summary_of-requires-clause-queries c =
-    let answers : AnswersCase usual_nodes c.in_ok-case.case c.in_ok-document.document = record { answers = c.in_ok-document.ensures.answers; written = c.in_ok-document.ensures.written } in
+    let answers = answers_case usual_nodes c.in_ok-case.case c.in_ok-document.document c.in_ok-document.ensures.answers c.in_ok-document.ensures.written c.in_ok-document.ensures.formed in
     blocks_are_accepted usual_nodes c.in_ok-case.case c.in_ok-document.document answers (rw (c.in_ok-case.ensures.schema, c.in_ok-case.ensures.queries) made_asked)
 
 pub summary_of-requires-clause-averages : goal.summary_of-requires-clause-averages
 summary_of-requires-clause-averages c =
-    let answers : AnswersCase usual_nodes c.in_ok-case.case c.in_ok-document.document = record { answers = c.in_ok-document.ensures.answers; written = c.in_ok-document.ensures.written } in
+    let answers = answers_case usual_nodes c.in_ok-case.case c.in_ok-document.document c.in_ok-document.ensures.answers c.in_ok-document.ensures.written c.in_ok-document.ensures.formed in
     ends_can_be_printed usual_nodes c.in_ok-case.case c.in_ok-document.document answers
 
 pub returns : goal.returns
 returns c =
     let same = case_is c.args.command.now.seed c.args.command.now.size c.in_ok-case.case c.in_ok-case.ensures.schema c.in_ok-case.ensures.rows c.in_ok-case.ensures.constraints c.in_ok-case.ensures.queries in
-    let here : AnswersCase usual_nodes c.in_ok-case.case c.in_ok-document.document = record { answers = c.in_ok-document.ensures.answers; written = c.in_ok-document.ensures.written } in
+    let here = answers_case usual_nodes c.in_ok-case.case c.in_ok-document.document c.in_ok-document.ensures.answers c.in_ok-document.ensures.written c.in_ok-document.ensures.formed in
     let answers = subst (λ (case : Case). AnswersCase usual_nodes case c.in_ok-document.document) same here in
     IfOk-weaker c.summary_of.result
     (λ text. text.items ≡ summary_text c.in_ok-case.case.schema (length c.in_ok-case.case.rows) (length c.in_ok-case.case.constraints) c.in_ok-document.document)

@@ -9,7 +9,7 @@ use Rattle.pc_run.proofs.reply.reply_to_bound.Goals as goal
 
 pub returns-in_ok-report_case-in-Ok-clause-replies : goal.returns-in_ok-report_case-in-Ok-clause-replies
 returns-in_ok-report_case-in-Ok-clause-replies g c =
-    inr (record { outcome = Ok (asks c.args.command.now.nodes c.in-Ok.case); says = (refl, c.in_ok-report_case-in-Ok.ensures); agrees = c.in-Ok.ensures.agrees })
+    inr (record { outcome = Ok (asks c.args.command.now.nodes c.in-Ok.case); sound = c.in-Ok.ensures.sound; says = (refl, c.in_ok-report_case-in-Ok.ensures); agrees = c.in-Ok.ensures.agrees })
 
 pub returns-in-Err-clause-replies : goal.returns-in-Err-clause-replies
 returns-in-Err-clause-replies g c =

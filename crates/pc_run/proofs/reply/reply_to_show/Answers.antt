@@ -9,7 +9,7 @@ use Rattle.pc_run.proofs.reply.reply_to_show.Goals as goal
 
 pub returns-in_ok-report_listing-in-Ok-clause-replies : goal.returns-in_ok-report_listing-in-Ok-clause-replies
 returns-in_ok-report_listing-in-Ok-clause-replies g c =
-    inr (record { outcome = Ok (shows c.in-Ok.listing); says = (refl, c.in_ok-report_listing-in-Ok.ensures); agrees = c.in-Ok.ensures.agrees })
+    inr (record { outcome = Ok (shows c.in-Ok.listing); sound = c.in-Ok.ensures.showable; says = (refl, c.in_ok-report_listing-in-Ok.ensures); agrees = c.in-Ok.ensures.agrees })
 
 pub returns-in-Err-clause-replies : goal.returns-in-Err-clause-replies
 returns-in-Err-clause-replies g c =
