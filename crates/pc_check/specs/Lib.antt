@@ -1,1 +1,4 @@
+pub mod Blocks
+pub mod Statements
+pub mod Totals
 pub mod Verdicts

@@ -2,8 +2,19 @@
 #![tactic(auto)]
 
 mod answers;
+mod area;
+mod block;
 mod document;
+mod ends;
+mod lacks;
+mod line_counts;
+mod lines;
 mod matter;
+mod observed;
+mod relations;
+mod runs;
+mod statements;
+mod totals;
 mod verdict;
 
 pub use document::check;

@@ -1,6 +1,6 @@
 -- The text of a document has as many lines as its parts have, so it has at least as many bytes.
-use Rattle.std.proofs.Common.{◌≡◌, ℕ, ◌+◌, ◌≤◌, List, [], ◌∷◌, ◌++◌, length, All, Option, Some, None, refl, ap, ◌∙◌, arith}
-use Rattle.std.specs.Prelude.{is_none, true, false}
+use Rattle.std.proofs.Common.{◌≡◌, ℕ, ◌+◌, ◌≤◌, List, [], ◌∷◌, ◌++◌, length, All, Option, Some, None, refl, sym, ap, arith}
+use Rattle.std.specs.Prelude.{is_none, codes}
 use Rattle.std.proofs.lemmas.Bool.{false≢true}
 use Rattle.std.proofs.lemmas.List.{length-append}
 use Rattle.std.proofs.lemmas.List.Elements.{All-head, All-tail}
@@ -38,7 +38,8 @@ use Rattle.pc_lines.specs.declared.tags.Side.{Side}
 use Rattle.pc_lines.specs.declared.tags.Side.TheVariants.{Low as low, High as high}
 use Rattle.pc_lines.specs.ValueLines.{outer_text}
 use Rattle.pc_lines.specs.TokenLines.{run_text, cut_node_text, bare_cut, query_line_text}
-use Rattle.pc_document.specs.DocumentLines.{tree_lines, runs_lines, proof_lines, bounded_lines, crossing_lines, why_lines, relation_lines, never_lines, always_lines, lack_lines, end_lines, ends_lines, name_lines, block_tree_lines, answer_lines, after_lines, block_lines, document_lines}
+use Rattle.pc_document.specs.DocumentLines.{tree_lines, runs_lines, proof_lines, bounded_lines, crossing_lines, why_lines, relation_lines, never_lines, always_lines, lack_lines, mark_lines, end_lines, ends_lines, name_lines, block_tree_lines, answer_lines, after_lines, block_lines, document_lines}
+use Rattle.pc_document.specs.declared.tags.After.{After}
 use Rattle.pc_document.specs.Told.{IsDocumentText}
 
 -- ---- lines of lists
@@ -96,7 +97,7 @@ module _ (schema : Schema) (query : Query) where
   lack_counted lacks.Silent = refl
   lack_counted (lacks.Never by') = let each = never_counted by' in omega (arith, each)
   lack_counted (lacks.Sometimes without with') =
-      let both = length-append (runs_lines schema without) (Rattle.std.specs.Prelude.codes "some" ∷ runs_lines schema with') in
+      let both = length-append (runs_lines schema without) (codes "some" ∷ runs_lines schema with') in
       let one = runs_counted schema without in
       let two = runs_counted schema with' in
       omega (arith, both, one, two)
@@ -106,7 +107,7 @@ module _ (schema : Schema) (query : Query) where
   end_counted : (side : Side) (end : End) → length (end_lines schema query side end) ≡ demands.mark_lines end.mark + demands.proof_lines end.proof
   end_counted side end = by_mark end.mark
     where
-      by_mark : (mark : Mark) → length (Rattle.pc_document.specs.DocumentLines.mark_lines schema query side end mark) ≡ demands.mark_lines mark + demands.proof_lines end.proof
+      by_mark : (mark : Mark) → length (mark_lines schema query side end mark) ≡ demands.mark_lines mark + demands.proof_lines end.proof
       by_mark (marks.Exact runs) =
           let both = length-append (runs_lines schema runs) (proof_lines schema query end.proof) in
           let one = runs_counted schema runs in
@@ -127,7 +128,7 @@ module _ (schema : Schema) (query : Query) where
 name_counted : (schema : Schema) (group name : Option ℕ) → is_none name ≡ is_none group → 1 + length (name_lines schema group name) ≡ demands.front_lines name
 name_counted schema None None same = refl
 name_counted schema None (Some place) same = absurd (false≢true same)
-name_counted schema (Some group) None same = absurd (false≢true (Rattle.std.proofs.Common.sym same))
+name_counted schema (Some group) None same = absurd (false≢true (sym same))
 name_counted schema (Some group) (Some place) same = refl
 
 tree_lines_counted : (schema : Schema) (tree : BlockTree) → length (block_tree_lines schema tree) ≡ tree_count tree
@@ -136,7 +137,7 @@ tree_lines_counted schema trees.Same = refl
 
 block_counted : (schema : Schema) (b : Block) → IsFormedBlock schema b → length (block_lines schema b) ≡ block_count b
 block_counted schema b formed =
-    let after = record { lack = b.answer.lack; ends = b.answer.ends } in
+    let after : After = record { lack = b.answer.lack; ends = b.answer.ends } in
     let last = length-append (lack_lines schema b.query b.answer.lack) (ends_lines schema b.query b.answer.ends) in
     let answer = length-append (relation_lines schema b.query b.answer.relation) (after_lines schema b.query after) in
     let tree = length-append (block_tree_lines schema b.tree) (answer_lines schema b.query b.answer) in
@@ -170,7 +171,7 @@ lines_are_bytes (line ∷ lines) =
 pub lines_counted : (schema : Schema) (bytes : List ℕ) (doc : Document) → IsDocumentText schema bytes doc → 2 + blocks_count doc.blocks ≤ length bytes
 lines_counted schema bytes doc is =
     let blocks = blocks_counted schema doc.blocks is.0 in
-    let last = length-append (items_text (block_lines schema) doc.blocks) (Rattle.std.specs.Prelude.codes "end" ∷ []) in
+    let last = length-append (items_text (block_lines schema) doc.blocks) (codes "end" ∷ []) in
     let few = lines_are_bytes (document_lines schema doc) in
     let same = ap length is.1 in
     omega (arith, blocks, last, few, same)

@@ -28,5 +28,5 @@ mod words;
 mod writer;
 
 pub use document::{NoDocument, read_document};
-pub use laws::{documents_read_back, one_document, reading_tells};
+pub use laws::{documents_read_back, lines_are_bytes, one_document, reading_tells};
 pub use writer::put_document;

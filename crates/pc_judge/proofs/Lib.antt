@@ -16,5 +16,6 @@ pub mod RatiosShown
 pub mod SceneLimits
 pub mod ScenePrograms
 pub mod TreeFindings
+pub mod Turns
 pub mod Verdicts
 pub mod Walking

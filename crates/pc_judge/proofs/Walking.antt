@@ -1,6 +1,5 @@
 -- A walk from line to line: where it starts, what a line does to it, and what it has found at its end.
 use Rattle.std.proofs.Common.{◌≡◌, ℕ, ◌+◌, ◌<◌, ◌≤◌, ℤ, List, [], ◌∷◌, ◌++◌, length, drop, get_or, All, Option, Some, None, refl, ap, ◌∙◌, sym, subst, arith, append-nil, length-drop}
-use Rattle.std.specs.Prelude.{reverse}
 use Rattle.std.proofs.lemmas.List.{drop_more, drop_all}
 use Rattle.std.proofs.lemmas.List.Elements.{All-nil, All-cons, All-head}
 use Rattle.pc_model.specs.declared.tree.TreeNode.{TreeNode}
@@ -15,10 +14,10 @@ use Rattle.pc_judge.specs.declared.tree_line.Finding.TheVariants as found
 use Rattle.pc_judge.specs.declared.walk.Walk.{Walk}
 use Rattle.pc_judge.specs.declared.walk.TreeFinding.TheVariants as verdicts
 use Rattle.pc_judge.specs.Lines.{IsOpen, IsFinding}
-use Rattle.pc_judge.specs.Walk.{whole_demands, whole_bound, less_part, more_part, rule_number, IsPast, IsEntered, HasPassed, IsTreeFinding}
+use Rattle.pc_judge.specs.Walk.{whole_demands, whole_bound, less_part, more_part, rule_number, at_root, in_less, with_bound, later_corners, corners_of, IsStanding, IsNext, HasLeft, HasCell, HasPassed, IsTreeFinding}
 use Rattle.pc_judge.proofs.Corners.{root-open}
 use Rattle.pc_judge.proofs.Forest.{nodes_left, demands_left, bound_left, IsWalking, greater-none, at_bound, at_void, at_split, broken_line}
-use Rattle.pc_judge.proofs.Loops.{reverse-push}
+use Rattle.pc_judge.proofs.Turns.{less-corners, less-stands}
 
 abbrev root_of : Program → Corner
 root_of p = record { floors = p.floor; caps = p.cap }
@@ -40,113 +39,135 @@ no_trees k (void m ∷ ts) none = let e : [] ≡ nodes.Void m ∷ nodes_left (k 
 no_trees k (split cell at t u ∷ ts) none =
     let e : [] ≡ nodes.Split cell at (k + 1) (k + 1 + size_of t) ∷ ((nodes_from (k + 1) t ++ nodes_from (k + 1 + size_of t) u) ++ nodes_left (k + size_of (split cell at t u)) ts) = none in absurd cc
 
+-- at a place, where the walk holds the next one of the open boxes, if there is one
+pub record IsAt (p : Program) (list : List TreeNode) (line place : ℕ) (walk : Walk) : Type 0 where
+  pub corners : List Corner
+  pub walking : IsWalking p (whole_demands line p list) (whole_bound p list) (drop place list) place (line + place) corners walk.most
+  pub next : IsNext corners walk
+  pub stands : IsStanding walk
+
+-- .. and before a node
+pub record IsBefore (p : Program) (list : List TreeNode) (line place : ℕ) (node : TreeNode) (walk : Walk) : Type 0 where
+  pub walking : IsWalking p (whole_demands line p list) (whole_bound p list) (node ∷ drop (place + 1) list) place (line + place) (corners_of walk) walk.most
+  pub stands : IsStanding walk
+
 module _ (p : Program) (list : List TreeNode) (line : ℕ) where
-  -- at a place, with the open boxes as the walk has them, the last one next
-  abbrev pub IsAt : ℕ → List Corner → Option ℤ → Type 0
-  IsAt place items most = IsWalking p (whole_demands line p list) (whole_bound p list) (drop place list) place (line + place) (reverse items) most
+  abbrev Stands : List TreeNode → ℕ → ℕ → List Corner → Option ℤ → Type 0
+  Stands left place at corners most = IsWalking p (whole_demands line p list) (whole_bound p list) left place at corners most
 
-  -- .. and before a node, whose box was taken
-  abbrev pub IsBefore : ℕ → TreeNode → Corner → Walk → Type 0
-  IsBefore place node corner walk =
-      IsWalking p (whole_demands line p list) (whole_bound p list) (node ∷ drop (place + 1) list) place (line + place) (corner ∷ reverse walk.corners.items) walk.most
-
-  from_root : IsProgram p → IsInPreorder list → IsAt 0 (root_of p ∷ []) None
+  from_root : IsProgram p → IsInPreorder list → IsAt p list line 0 (at_root p)
   from_root program preorder =
       let t = tree_of list in
       let same : line + 0 ≡ line = omega arith in
       record {
-        trees = t ∷ [];
-        long = refl;
-        left_are = preorder ∙ sym (append-nil (nodes_from 0 t));
-        decides = λ s verdict judged. subst (λ (ds : List Placed). Judges s ds verdict)
-            (append-nil (split_demands (line + 0) p p.floor p.cap t) ∙ ap (λ k. split_demands k p p.floor p.cap t) same) judged;
-        bounded = sym (greater-none (whole_bound p list));
-        boxes = All-cons (IsOpen p) (root_of p) [] (root-open p program) (All-nil (IsOpen p));
+        corners = root_of p ∷ [];
+        walking = record {
+          trees = t ∷ [];
+          long = refl;
+          left_are = preorder ∙ sym (append-nil (nodes_from 0 t));
+          decides = λ s verdict judged. subst (λ (ds : List Placed). Judges s ds verdict)
+              (append-nil (split_demands (line + 0) p p.floor p.cap t) ∙ ap (λ k. split_demands k p p.floor p.cap t) same) judged;
+          bounded = sym (greater-none (whole_bound p list));
+          boxes = All-cons (IsOpen p) (root_of p) [] (root-open p program) (All-nil (IsOpen p));
+        };
+        next = refl;
+        stands = record { paired = program.floors ∙ sym program.caps; cells = All-nil (HasCell (length p.cap)) };
       }
 
-  pub walking-start : (walk : Walk) → IsProgram p → IsInPreorder list → walk.corners.items ≡ root_of p ∷ [] → walk.most ≡ None → IsAt 0 walk.corners.items walk.most
-  walking-start walk program preorder corners most =
-      subst (λ (items : List Corner). IsAt 0 items walk.most) (sym corners) (subst (IsAt 0 (root_of p ∷ [])) (sym most) (from_root program preorder))
-
-  pub walking-here : (place : ℕ) (items : List Corner) (walk : Walk) (corner : Corner) (node : TreeNode) → place < length list → node ≡ get_or list place node
-      → items ≡ walk.corners.items ++ corner ∷ [] → IsAt place items walk.most → IsBefore place node corner walk
-  walking-here place items walk corner node there is popped walking =
-      let nodes_are : drop place list ≡ node ∷ drop (place + 1) list = drop_more list place node there ∙ ap (λ first. first ∷ drop (place + 1) list) (sym is) in
-      let boxes : reverse items ≡ corner ∷ reverse walk.corners.items = ap reverse popped ∙ reverse-push walk.corners.items corner in
-      let W = whole_demands line p list in
-      subst (λ (corners : List Corner). IsWalking p W (whole_bound p list) (node ∷ drop (place + 1) list) place (line + place) corners walk.most) boxes
-      (subst (λ (left : List TreeNode). IsWalking p W (whole_bound p list) left place (line + place) (reverse items) walk.most) nodes_are walking)
-
-  -- the box that was taken is open
-  pub walking-box : (place : ℕ) (walk : Walk) (corner : Corner) (node : TreeNode) → IsBefore place node corner walk → IsOpen p corner
-  walking-box place walk corner node walking = All-head (IsOpen p) corner (reverse walk.corners.items) walking.boxes
+  pub walking-start : (walk : Walk) → IsProgram p → IsInPreorder list → walk ≡ at_root p → IsAt p list line 0 walk
+  walking-start walk program preorder root = subst (IsAt p list line 0) (sym root) (from_root program preorder)
 
   -- there is a box while nodes are left
-  pub walking-open : (place : ℕ) (items : List Corner) (most : Option ℤ) → place < length list → items ≡ [] → IsAt place items most → ⊥
-  walking-open place items most there none walking =
-      let closed : reverse items ≡ [] = ap reverse none in
-      let short : length walking.trees ≡ 0 = walking.long ∙ ap length closed in
-      by_trees walking.trees short walking.left_are
+  no_corners : (place : ℕ) (most : Option ℤ) → place < length list → Stands (drop place list) place (line + place) [] most → ⊥
+  no_corners place most there walking = by_trees walking.trees walking.long walking.left_are
     where
       by_trees : (trees : List SplitTree) → length trees ≡ 0 → drop place list ≡ nodes_left place trees → ⊥
       by_trees [] short left = let gone = ap length left in let some = length-drop place list in omega (arith, there)
       by_trees (t ∷ ts) short left = omega (arith, short)
 
-  moved : (place : ℕ) (corners : List Corner) (most : Option ℤ)
-      → IsWalking p (whole_demands line p list) (whole_bound p list) (drop (place + 1) list) (place + 1) (line + place + 1) corners most
-      → IsWalking p (whole_demands line p list) (whole_bound p list) (drop (place + 1) list) (place + 1) (line + (place + 1)) corners most
+  in_order : (place : ℕ) (corners : List Corner) (walk : Walk) → place < length list → Stands (drop place list) place (line + place) corners walk.most → IsNext corners walk
+      → Stands (drop place list) place (line + place) (corners_of walk) walk.most
+  in_order place [] walk there walking next = absurd (no_corners place walk.most there walking)
+  in_order place (corner ∷ corners) walk there walking next =
+      subst (λ (order : List Corner). Stands (drop place list) place (line + place) order walk.most) (sym next) walking
+
+  pub walking-here : (place : ℕ) (walk : Walk) (node : TreeNode) → place < length list → node ≡ get_or list place node → IsAt p list line place walk → IsBefore p list line place node walk
+  walking-here place walk node there is before =
+      let nodes_are : drop place list ≡ node ∷ drop (place + 1) list = drop_more list place node there ∙ ap (λ first. first ∷ drop (place + 1) list) (sym is) in
+      record {
+        walking = subst (λ (left : List TreeNode). Stands left place (line + place) (corners_of walk) walk.most) nodes_are
+            (in_order place before.corners walk there before.walking before.next);
+        stands = before.stands;
+      }
+
+  -- the box of the walk is open
+  pub walking-box : (place : ℕ) (walk : Walk) (node : TreeNode) → IsBefore p list line place node walk → IsOpen p walk.corner
+  walking-box place walk node before = All-head (IsOpen p) walk.corner (later_corners walk) before.walking.boxes
+
+  moved : (place : ℕ) (corners : List Corner) (most : Option ℤ) → Stands (drop (place + 1) list) (place + 1) (line + place + 1) corners most
+      → Stands (drop (place + 1) list) (place + 1) (line + (place + 1)) corners most
   moved place corners most walking =
       let same : line + place + 1 ≡ line + (place + 1) = omega arith in
-      subst (λ k. IsWalking p (whole_demands line p list) (whole_bound p list) (drop (place + 1) list) (place + 1) k corners most) same walking
+      subst (λ k. Stands (drop (place + 1) list) (place + 1) k corners most) same walking
 
-  at_past : (place : ℕ) (walk after : Walk) (b : Option ℤ) → IsPast walk b after
-      → IsWalking p (whole_demands line p list) (whole_bound p list) (drop (place + 1) list) (place + 1) (line + place + 1) (reverse walk.corners.items) (greater walk.most b)
-      → IsAt (place + 1) after.corners.items after.most
-  at_past place walk after b past walking =
-      subst (IsAt (place + 1) after.corners.items) (sym past.most)
-      (subst (λ (items : List Corner). IsAt (place + 1) items (greater walk.most b)) (sym past.corners) (moved place (reverse walk.corners.items) (greater walk.most b) walking))
+  at_past : (place : ℕ) (walk after : Walk) (b : Option ℤ) → HasLeft (with_bound walk b) after
+      → Stands (drop (place + 1) list) (place + 1) (line + place + 1) (later_corners walk) (greater walk.most b) → IsAt p list line (place + 1) after
+  at_past place walk after b left walking = record {
+    corners = later_corners walk;
+    walking = subst (Stands (drop (place + 1) list) (place + 1) (line + (place + 1)) (later_corners walk)) (sym left.most)
+        (moved place (later_corners walk) (greater walk.most b) walking);
+    next = left.next;
+    stands = left.stands;
+  }
 
-  at_entered : (place : ℕ) (walk after : Walk) (corner : Corner) (cell at : ℕ) → IsEntered corner cell at walk after
-      → IsWalking p (whole_demands line p list) (whole_bound p list) (drop (place + 1) list) (place + 1) (line + place + 1)
-      (less_part corner cell at ∷ more_part corner cell at ∷ reverse walk.corners.items) walk.most
-      → IsAt (place + 1) after.corners.items after.most
-  at_entered place walk after corner cell at entered walking =
-      let items = walk.corners.items in
-      let less = less_part corner cell at in
-      let more = more_part corner cell at in
-      let order : reverse after.corners.items ≡ less ∷ more ∷ reverse items
-      = ap reverse entered.corners ∙ reverse-push (items ++ more ∷ []) less ∙ ap (λ (corners : List Corner). less ∷ corners) (reverse-push items more) in
-      subst (IsAt (place + 1) after.corners.items) (sym entered.most)
-      (subst (λ (corners : List Corner). IsWalking p (whole_demands line p list) (whole_bound p list) (drop (place + 1) list) (place + 1) (line + (place + 1)) corners walk.most) (sym order)
-      (moved place (less ∷ more ∷ reverse items) walk.most walking))
+  at_entered : (place : ℕ) (walk : Walk) (cell at : ℕ) → cell < length walk.corner.caps → IsStanding walk
+      → Stands (drop (place + 1) list) (place + 1) (line + place + 1) (less_part walk.corner cell at ∷ more_part walk.corner cell at ∷ later_corners walk) walk.most
+      → IsAt p list line (place + 1) (in_less walk cell at)
+  at_entered place walk cell at there stands walking =
+      let less = less_part walk.corner cell at in
+      let more = more_part walk.corner cell at in
+      record {
+        corners = less ∷ more ∷ later_corners walk;
+        walking = moved place (less ∷ more ∷ later_corners walk) walk.most walking;
+        next = ap (λ (corners : List Corner). less ∷ corners) (less-corners walk cell at);
+        stands = less-stands walk cell at there stands;
+      }
 
-  pub walking-on : (place : ℕ) (walk after : Walk) (corner : Corner) (node : TreeNode) → IsBefore place node corner walk → HasPassed p corner node walk after → IsAt (place + 1) after.corners.items after.most
-  walking-on place walk after corner (nodes.Bound m) walking passed =
-      at_past place walk after (Some (bound_of p corner.floors corner.caps m)) passed.1
-      (at_bound p (whole_demands line p list) (whole_bound p list) (drop (place + 1) list) place (line + place) corner (reverse walk.corners.items) walk.most m
+  pub walking-on : (place : ℕ) (walk after : Walk) (node : TreeNode) → IsBefore p list line place node walk → HasPassed p walk node after → IsAt p list line (place + 1) after
+  walking-on place walk after (nodes.Bound m) before passed =
+      let walking = before.walking in
+      at_past place walk after (Some (bound_of p walk.corner.floors walk.corner.caps m)) passed.1
+      (at_bound p (whole_demands line p list) (whole_bound p list) (drop (place + 1) list) place (line + place) walk.corner (later_corners walk) walk.most m
       walking.trees (walking.long, walking.left_are, walking.decides, walking.bounded) walking.boxes passed.0)
-  walking-on place walk after corner (nodes.Void m) walking passed =
+  walking-on place walk after (nodes.Void m) before passed =
+      let walking = before.walking in
       at_past place walk after None passed.1
-      (at_void p (whole_demands line p list) (whole_bound p list) (drop (place + 1) list) place (line + place) corner (reverse walk.corners.items) walk.most m
+      (at_void p (whole_demands line p list) (whole_bound p list) (drop (place + 1) list) place (line + place) walk.corner (later_corners walk) walk.most m
       walking.trees (walking.long, walking.left_are, walking.decides, walking.bounded) walking.boxes passed.0)
-  walking-on place walk after corner (nodes.Split cell at less more) walking passed =
-      at_entered place walk after corner cell at passed.1
-      (at_split p (whole_demands line p list) (whole_bound p list) (drop (place + 1) list) place (line + place) corner (reverse walk.corners.items) walk.most cell at less more
-      walking.trees (walking.long, walking.left_are, walking.decides, walking.bounded) walking.boxes passed.0)
+  walking-on place walk after (nodes.Split cell at less more) before passed =
+      let walking = before.walking in
+      let open_box = walking-box place walk (nodes.Split cell at less more) before in
+      let there : cell < length walk.corner.caps = rw open_box.sized_caps passed.0.0 in
+      subst (IsAt p list line (place + 1)) (sym passed.1)
+      (at_entered place walk cell at there before.stands
+      (at_split p (whole_demands line p list) (whole_bound p list) (drop (place + 1) list) place (line + place) walk.corner (later_corners walk) walk.most cell at less more
+      walking.trees (walking.long, walking.left_are, walking.decides, walking.bounded) walking.boxes passed.0))
 
   -- the line breaks its rule, and it is the first one
-  pub walking-broken : (place : ℕ) (walk : Walk) (corner : Corner) (node : TreeNode) (at rule : ℕ) → IsBefore place node corner walk → IsFinding p corner node found.Broken
+  pub walking-broken : (place : ℕ) (walk : Walk) (node : TreeNode) (at rule : ℕ) → IsBefore p list line place node walk → IsFinding p walk.corner node found.Broken
       → at ≡ line + place → rule ≡ rule_number node → IsTreeFinding line p list (verdicts.Broken at rule)
-  walking-broken place walk corner node at rule walking broken at_is rule_is = λ s.
-      rw (at_is, rule_is)
-      (broken_line p (whole_demands line p list) (whole_bound p list) (drop (place + 1) list) place (line + place) corner (reverse walk.corners.items) walk.most node
+  walking-broken place walk node at rule before broken at_is rule_is =
+      let walking = before.walking in
+      λ s. rw (at_is, rule_is)
+      (broken_line p (whole_demands line p list) (whole_bound p list) (drop (place + 1) list) place (line + place) walk.corner (later_corners walk) walk.most node
       walking.trees (walking.long, walking.left_are, walking.decides, walking.bounded) broken s)
 
-  pub walking-end : (place : ℕ) (items : List Corner) (most : Option ℤ) → length list ≤ place → IsAt place items most → IsTreeFinding line p list (verdicts.Bounded most)
-  walking-end place items most past walking =
+  pub walking-end : (place : ℕ) (walk : Walk) → length list ≤ place → IsAt p list line place walk → IsTreeFinding line p list (verdicts.Bounded walk.most)
+  walking-end place walk past there =
+      let walking = there.walking in
       let none : walking.trees ≡ [] = no_trees place walking.trees (sym (drop_all place list past) ∙ walking.left_are) in
-      let demands = ap (demands_left (line + place) p (reverse items)) none ∙ no_demands (line + place) p (reverse items) in
-      let bounds = ap (bound_left p (reverse items)) none ∙ no_bound p (reverse items) in (
+      let demands = ap (demands_left (line + place) p there.corners) none ∙ no_demands (line + place) p there.corners in
+      let bounds = ap (bound_left p there.corners) none ∙ no_bound p there.corners in (
         λ s. walking.decides s None (subst (All (Holds s)) (sym demands) (All-nil (Holds s))),
-        sym (walking.bounded ∙ ap (greater most) bounds ∙ greater-none most),
+        sym (walking.bounded ∙ ap (greater walk.most) bounds ∙ greater-none walk.most),
       )

@@ -16,8 +16,6 @@ mod scene;
 mod settled;
 mod shown;
 mod statements;
-#[cfg(test)]
-mod tests;
 mod tree_line;
 mod trees;
 mod walk;

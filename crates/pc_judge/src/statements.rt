@@ -209,7 +209,7 @@ fn is_above(agg: Agg, low: &Frac, high: &Frac) -> bool
     !is_at_most(low.num, low.den, high)
 }
 
-/// What is found of what is to show that the aggregate always has a value.
+/// What is found of what is to show that a value is never lacking: the aggregate always has one.
 pub fn judge_never(
     alloc: Global,
     scene: &Scene<'_>,
@@ -254,7 +254,7 @@ fn is_small_under(number: i128, most: Option<i128>) -> bool
     is_under(number, counted(most))
 }
 
-/// What is found of what is to show that the aggregate never has a value.
+/// What is found of what is to show that a value is always lacking: the aggregate never has one.
 pub fn judge_always(
     alloc: Global,
     scene: &Scene<'_>,

@@ -1,10 +1,10 @@
-ghost use Rattle.std.specs.Prelude.{◌≡◌, ◌+◌, ◌<◌, ◌^◌, length, All, IfOk, [], ◌∷◌, None};
-ghost use Rattle.pc_bound.specs.Allocation.{IsProgram, IsBox, cells_of};
+ghost use Rattle.std.specs.Prelude.{◌≡◌, ◌+◌, ◌<◌, ◌^◌, length, All, IfOk, slice_set};
+ghost use Rattle.pc_bound.specs.Sums.{nat_at};
+ghost use Rattle.pc_bound.specs.Allocation.{IsProgram, IsBox};
 ghost use Rattle.pc_bound.specs.Bound.{without_gain};
 ghost use Rattle.pc_bound.specs.SplitTrees.{IsInPreorder, greater};
 ghost use Rattle.pc_proof.specs.Form.{IsFormedNode};
-ghost use Rattle.pc_judge.specs.Lines.{Divides};
-ghost use Rattle.pc_judge.specs.Walk.{IsTreeFinding, IsStep, IsPast, IsEntered, rule_number, less_part, more_part};
+ghost use Rattle.pc_judge.specs.Walk.{IsTreeFinding, IsStanding, IsStep, HasLeft, at_root, in_less, in_more, with_bound, rule_number};
 
 use crate::tree_line::{Corner, Finding, judge_line};
 use pc_bound::Program;
@@ -21,19 +21,21 @@ pub(crate) enum TreeFinding {
     Bounded(Option<i128>),
 }
 
-/// The boxes of the nodes that are still to come, the last one next, and the greatest bound of the leaves before. Of
-/// a tree of n nodes at most n boxes are open at once, each with two numbers a cell.
-#[derive(Drop)]
-struct Walk {
-    corners: Vec<Corner>,
-    most: Option<i128>,
+/// A split of which the walk is in one part. Behind the lesser part the cap of the cell is put back, and the floor is
+/// where the greater part begins; behind the greater part the floor is put back.
+#[derive(Clone, Copy)]
+enum Turn {
+    Less { cell: u32, cap: u64, floor: u64 },
+    More { cell: u32, floor: u64 },
 }
 
-/// The two parts of a box.
+/// A walk before a node: the box there, the splits on the way to it, and the greatest bound of the leaves before. The
+/// box changes in place, so that a walk takes memory for one box and for the splits on the way.
 #[derive(Drop)]
-struct Parts {
-    less: Corner,
-    more: Corner,
+struct Walk {
+    corner: Corner,
+    turns: Seq<Turn>,
+    most: Option<i128>,
 }
 
 /// The first line of a search tree that breaks its rule, or the bound that the tree shows. `line` is the number of its
@@ -51,12 +53,9 @@ pub(crate) fn judge_tree(
     ensures { IfOk result (IsTreeFinding line program.now nodes.now) }
 {
     let plain = without_gain(alloc, program)?;
-    let mut walk = at_root(alloc, program)?;
+    let mut walk = Walk::at_root(alloc, program)?;
     for (place, node) in nodes.iter().enumerate() {
-        let Some(corner) = walk.corners.pop() else {
-            unreachable!();
-        };
-        let Some(further) = step(alloc, program, &plain, walk, corner, node)? else {
+        let Some(further) = walk.step(program, &plain, node)? else {
             return Ok(TreeFinding::Broken {
                 line: line + place as u64,
                 rule: rule_number(node),
@@ -67,108 +66,156 @@ pub(crate) fn judge_tree(
     Ok(TreeFinding::Bounded(walk.most))
 }
 
-fn at_root(alloc: Global, program: &Program) -> Result<Walk, Memory>
-    ensures corners { IfOk result (λ walk. walk.corners.items ≡ record { floors = program.now.floor; caps = program.now.cap } ∷ []) }
-    ensures most { IfOk result (λ walk. walk.most ≡ None) }
-{
-    let root = Corner {
-        floors: Seq::from_slice(alloc, program.floor.as_slice())?,
-        caps: Seq::from_slice(alloc, program.cap.as_slice())?,
-    };
-    let corners = vec![in alloc; root]?;
-    Ok(Walk {
-        corners,
-        most: None,
-    })
-}
+impl Walk {
+    fn at_root(alloc: Global, program: &Program) -> Result<Walk, Memory>
+        ensures { IfOk result (λ walk. walk ≡ at_root program.now) }
+    {
+        let corner = Corner {
+            floors: Seq::from_slice(alloc, program.floor.as_slice())?,
+            caps: Seq::from_slice(alloc, program.cap.as_slice())?,
+        };
+        Ok(Walk {
+            corner,
+            turns: Seq::new(alloc),
+            most: None,
+        })
+    }
 
-/// Past a line whose box was taken from the walk, or none where the line breaks its rule.
-fn step(
-    alloc: Global,
-    program: &Program,
-    plain: &Program,
-    walk: Walk,
-    corner: Corner,
-    node: &TreeNode,
-) -> Result<Option<Walk>, Memory>
-    requires program { IsProgram program.now }
-    requires plain { plain.now ≡ without_gain program.now }
-    requires corner { IsBox program.now corner.floors corner.caps }
-    requires formed { IsFormedNode node.now }
-    ensures { IfOk result (IsStep program.now corner node.now walk) }
-{
-    match judge_line(program, plain, &corner, node) {
-        Finding::Broken => Ok(None),
-        Finding::Sound(bound) => Ok(Some(past_leaf(walk, bound))),
-        Finding::Splits => match node {
-            TreeNode::Split { cell, at, .. } => {
-                let walk = into_parts(alloc, program, walk, corner, *cell, *at)?;
+    /// Past the line of the node that comes next, or none where the line breaks its rule.
+    fn step(
+        self,
+        program: &Program,
+        plain: &Program,
+        node: &TreeNode,
+    ) -> Result<Option<Walk>, Memory>
+        requires program { IsProgram program.now }
+        requires plain { plain.now ≡ without_gain program.now }
+        requires corner { IsBox program.now self.corner.floors self.corner.caps }
+        requires stands { IsStanding self }
+        requires formed { IsFormedNode node.now }
+        ensures { IfOk result (IsStep program.now self node.now) }
+    {
+        match judge_line(program, plain, &self.corner, node) {
+            Finding::Broken => Ok(None),
+            Finding::Sound(bound) => {
+                let walk = self.with_bound(bound).leave()?;
                 Ok(Some(walk))
             }
-            _ => unreachable!(),
-        },
+            Finding::Splits => match node {
+                TreeNode::Split { cell, at, .. } => {
+                    let walk = self.enter_less(*cell, *at)?;
+                    Ok(Some(walk))
+                }
+                _ => unreachable!(),
+            },
+        }
+    }
+
+    /// Into the lesser part of a split.
+    fn enter_less(self, cell: u32, at: u64) -> Result<Walk, Memory>
+        requires there { cell < length self.corner.caps }
+        requires below { at < nat_at self.corner.caps cell }
+        ensures { IfOk result (λ walk. walk ≡ in_less self cell at) }
+    {
+        let Walk {
+            corner,
+            mut turns,
+            most,
+        } = self;
+        let Corner { floors, caps } = corner;
+        let (caps, cap) = replaced(caps, cell, at);
+        let floor = at + 1;
+        turns.push(Turn::Less { cell, cap, floor })?;
+        Ok(Walk {
+            corner: Corner { floors, caps },
+            turns,
+            most,
+        })
+    }
+
+    /// Into the greater part of a split whose lesser part is done.
+    fn enter_more(self, cell: u32, cap: u64, floor: u64) -> Result<Walk, Memory>
+        requires floors { cell < length self.corner.floors }
+        requires caps { cell < length self.corner.caps }
+        ensures { IfOk result (λ walk. walk ≡ in_more self cell cap floor) }
+    {
+        let Walk {
+            corner,
+            mut turns,
+            most,
+        } = self;
+        let Corner { floors, caps } = corner;
+        let (caps, _) = replaced(caps, cell, cap);
+        let (floors, floor) = replaced(floors, cell, floor);
+        turns.push(Turn::More { cell, floor })?;
+        Ok(Walk {
+            corner: Corner { floors, caps },
+            turns,
+            most,
+        })
+    }
+
+    /// With the bound of a leaf taken into account, which is none where the leaf is void.
+    fn with_bound(self, bound: Option<i128>) -> Walk
+        ensures { result ≡ with_bound self bound }
+    {
+        let Walk {
+            corner,
+            turns,
+            most,
+        } = self;
+        Walk {
+            corner,
+            turns,
+            most: greater(most, bound),
+        }
+    }
+
+    /// Out of the box of a leaf, and of each greater part that ends with it, into the next open box.
+    fn leave(self) -> Result<Walk, Memory>
+        requires { IsStanding self }
+        ensures { IfOk result (HasLeft self) }
+    {
+        let Walk {
+            corner,
+            turns,
+            most,
+        } = self;
+        let Corner { mut floors, caps } = corner;
+        let mut turns = turns.into_vec();
+        while let Some(turn) = turns.pop() {
+            match turn {
+                Turn::More { cell, floor } => {
+                    floors = replaced(floors, cell, floor).0;
+                }
+                Turn::Less { cell, cap, floor } => {
+                    let walk = Walk {
+                        corner: Corner { floors, caps },
+                        turns: Seq::from_vec(turns),
+                        most,
+                    };
+                    return walk.enter_more(cell, cap, floor);
+                }
+            }
+        }
+        Ok(Walk {
+            corner: Corner { floors, caps },
+            turns: Seq::from_vec(turns),
+            most,
+        })
     }
 }
 
-fn past_leaf(walk: Walk, bound: Option<i128>) -> Walk
-    ensures { IsPast walk bound result }
+/// The numbers with another one at a place, and the one that stood there.
+fn replaced(numbers: Seq<u64>, place: u32, number: u64) -> (Seq<u64>, u64)
+    requires { place < length numbers }
+    ensures numbers { result.0 ≡ slice_set numbers place number }
+    ensures before { result.1 ≡ nat_at numbers place }
 {
-    let Walk { corners, most } = walk;
-    Walk {
-        corners,
-        most: greater(most, bound),
-    }
-}
-
-/// Before the two parts of a split, of which the lesser comes next.
-fn into_parts(
-    alloc: Global,
-    program: &Program,
-    walk: Walk,
-    corner: Corner,
-    cell: u32,
-    at: u64,
-) -> Result<Walk, Memory>
-    requires program { IsProgram program.now }
-    requires corner { IsBox program.now corner.floors corner.caps }
-    requires divides { Divides program.now corner cell at }
-    ensures { IfOk result (IsEntered corner cell at walk) }
-{
-    let Parts { less, more } = divide(alloc, program, corner, cell, at)?;
-    let Walk { mut corners, most } = walk;
-    corners.push(more)?;
-    corners.push(less)?;
-    Ok(Walk { corners, most })
-}
-
-// The greater part takes over the numbers of the box, so that only the lesser one takes memory.
-fn divide(
-    alloc: Global,
-    program: &Program,
-    corner: Corner,
-    cell: u32,
-    at: u64,
-) -> Result<Parts, Memory>
-    requires program { IsProgram program.now }
-    requires corner { IsBox program.now corner.floors corner.caps }
-    requires divides { Divides program.now corner cell at }
-    ensures less { IfOk result (λ parts. parts.less ≡ less_part corner cell at) }
-    ensures more { IfOk result (λ parts. parts.more ≡ more_part corner cell at) }
-{
-    let Corner { floors, caps } = corner;
-    let mut less_caps = Vec::from_slice(alloc, caps.as_slice())?;
-    less_caps[cell as usize] = at;
-    let less = Corner {
-        floors: Seq::from_slice(alloc, floors.as_slice())?,
-        caps: Seq::from_vec(less_caps),
-    };
-    let mut more_floors = floors.into_vec();
-    more_floors[cell as usize] = at + 1;
-    let more = Corner {
-        floors: Seq::from_vec(more_floors),
-        caps,
-    };
-    Ok(Parts { less, more })
+    let mut numbers = numbers.into_vec();
+    let before = numbers[place as usize];
+    numbers[place as usize] = number;
+    (Seq::from_vec(numbers), before)
 }
 
 /// The number of the rule that a line is tried by.

@@ -5,6 +5,7 @@ use std::test::Fail;
 
 mod averages;
 mod blocks;
+mod documents;
 mod extremes;
 mod groups;
 mod overlaps;

@@ -18,12 +18,13 @@ fn are_no_command(alloc: Global, words: &[&str]) -> Result<bool, Fail> {
 
 #[test]
 fn words(rt: HostRuntime) -> Result<(), Fail> {
-    let table: [&[&str]; 12] = [
+    let table: [&[&str]; 13] = [
         &["bound"],
         &[],
         &["show"],
         &["bound", "s", "-r", "c", "count"],
-        &["prove", "s", "r", "c", "count"],
+        &["prove", "s", "r", "c"],
+        &["check", "s", "r", "c"],
         &["show", "s", "r", "c", "count"],
         &["bound", "s", "c"],
         &["shows", "s", "c"],
@@ -48,7 +49,7 @@ fn words_with_options(rt: HostRuntime) -> Result<(), Fail> {
         &["bound", "--nodes", "s", "r", "c", "count"],
         &["bound", "s", "r", "c", "count", "--nodes"],
         &["show", "--nodes", "5", "s", "c"],
-        &["prove", "--nodes", "5", "s", "r", "c", "count"],
+        &["check", "--nodes", "5", "s", "r", "c", "d"],
         &["bound", "--node", "5", "s", "r", "c", "count"],
         &["bound", "-nodes", "5", "s", "r", "c", "count"],
         &["bound", "s", "r", "c", "-count"],

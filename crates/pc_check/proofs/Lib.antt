@@ -1,0 +1,11 @@
+pub mod Allowing
+pub mod BlockParts
+pub mod DocumentSteps
+pub mod FoldedRows
+pub mod Joining
+pub mod ManyRows
+pub mod MatterTotals
+pub mod Matters
+pub mod Placing
+pub mod SharedTrees
+pub mod TotalValues

@@ -1,0 +1,58 @@
+-- The lines of a tree that is that of the block before, of which every one has the same number.
+use Rattle.std.proofs.Common.{◌≡◌, ℕ, ◌+◌, List, [], ◌∷◌, ◌++◌, map, All, inl, inr, refl, sym, ap, ap₂, ◌∙◌, subst}
+use Rattle.std.proofs.lemmas.List.{map-append}
+use Rattle.std.proofs.lemmas.List.Elements.{All-nil, All-cons, All-head, All-tail}
+use Rattle.pc_model.specs.declared.schema.Schema.{Schema}
+use Rattle.pc_model.specs.declared.region.Region.{Region}
+use Rattle.pc_model.specs.declared.constraint.Constraint.{Constraint}
+use Rattle.pc_model.specs.declared.tree.CutNode.{CutNode}
+use Rattle.pc_model.specs.declared.tree.Leaf.{Leaf}
+use Rattle.pc_model.specs.CutTrees.{CutShape, leaf, inner, size_of, shape_of, first_part, second_part}
+use Rattle.pc_model.specs.Regions.{whole_region}
+use Rattle.pc_proof.specs.Setting.{Setting}
+use Rattle.pc_proof.specs.Demands.{Placed, Holds, IsFirstBroken, at_line, cut_demands, proper, same}
+use Rattle.pc_judge.specs.declared.cuts.CutFinding.TheVariants as cuts
+use Rattle.pc_judge.specs.Cuts.{IsCutFinding}
+use Rattle.pc_check.specs.Blocks.{IsAreaOf, IsTreeFinding}
+
+-- from whichever line the tree is counted
+lines_alike : (line j k : ℕ) (box : Region) (t : CutShape) → map (at_line line) (cut_demands j box t) ≡ map (at_line line) (cut_demands k box t)
+lines_alike line j k box (leaf mark) = refl
+lines_alike line j k box (inner cut t u) =
+    let here : Placed = record { line = line; rule = 3; demand = proper box cut } in
+    let first = λ (n : ℕ). cut_demands (n + 1) (first_part box cut) t in
+    let second = λ (n : ℕ). cut_demands (n + 1 + size_of t) (second_part box cut) u in
+    ap (λ (ds : List Placed). here ∷ ds)
+    (map-append (at_line line) (first j) (second j)
+    ∙ ap₂ (λ (ds es : List Placed). ds ++ es) (lines_alike line (j + 1) (k + 1) (first_part box cut) t) (lines_alike line (j + 1 + size_of t) (k + 1 + size_of t) (second_part box cut) u)
+    ∙ sym (map-append (at_line line) (first k) (second k)))
+
+moved_broken : (s : Setting) (line at rule : ℕ) (ds : List Placed) → IsFirstBroken s at rule ds → IsFirstBroken s line rule (map (at_line line) ds)
+moved_broken s line at rule [] broken = absurd broken
+moved_broken s line at rule (d ∷ ds) (inl here) = inl (here.0, refl, here.2)
+moved_broken s line at rule (d ∷ ds) (inr later) = inr (later.0, moved_broken s line at rule ds later.1)
+
+moved_whole : (s : Setting) (line : ℕ) (ds : List Placed) → All (Holds s) ds → All (Holds s) (map (at_line line) ds)
+moved_whole s line [] all = All-nil (Holds s)
+moved_whole s line (d ∷ ds) all =
+    All-cons (Holds s) (at_line line d) (map (at_line line) ds) (All-head (Holds s) d ds all) (moved_whole s line ds (All-tail (Holds s) d ds all))
+
+module _ (schema : Schema) (constraints : List Constraint) (region : Region) (list : List CutNode) (line : ℕ) where
+  -- the lines of the tree, as a setting of it has them
+  abbrev shared : Schema → List CutNode → List Placed
+  shared of_schema nodes = map (at_line line) (cut_demands (line + 1) (whole_region of_schema) (shape_of nodes))
+
+  as_shared : (P : List Placed → Type 0) (s : Setting) → IsAreaOf schema constraints region list s
+      → P (map (at_line line) (cut_demands 0 (whole_region schema) (shape_of list))) → P (shared s.question.schema s.nodes)
+  as_shared P s area found =
+      subst (λ (x : Schema). P (shared x s.nodes)) (sym area.schema_is)
+      (subst (λ (nodes : List CutNode). P (shared schema nodes)) (sym area.nodes_are)
+      (subst P (lines_alike line 0 (line + 1) (whole_region schema) (shape_of list)) found))
+
+  pub same_broken : (at rule : ℕ) → IsCutFinding 0 schema constraints region list (cuts.Broken at rule) → IsTreeFinding same line schema constraints region list (cuts.Broken line rule)
+  same_broken at rule finding s area =
+      as_shared (IsFirstBroken s line rule) s area (moved_broken s line at rule (cut_demands 0 (whole_region schema) (shape_of list)) (finding s area.asked))
+
+  pub same_settled : (leaves : List Leaf) → IsCutFinding 0 schema constraints region list (cuts.Settled leaves) → IsTreeFinding same line schema constraints region list (cuts.Settled leaves)
+  same_settled leaves finding =
+      (λ s area. as_shared (All (Holds s)) s area (moved_whole s line (cut_demands 0 (whole_region schema) (shape_of list)) (finding.0 s area.asked)), finding.1)
