@@ -1,5 +1,5 @@
 -- What reading the files of a document that is checked answers, exit by exit.
-use Rattle.std.proofs.Common.{◌≡◌, ℕ, refl, List, Option, Some, None, Ok, Err, IfSome, IsOk, IsOkAnd}
+use Rattle.std.proofs.Common.{◌≡◌, refl, List, Option, Some, None, Ok, Err, IfSome}
 use Rattle.pc_model.specs.declared.schema.Schema.{Schema}
 use Rattle.pc_model.specs.declared.row.Row.{Row}
 use Rattle.pc_model.specs.declared.constraint.Constraint.{Constraint}

@@ -1,10 +1,9 @@
 -- What a document that answers a case has for the texts of its answers.
-use Rattle.std.proofs.Common.{◌≡◌, ℕ, List, [], ◌∷◌, ◌++◌, map, flat_map, Option, Some, None, IfSome, All, refl, sym, ap, subst, ◌∙◌}
+use Rattle.std.proofs.Common.{ℕ, List, [], ◌∷◌, map, flat_map, Option, Some, None, IfSome, All, sym, ap, subst, ◌∙◌}
 use Rattle.std.specs.List.{AllZip}
 use Rattle.std.proofs.lemmas.List.Elements.{All-nil, All-cons, All-head, All-tail, All-append}
 use Rattle.pc_num.specs.declared.fraction.Frac.{Frac}
 use Rattle.pc_model.specs.declared.schema.Schema.{Schema}
-use Rattle.pc_model.specs.declared.query.Agg.TheVariants.{Avg}
 use Rattle.pc_model.specs.declared.query.Query.{Query}
 use Rattle.pc_model.specs.Accepted.{IsQuery}
 use Rattle.pc_rows.specs.declared.case.Case.{Case}
@@ -12,7 +11,7 @@ use Rattle.pc_proof.specs.declared.answer.End.{End}
 use Rattle.pc_proof.specs.declared.document.Block.{Block}
 use Rattle.pc_proof.specs.declared.document.Document.{Document}
 use Rattle.pc_report.specs.Units.{IsAverage, HasAverages}
-use Rattle.pc_avg.specs.Averages.{IsShort, IsShortEnd, HasShortEnds}
+use Rattle.pc_avg.specs.Averages.{IsShort, IsShortEnd}
 use Rattle.pc_group.specs.Answers.{AnswersWanted}
 use Rattle.pc_group.specs.Trees.{Told, told}
 use Rattle.pc_group.proofs.FormedBlocks.{all_blocks}

@@ -1,5 +1,5 @@
 -- What reading the files of a listing answers, exit by exit.
-use Rattle.std.proofs.Common.{◌≡◌, ℕ, refl, List, Option, Some, None, Ok, Err, IfSome}
+use Rattle.std.proofs.Common.{◌≡◌, refl, Option, Some, None, Ok, Err, IfSome}
 use Rattle.pc_model.specs.declared.schema.Schema.{Schema}
 use Rattle.pc_model.specs.declared.fault.Fault.{Fault}
 use Rattle.pc_base.specs.Files.{Files}

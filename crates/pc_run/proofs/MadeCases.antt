@@ -1,11 +1,11 @@
 -- A case that is made: some relation is possible for it, and its queries are accepted.
-use Rattle.std.proofs.Common.{◌≡◌, ℕ, ◌*◌, ◌≤◌, List, filter, All, None, refl}
+use Rattle.std.proofs.Common.{◌≡◌, ℕ, List, filter, All, None, refl}
 use Rattle.std.proofs.lemmas.List.Elements.{All-weaker}
 use Rattle.std.specs.Prelude.{false}
 use Rattle.pc_model.specs.declared.row.Row.{Row}
 use Rattle.pc_model.specs.declared.query.Query.{Query}
 use Rattle.pc_model.specs.Accepted.{IsQuery}
-use Rattle.pc_model.specs.Possible.{IsPossible, is_covered}
+use Rattle.pc_model.specs.Possible.{is_covered}
 use Rattle.pc_model.specs.Right as plain
 use Rattle.pc_model.specs.Right.{Question, IsPossibleFor, IsRightRelation, is_impossible}
 use Rattle.pc_rows.specs.declared.case.Case.{Case}

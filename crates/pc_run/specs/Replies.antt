@@ -1,6 +1,6 @@
 -- With which status and text a run replies to the files of a command.
 use Rattle.std.specs.Prelude.{◌≡◌, ◌↔◌, ℕ, ◌⊎◌, ⊤, Bool, false, IsTrue, List, length, All, Option, Some, None, Result, Ok, Err, IsOk, IsOkAnd, IfOk, IfSome}
-use Rattle.std.specs.List.{AllPass, AllZip}
+use Rattle.std.specs.List.{AllPass}
 use Rattle.pc_model.specs.declared.fault.FileKind.{FileKind}
 use Rattle.pc_model.specs.declared.fault.FileKind.TheVariants as kinds
 use Rattle.pc_model.specs.Membership.{in_domain, AreDisjoint}
