@@ -1,5 +1,6 @@
--- A document that `prove` wrote is said yes to.
-use Rattle.std.proofs.Common.{◌≡◌, ℕ, ⊎_elim, inl, inr, List, Option, Some, None, Result, Ok, Err, IfOk, IsSomeAnd, refl, sym, subst, ◌∙◌}
+-- Of bytes that are checked, yes is said of the text of a document that breaks no rule, as of one that `prove` wrote, and no where a
+-- rule is broken.
+use Rattle.std.proofs.Common.{◌≡◌, ℕ, ◌⊎◌, ⊎_elim, inl, inr, List, Option, Some, None, Result, Ok, Err, IfOk, IsSomeAnd, refl, sym, subst, ◌∙◌}
 use Rattle.pc_model.specs.declared.schema.Schema.{Schema}
 use Rattle.pc_base.specs.declared.status.Status.{Status}
 use Rattle.pc_base.specs.declared.status.Status.TheVariants as ended
@@ -19,71 +20,91 @@ use Rattle.pc_run.specs.declared.claim.Claim.{Claim}
 use Rattle.pc_run.specs.Answers.{premises_in}
 use Rattle.pc_run.specs.Outcome.{Obstacle, Input, claims, as_input, refused, absent, claim_under, ComesTo, AreAccepted}
 use Rattle.pc_run.specs.Reports.{usage_line}
-use Rattle.pc_run.specs.Replies.{BreaksFirst, BreaksRule, HasVerdict, IsCheckable, IsNoDocument, IsSoundInput, RepliesTo, RepliesToCommand, Responds, Says, SaysFault, SaysInput, SaysOutcome, SaysProof, SaysVerdict, premises_for, status_of}
-use Rattle.pc_run.specs.Meaning.{Call, ChecksProof, IsAnswerable, IsDoneUnlessMemory, Means}
+use Rattle.pc_run.specs.Replies.{BreaksFirst, BreaksRule, HasVerdict, IsCheckable, IsNoDocument, IsSoundInput, RepliesTo, RepliesToCommand, Responds, Says, SaysFault, SaysInput, SaysOutcome, SaysProof, SaysVerdict, SpellsUnbroken, premises_for, status_of}
+use Rattle.pc_run.specs.Meaning.{Call, ChecksClaim, IsAnswerable, IsDoneUnlessMemory, IsProved, Means, SaysNoUnlessMemory}
 use Rattle.pc_run.proofs.Answering.{answers, same_names}
 
--- ---- the document is the one that the bytes spell, and breaks no rule
+-- ---- a document that breaks no rule has no rule that is the first broken
+
+module _ (claim : Claim) (sound : IsCheckable claim) (spells : SpellsUnbroken claim) where
+  not_broken : (line rule : ℕ) → BreaksRule claim line rule → ⊥
+  not_broken line rule broken =
+      let same = only_document claim.schema claim.bytes broken.document spells.document (all_lines claim.schema sound.well_formed) broken.spelled spells.spelled in
+      document-whole (premises_for claim) None 2 line rule spells.document.blocks
+      (subst (λ (document : Document). IsFirstBrokenIn (premises_for claim) None 2 line rule document.blocks) same broken.first) spells.unbroken
+
+  breaks_none : (line rule : ℕ) → BreaksFirst claim line rule → ⊥
+  breaks_none line rule breaks =
+      ⊎_elim (λ (none : IsNoDocument claim line rule). none.fault.none spells.document spells.spelled)
+      (λ (broken : BreaksRule claim line rule). not_broken line rule broken) breaks
+
+-- ---- what a document that `prove` wrote is
 
 text_is : (nodes : ℕ) (case : Case) (bytes : List ℕ) (proof : SaysProof nodes case bytes) → IsDocumentText case.schema bytes proof.document
 unfolding document_text
 text_is nodes case bytes proof = (proof.answers.formed, sym proof.proved)
 
-module _ (call : Call) (proof : ChecksProof call) where
-  spelled : IsDocumentText proof.claim.schema proof.claim.bytes proof.proof.document
-  spelled = subst (λ (schema : Schema). IsDocumentText schema proof.claim.bytes proof.proof.document) (sym proof.same_schema) (text_is proof.nodes proof.case proof.claim.bytes proof.proof)
+spells_proof : (claim : Claim) → IsProved claim → SpellsUnbroken claim
+spells_proof claim is =
+    let same : ◌≡◌ {A = Premises} (record { schema = claim.schema; observed = claim.rows; constraints = claim.constraints }) (premises_in is.case) = rw (is.same_schema, is.same_rows, is.same_constraints) refl in
+    record {
+      document = is.proof.document;
+      spelled = subst (λ (schema : Schema). IsDocumentText schema claim.bytes is.proof.document) (sym is.same_schema) (text_is is.nodes is.case claim.bytes is.proof);
+      unbroken = subst (λ (premises : Premises). AreUnbroken premises None is.proof.document.blocks) (sym same) is.proof.answers.unbroken;
+    }
 
-  same_premises : premises_for proof.claim ≡ premises_in proof.case
-  same_premises =
-      let same : ◌≡◌ {A = Premises} (record { schema = proof.claim.schema; observed = proof.claim.rows; constraints = proof.claim.constraints }) (premises_in proof.case) = rw (proof.same_schema, proof.same_rows, proof.same_constraints) refl in
-      same
+-- ---- what is said of a claim, with this status
 
-  unbroken : AreUnbroken (premises_for proof.claim) None proof.proof.document.blocks
-  unbroken = subst (λ (premises : Premises). AreUnbroken premises None proof.proof.document.blocks) (sym same_premises) proof.proof.answers.unbroken
+record SaysOf (claim : Claim) (status : Status) : Type 0 where
+  verdict : Verdict
+  holds : HasVerdict claim verdict
+  ended : status ≡ status_of verdict
+  sound : IsCheckable claim
 
-  not_broken : (line rule : ℕ) → IsCheckable proof.claim → BreaksRule proof.claim line rule → ⊥
-  not_broken line rule sound broken =
-      let same = only_document proof.claim.schema proof.claim.bytes broken.document proof.proof.document (all_lines proof.claim.schema sound.well_formed) broken.spelled spelled in
-      document-whole (premises_for proof.claim) None 2 line rule proof.proof.document.blocks
-      (subst (λ (document : Document). IsFirstBrokenIn (premises_for proof.claim) None 2 line rule document.blocks) same broken.first) unbroken
+not_malformed : (status : Status) → (status ≡ ended.Done) ⊎ (status ≡ ended.SaidNo) → status ≡ ended.Malformed → ⊥
+not_malformed status said is = ⊎_elim (λ done. let both = sym done ∙ is in let no : ⊥ = cc in no) (λ no'. let both = sym no' ∙ is in let no : ⊥ = cc in no) said
 
-  breaks_none : (line rule : ℕ) → IsCheckable proof.claim → BreaksFirst proof.claim line rule → ⊥
-  breaks_none line rule sound breaks =
-      ⊎_elim (λ (none : IsNoDocument proof.claim line rule). none.fault.none proof.proof.document spelled)
-      (λ (broken : BreaksRule proof.claim line rule). not_broken line rule sound broken) breaks
+not_unread : (status : Status) → (status ≡ ended.Done) ⊎ (status ≡ ended.SaidNo) → status ≡ ended.ReadFault → ⊥
+not_unread status said is = ⊎_elim (λ done. let both = sym done ∙ is in let no : ⊥ = cc in no) (λ no'. let both = sym no' ∙ is in let no : ⊥ = cc in no) said
 
-  -- ---- so no is not said of it
-
-  by_verdict : IsCheckable proof.claim → (verdict : Verdict) → HasVerdict proof.claim verdict → ended.SaidNo ≡ status_of verdict → ⊥
-  by_verdict sound verdicts.Yes holds is = let no : ⊥ = cc in no
-  by_verdict sound (verdicts.No line rule) holds is = breaks_none line rule sound holds
-
-  claim_is : (told : Option Files) (said : Input) → IsSomeAnd told (λ files. claim_under proof.names files ≡ Ok proof.claim) → ComesTo told (check proof.names) (Ok said) → claims proof.claim ≡ said
+module _ (call : Call) (checks : ChecksClaim call) where
+  claim_is : (told : Option Files) (said : Input) → IsSomeAnd told (λ files. claim_under checks.names files ≡ Ok checks.claim) → ComesTo told (check checks.names) (Ok said) → claims checks.claim ≡ said
   claim_is None said held comes = absurd held
-  claim_is (Some files) said held comes = let same : as_input claims (Ok proof.claim) ≡ Ok said = rw held at comes in cc
+  claim_is (Some files) said held comes = let same : as_input claims (Ok checks.claim) ≡ Ok said = rw held at comes in cc
 
-  by_outcome : (text : List ℕ) (outcome : Result Input Obstacle) → IfOk outcome IsSoundInput → Says outcome ended.SaidNo text → ComesTo call.files (check proof.names) outcome → ⊥
-  by_outcome text (Ok said) sound says comes =
-      let same = claim_is call.files said proof.held comes in
-      let verdict : SaysVerdict proof.claim ended.SaidNo text = subst (λ (input : Input). SaysInput input ended.SaidNo text) (sym same) says in
-      by_verdict (subst IsSoundInput (sym same) sound) verdict.verdict verdict.holds verdict.ended
-  by_outcome text (Err (refused fault)) sound says comes = let is = says.0 in let no : ⊥ = cc in no
-  by_outcome text (Err (absent file)) sound says comes = says
+  module _ (status : Status) (answered : (status ≡ ended.Done) ⊎ (status ≡ ended.SaidNo)) (text : List ℕ) where
+    by_outcome : (outcome : Result Input Obstacle) → IfOk outcome IsSoundInput → Says outcome status text → ComesTo call.files (check checks.names) outcome → SaysOf checks.claim status
+    by_outcome (Ok said) sound says comes =
+        let same = claim_is call.files said checks.held comes in
+        let verdict : SaysVerdict checks.claim status text = subst (λ (input : Input). SaysInput input status text) (sym same) says in
+        record { verdict = verdict.verdict; holds = verdict.holds; ended = verdict.ended; sound = subst IsSoundInput (sym same) sound }
+    by_outcome (Err (refused fault)) sound says comes = absurd (not_malformed status answered says.0)
+    by_outcome (Err (absent file)) sound says comes = absurd says
 
-  by_reply : (text : List ℕ) (asked : Asked) → check proof.names ≡ asked → RepliesTo call.files asked call.loads_before call.loads_after ended.SaidNo text → ⊥
-  by_reply text asked same replies =
-      ⊎_elim
-      (λ (fault : SaysFault call.files asked call.loads_before call.loads_after ended.SaidNo text). let is = fault.ended in let no : ⊥ = cc in no)
-      (λ (says : SaysOutcome call.files asked ended.SaidNo text). by_outcome text says.outcome says.sound says.says (subst (λ (a : Asked). ComesTo call.files a says.outcome) (sym same) says.agrees))
-      replies
+    by_reply : (asked : Asked) → check checks.names ≡ asked → RepliesTo call.files asked call.loads_before call.loads_after status text → SaysOf checks.claim status
+    by_reply asked same replies =
+        ⊎_elim
+        (λ (fault : SaysFault call.files asked call.loads_before call.loads_after status text). absurd (not_unread status answered fault.ended))
+        (λ (says : SaysOutcome call.files asked status text). by_outcome says.outcome says.sound says.says (subst (λ (a : Asked). ComesTo call.files a says.outcome) (sym same) says.agrees))
+        replies
 
-  not_no : (text : List ℕ) → Responds call.files call.words call.loads_before call.loads_after ended.SaidNo text → ⊥
-  not_no text responds =
-      ⊎_elim
-      (λ (none : (command_of call.words ≡ None) × (ended.SaidNo ≡ ended.Usage) × (text ≡ usage_line)). let both = sym proof.command ∙ none.0 in let no : ⊥ = cc in no)
-      (λ (replies : RepliesToCommand call.files call.words call.loads_before call.loads_after ended.SaidNo text).
-      by_reply text replies.asked (same_names call.words (check proof.names) replies.asked proof.command replies.command) replies.replies)
-      responds
+    said_of : Responds call.files call.words call.loads_before call.loads_after status text → SaysOf checks.claim status
+    said_of responds =
+        ⊎_elim
+        (λ (none : (command_of call.words ≡ None) × (status ≡ ended.Usage) × (text ≡ usage_line)). let both = sym checks.command ∙ none.0 in let no : ⊥ = cc in absurd no)
+        (λ (replies : RepliesToCommand call.files call.words call.loads_before call.loads_after status text).
+        by_reply replies.asked (same_names call.words (check checks.names) replies.asked checks.command replies.command) replies.replies)
+        responds
+
+-- ---- no is not said of what breaks no rule, and yes not of what breaks one
+
+yes_not_no : (claim : Claim) (status : Status) → status ≡ ended.SaidNo → SpellsUnbroken claim → (verdict : Verdict) → HasVerdict claim verdict → status ≡ status_of verdict → IsCheckable claim → ⊥
+yes_not_no claim status is spells verdicts.Yes holds ended' sound = let both = sym is ∙ ended' in let no : ⊥ = cc in no
+yes_not_no claim status is spells (verdicts.No line rule) holds ended' sound = breaks_none claim sound spells line rule holds
+
+no_not_yes : (claim : Claim) (status : Status) (line rule : ℕ) → status ≡ ended.Done → BreaksFirst claim line rule → (verdict : Verdict) → HasVerdict claim verdict → status ≡ status_of verdict → IsCheckable claim → ⊥
+no_not_yes claim status line rule is breaks verdicts.Yes holds ended' sound = breaks_none claim sound (record { document = holds.document; spelled = holds.spelled; unbroken = holds.unbroken }) line rule breaks
+no_not_yes claim status line rule is breaks (verdicts.No other kind) holds ended' sound = let both = sym is ∙ ended' in let no : ⊥ = cc in no
 
 -- ---- and the run can be answered
 
@@ -91,18 +112,33 @@ accepted : (told : Option Files) (names : CheckNames) (claim : Claim) → IsSome
 accepted None names claim held = absurd held
 accepted (Some files) names claim held = rw held refl
 
-abbrev can_answer : (call : Call) → ChecksProof call → IsAnswerable call
-can_answer call proof = record {
-  asked = check proof.names;
-  command = proof.command;
-  accepted = accepted call.files proof.names proof.claim proof.held;
-  loads = proof.loads;
-  puts = proof.puts;
+abbrev can_answer : (call : Call) → ChecksClaim call → IsAnswerable call
+can_answer call checks = record {
+  asked = check checks.names;
+  command = checks.command;
+  accepted = accepted call.files checks.names checks.claim checks.held;
+  loads = checks.loads;
+  puts = checks.puts;
 }
 
-pub agrees : (call : Call) (status : Status) (text : List ℕ) → Responds call.files call.words call.loads_before call.loads_after status text → Means call status → ChecksProof call → IsDoneUnlessMemory status
-agrees call status text responds means proof =
-    ⊎_elim
-    (λ answer. ⊎_elim (λ done. inl done) (λ no. absurd (not_no call proof text (rw no at responds))) answer)
-    (λ memory. inr memory)
-    (answers call status means (can_answer call proof))
+module _ (call : Call) (status : Status) (text : List ℕ) (responds : Responds call.files call.words call.loads_before call.loads_after status text) (means : Means call status) (checks : ChecksClaim call) where
+  not_no : SpellsUnbroken checks.claim → status ≡ ended.SaidNo → ⊥
+  not_no spells is =
+      let says = said_of call checks status (inr is) text responds in
+      yes_not_no checks.claim status is spells says.verdict says.holds says.ended says.sound
+
+  not_yes : (line rule : ℕ) → BreaksFirst checks.claim line rule → status ≡ ended.Done → ⊥
+  not_yes line rule breaks is =
+      let says = said_of call checks status (inl is) text responds in
+      no_not_yes checks.claim status line rule is breaks says.verdict says.holds says.ended says.sound
+
+  pub says_yes : SpellsUnbroken checks.claim → IsDoneUnlessMemory status
+  says_yes spells =
+      ⊎_elim (λ answer. ⊎_elim (λ done. inl done) (λ no. absurd (not_no spells no)) answer) (λ memory. inr memory) (answers call status means (can_answer call checks))
+
+  pub says_no : (line rule : ℕ) → BreaksFirst checks.claim line rule → SaysNoUnlessMemory status
+  says_no line rule breaks =
+      ⊎_elim (λ answer. ⊎_elim (λ done. absurd (not_yes line rule breaks done)) (λ no. inl no) answer) (λ memory. inr memory) (answers call status means (can_answer call checks))
+
+  pub agrees : IsProved checks.claim → IsDoneUnlessMemory status
+  agrees proved = says_yes (spells_proof checks.claim proved)

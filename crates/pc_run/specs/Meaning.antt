@@ -118,25 +118,33 @@ IsAnswer (gen numbers) status = status ≡ ended.Done
 abbrev pub IsAnswerUnlessMemory : Asked → Status → Type 0
 IsAnswerUnlessMemory asked status = IsAnswer asked status ⊎ (status ≡ ended.Memory)
 
--- The words check a document that is held and not too long, which `prove` wrote for the same schema, observed rows and
--- constraints, whatever the queries and the budget were; and no load and no put failed.
-pub record ChecksProof (call : Call) : Type 0 where
+-- ---- what is checked
+
+-- The words check bytes that are held and not too long, with a schema, observed rows and constraints that are accepted; and no
+-- load and no put failed.
+pub record ChecksClaim (call : Call) : Type 0 where
   pub names : CheckNames
   pub command : command_of call.words ≡ Some (check names)
   pub claim : Claim
   pub held : IsSomeAnd call.files (λ files. claim_under names files ≡ Ok claim)
+  pub loads : ¬ Rose call.loads_before call.loads_after
+  pub puts : ¬ Rose call.puts_before call.puts_after
+
+-- the bytes are a document that `prove` wrote for the same schema, observed rows and constraints, whatever the queries and the
+-- budget were
+pub record IsProved (claim : Claim) : Type 0 where
   pub nodes : ℕ
   pub case : Case
   pub same_schema : claim.schema ≡ case.schema
   pub same_rows : claim.rows ≡ case.rows
   pub same_constraints : claim.constraints ≡ case.constraints
   pub proof : SaysProof nodes case claim.bytes
-  pub loads : ¬ Rose call.loads_before call.loads_after
-  pub puts : ¬ Rose call.puts_before call.puts_after
 
--- it says yes to such a document
 abbrev pub IsDoneUnlessMemory : Status → Type 0
 IsDoneUnlessMemory status = (status ≡ ended.Done) ⊎ (status ≡ ended.Memory)
+
+abbrev pub SaysNoUnlessMemory : Status → Type 0
+SaysNoUnlessMemory status = (status ≡ ended.SaidNo) ⊎ (status ≡ ended.Memory)
 
 -- the status of a run whose text could not be put: a report that is cut off is a write fault, the line of a refusal stays
 abbrev pub after_failed_put : Status → Status

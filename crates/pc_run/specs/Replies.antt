@@ -105,6 +105,12 @@ pub record SaysProof (nodes : ℕ) (case : Case) (text : List ℕ) : Type 0 wher
 abbrev pub premises_for : Claim → Premises
 premises_for claim = record { schema = claim.schema; observed = claim.rows; constraints = claim.constraints }
 
+-- the bytes are the text of a document that breaks no rule
+pub record SpellsUnbroken (claim : Claim) : Type 0 where
+  pub document : Document
+  pub spelled : IsDocumentText claim.schema claim.bytes document
+  pub unbroken : AreUnbroken (premises_for claim) None document.blocks
+
 -- the bytes are the text of a document that breaks no rule, and each of its blocks is right
 pub record IsUnbrokenText (claim : Claim) : Type 0 where
   pub document : Document

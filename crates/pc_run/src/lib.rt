@@ -1,9 +1,10 @@
 //! The run of a command, from the bytes of its files to the bytes that it writes.
 #![tactic(auto)]
 
-ghost use Rattle.std.specs.Prelude.{◌≡◌, ◌≤◌, ◌+◌, map, string_bytes};
+ghost use Rattle.std.specs.Prelude.{◌≡◌, ◌≤◌, ◌+◌, ℕ, map, string_bytes};
 ghost use Rattle.pc_words.specs.Words.{command_of, file_count};
-ghost use Rattle.pc_run.specs.Meaning.{Call, ChecksProof, Means, IsAnswerUnlessMemory, IsAnswerable, IsDoneUnlessMemory, call_of, after_failed_put};
+ghost use Rattle.pc_run.specs.Meaning.{Call, ChecksClaim, IsProved, Means, IsAnswerUnlessMemory, IsAnswerable, IsDoneUnlessMemory, SaysNoUnlessMemory, call_of, after_failed_put};
+ghost use Rattle.pc_run.specs.Replies.{BreaksFirst, SpellsUnbroken};
 
 mod case;
 mod claim;
@@ -25,7 +26,9 @@ use std::alloc::Global;
 pub fn run<F: Shelf, K: Sink>(alloc: Global, words: &[String], files: &mut F, out: &mut K) -> Status
     ensures means { Means (call_of (F.files files.old) (K.kept out.old) (K.kept out.new) (map string_bytes words.now) (F.faults files.old) (F.faults files.new) (K.faults out.old) (K.faults out.new)) result }
     ensures answers { (can : IsAnswerable (call_of (F.files files.old) (K.kept out.old) (K.kept out.new) (map string_bytes words.now) (F.faults files.old) (F.faults files.new) (K.faults out.old) (K.faults out.new))) → IsAnswerUnlessMemory can.asked result }
-    ensures agrees { ChecksProof (call_of (F.files files.old) (K.kept out.old) (K.kept out.new) (map string_bytes words.now) (F.faults files.old) (F.faults files.new) (K.faults out.old) (K.faults out.new)) → IsDoneUnlessMemory result }
+    ensures says_yes { (checks : ChecksClaim (call_of (F.files files.old) (K.kept out.old) (K.kept out.new) (map string_bytes words.now) (F.faults files.old) (F.faults files.new) (K.faults out.old) (K.faults out.new))) → SpellsUnbroken checks.claim → IsDoneUnlessMemory result }
+    ensures says_no { (checks : ChecksClaim (call_of (F.files files.old) (K.kept out.old) (K.kept out.new) (map string_bytes words.now) (F.faults files.old) (F.faults files.new) (K.faults out.old) (K.faults out.new))) (line rule : ℕ) → BreaksFirst checks.claim line rule → SaysNoUnlessMemory result }
+    ensures agrees { (checks : ChecksClaim (call_of (F.files files.old) (K.kept out.old) (K.kept out.new) (map string_bytes words.now) (F.faults files.old) (F.faults files.new) (K.faults out.old) (K.faults out.new))) → IsProved checks.claim → IsDoneUnlessMemory result }
     ensures files_stay { F.files files.new ≡ F.files files.old }
     ensures loads { F.calls files.new ≤ F.calls files.old + file_count (command_of (map string_bytes words.now)) }
     ensures puts { K.calls out.new ≤ K.calls out.old + 1 }

@@ -1,7 +1,7 @@
 use Rattle.std.proofs.Common.{map, string_bytes}
 use Rattle.pc_run.specs.Meaning.{call_of}
 use Rattle.pc_run.proofs.Meanings.{written_from, front_from, means_whole, means_cut_off}
-use Rattle.pc_run.proofs.Agreement.{agrees}
+use Rattle.pc_run.proofs.Agreement.{says_yes, says_no, agrees}
 use Rattle.pc_run.proofs.Answering.{answers}
 use Rattle.pc_run.proofs.run.Goals as goal
 
@@ -18,6 +18,18 @@ returns-in-All-clause-answers g c =
     answers
     (call_of (g.F.Shelf.files c.args.files.now) (g.K.Sink.kept c.args.out.now) (g.K.Sink.kept c.put.new.self) (map string_bytes c.args.words.now) (g.F.Shelf.faults c.args.files.now) (g.F.Shelf.faults c.respond.new.files) (g.K.Sink.faults c.args.out.now) (g.K.Sink.faults c.put.new.self))
     c.in-Ok.reply.status (returns-in-All-clause-means g c)
+
+pub returns-in-All-clause-says_yes : goal.returns-in-All-clause-says_yes
+returns-in-All-clause-says_yes g c =
+    says_yes
+    (call_of (g.F.Shelf.files c.args.files.now) (g.K.Sink.kept c.args.out.now) (g.K.Sink.kept c.put.new.self) (map string_bytes c.args.words.now) (g.F.Shelf.faults c.args.files.now) (g.F.Shelf.faults c.respond.new.files) (g.K.Sink.faults c.args.out.now) (g.K.Sink.faults c.put.new.self))
+    c.in-Ok.reply.status c.in-Ok.reply.text.items c.in-Ok.ensures.responds (returns-in-All-clause-means g c)
+
+pub returns-in-All-clause-says_no : goal.returns-in-All-clause-says_no
+returns-in-All-clause-says_no g c =
+    says_no
+    (call_of (g.F.Shelf.files c.args.files.now) (g.K.Sink.kept c.args.out.now) (g.K.Sink.kept c.put.new.self) (map string_bytes c.args.words.now) (g.F.Shelf.faults c.args.files.now) (g.F.Shelf.faults c.respond.new.files) (g.K.Sink.faults c.args.out.now) (g.K.Sink.faults c.put.new.self))
+    c.in-Ok.reply.status c.in-Ok.reply.text.items c.in-Ok.ensures.responds (returns-in-All-clause-means g c)
 
 pub returns-in-All-clause-agrees : goal.returns-in-All-clause-agrees
 returns-in-All-clause-agrees g c =
