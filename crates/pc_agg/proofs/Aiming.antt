@@ -11,21 +11,21 @@ use Rattle.pc_model.specs.declared.query.Agg.{Agg}
 use Rattle.pc_model.specs.declared.query.Query.{Query}
 use Rattle.pc_model.specs.Accepted.{AreConstraints}
 use Rattle.pc_model.specs.Cells.{Class}
-use Rattle.pc_bound.specs.Allocation.{IsProgram, IsAllocation, cells_of}
-use Rattle.pc_bound.specs.CellPrograms.{program_with}
+use Rattle.pc_program_bound.specs.Allocation.{IsProgram, IsAllocation, cells_of}
+use Rattle.pc_program_bound.specs.CellPrograms.{program_with}
 use Rattle.pc_branch.specs.Ends.{HasSmallGains}
 use Rattle.pc_proof.specs.Setting.{Setting, cells, program_for}
-use Rattle.pc_licence.specs.Pools.{AreLawful}
+use Rattle.pc_branch_licences.specs.Pools.{AreLawful}
 use Rattle.pc_agg.specs.declared.aim.Aim.{Aim}
-use Rattle.pc_search.specs.declared.extreme.Extreme.{Extreme}
-use Rattle.pc_search.specs.Limits.{found_of}
+use Rattle.pc_agg_search.specs.declared.extreme.Extreme.{Extreme}
+use Rattle.pc_agg_search.specs.Limits.{found_of}
 use Rattle.pc_agg.specs.Answered.{CanEnd}
-use Rattle.pc_search.specs.Ends.{gain_towards, IsPick, program_towards}
+use Rattle.pc_agg_search.specs.Ends.{gain_towards, IsPick, program_towards}
 use Rattle.pc_agg.specs.Marks.{IsAim, IsAmong}
-use Rattle.pc_search.specs.Settings.{unseen}
-use Rattle.pc_search.proofs.ProgramEnds.{is_program}
+use Rattle.pc_agg_search.specs.Settings.{unseen}
+use Rattle.pc_agg_search.proofs.ProgramEnds.{is_program}
 use Rattle.pc_agg.proofs.Totals.{lawful_found}
-use Rattle.pc_search.proofs.ListedPrograms.{map_alike}
+use Rattle.pc_agg_search.proofs.ListedPrograms.{map_alike}
 
 -- ---- what two searches found
 

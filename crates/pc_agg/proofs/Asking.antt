@@ -11,8 +11,8 @@ use Rattle.pc_model.specs.Accepted.{IsQuery}
 use Rattle.pc_model.specs.Folds.{IsFold}
 use Rattle.pc_proof.specs.Unbroken.{AllowsName}
 use Rattle.pc_proof.proofs.Observing.{comes}
-use Rattle.pc_search.specs.Asked.{question_as, Asking, setting_for, query_for}
-use Rattle.pc_search.specs.Settings.{setting_in}
+use Rattle.pc_agg_search.specs.Asked.{question_as, Asking, setting_for, query_for}
+use Rattle.pc_agg_search.specs.Settings.{setting_in}
 
 pub fold_asks : (schema : Schema) (constraints : List Constraint) (query : Query) (name : Option ℕ) (observed : List Row) (seen : Folded) (nodes : List CutNode) →
     IsQuery schema query → is_none name ≡ is_none query.group → AllowsName query.chosen query.group name → IsFold query name observed seen →

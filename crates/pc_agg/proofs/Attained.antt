@@ -17,7 +17,7 @@ use Rattle.pc_model.specs.Aggregate.{whole, IsSame, int_sum}
 use Rattle.pc_model.specs.Right.{IsAttained, ArePossible, always_has_value}
 use Rattle.pc_model.specs.Runs.{rows_of, runs_from}
 use Rattle.pc_model.specs.Cells.{Class, class_of, IsRowOf}
-use Rattle.pc_bound.specs.Allocation.{cells_of, worth}
+use Rattle.pc_program_bound.specs.Allocation.{cells_of, worth}
 use Rattle.pc_witness.proofs.Allocations.{allocation-possible}
 use Rattle.pc_witness.proofs.Checks.{All-rows_of}
 use Rattle.pc_witness.proofs.RunsFrom.{All-runs_from}
@@ -26,15 +26,15 @@ use Rattle.pc_witness.proofs.Zipped.{AllZip-weaker, All-from_zip}
 use Rattle.pc_proof.specs.Setting.{Setting, cells, program_for}
 use Rattle.pc_proof.specs.Table.{none}
 use Rattle.pc_proof.proofs.Seen.{int_sum-neg}
-use Rattle.pc_licence.specs.Pools.{AreLawful}
-use Rattle.pc_licence.specs.Shown.{counts_of_runs}
-use Rattle.pc_licence.proofs.RunCounts.{runs-counted}
-use Rattle.pc_licence.specs.Totals.{seen_value}
-use Rattle.pc_search.specs.declared.extreme.Extreme.{Extreme}
-use Rattle.pc_search.specs.declared.extreme.Extreme.TheVariants.{Low, High}
-use Rattle.pc_search.specs.Asked.{Asking, setting_for}
-use Rattle.pc_search.specs.Ends.{gain_towards, adds, signed, IsPick, program_towards}
-use Rattle.pc_search.specs.Settings.{unseen}
+use Rattle.pc_branch_licences.specs.Pools.{AreLawful}
+use Rattle.pc_branch_licences.specs.Shown.{counts_of_runs}
+use Rattle.pc_branch_licences.proofs.RunCounts.{runs-counted}
+use Rattle.pc_branch_licences.specs.Totals.{seen_value}
+use Rattle.pc_agg_search.specs.declared.extreme.Extreme.{Extreme}
+use Rattle.pc_agg_search.specs.declared.extreme.Extreme.TheVariants.{Low, High}
+use Rattle.pc_agg_search.specs.Asked.{Asking, setting_for}
+use Rattle.pc_agg_search.specs.Ends.{gain_towards, adds, signed, IsPick, program_towards}
+use Rattle.pc_agg_search.specs.Settings.{unseen}
 use Rattle.pc_agg.specs.Settling.{AreRowsOfCells}
 use Rattle.pc_agg.proofs.Questions.{value_is}
 

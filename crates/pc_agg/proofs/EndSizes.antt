@@ -19,16 +19,16 @@ use Rattle.pc_model.specs.Cells.{Class, IsSettledTree, leaves_in}
 use Rattle.pc_model.specs.Membership.{in_domain, has}
 use Rattle.pc_model.specs.Right.{always_has_value}
 use Rattle.pc_model.specs.WellFormed.{IsWellFormed}
-use Rattle.pc_class.proofs.Cells.{classes_of-differ}
+use Rattle.pc_cells_laws.proofs.Cells.{classes_of-differ}
 use Rattle.pc_proof.specs.Setting.{Setting, cells}
 use Rattle.pc_proof.specs.Form.{IsFormedWhole, IsFormedValue}
-use Rattle.pc_search.specs.declared.extreme.Extreme.{Extreme}
-use Rattle.pc_search.specs.declared.extreme.Extreme.TheVariants.{Low, High}
-use Rattle.pc_search.specs.Ends.{gain_towards, adds, signed, IsPick}
-use Rattle.pc_search.specs.Settings.{unseen}
-use Rattle.pc_search.proofs.ManyCells.{many_cells, worth_at_most}
+use Rattle.pc_agg_search.specs.declared.extreme.Extreme.{Extreme}
+use Rattle.pc_agg_search.specs.declared.extreme.Extreme.TheVariants.{Low, High}
+use Rattle.pc_agg_search.specs.Ends.{gain_towards, adds, signed, IsPick}
+use Rattle.pc_agg_search.specs.Settings.{unseen}
+use Rattle.pc_agg_search.proofs.ManyCells.{many_cells, worth_at_most}
 use Rattle.pc_proof.proofs.RowNumbers.{asked_small}
-use Rattle.pc_search.proofs.SettledPrograms.{have_rows}
+use Rattle.pc_agg_search.proofs.SettledPrograms.{have_rows}
 use Rattle.pc_agg.specs.declared.aim.Aim.{Aim}
 use Rattle.pc_agg.specs.Marks.{IsAim}
 use Rattle.pc_agg.specs.Observed.{folded_value}

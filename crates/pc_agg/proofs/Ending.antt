@@ -20,8 +20,8 @@ use Rattle.pc_model.specs.Accepted.{AreConstraints}
 use Rattle.pc_model.specs.Aggregate.{Ratio, whole, IsAtMost}
 use Rattle.pc_model.specs.Right.{IsAttained, always_has_value}
 use Rattle.pc_model.specs.Cells.{IsSettledTree}
-use Rattle.pc_bound.specs.declared.program.Program.{Program}
-use Rattle.pc_bound.specs.Allocation.{IsProgram, worth}
+use Rattle.pc_program_bound.specs.declared.program.Program.{Program}
+use Rattle.pc_program_bound.specs.Allocation.{IsProgram, worth}
 use Rattle.pc_proof.specs.declared.answer.Mark.{Mark}
 use Rattle.pc_proof.specs.declared.answer.Mark.TheVariants as marks
 use Rattle.pc_proof.specs.declared.answer.Proof.{Proof}
@@ -32,29 +32,29 @@ use Rattle.pc_proof.specs.Setting.{Setting, cells, region_of}
 use Rattle.pc_proof.specs.Table.{limit, ratio_of, bound_for, IsFormed, Shows, ShowsHigh, ShowsLow, high_program, low_program}
 use Rattle.pc_proof.specs.Unbroken.{HoldsMark, MayShow, IsExact, IsWellPosed}
 use Rattle.pc_branch.specs.Outcome.{IsMost}
-use Rattle.pc_licence.specs.Licensed.{IsSpent, IfOuter, LicensedHigh, LicensedLow}
-use Rattle.pc_licence.specs.Pools.{AreLawful, ShownFrom}
-use Rattle.pc_licence.specs.Searched.{HighSearched, LowSearched}
-use Rattle.pc_licence.specs.Shown.{runs_of_mark, shown_runs, counts_of_runs, IsShown}
-use Rattle.pc_licence.specs.Totals.{seen_value}
-use Rattle.pc_licence.specs.Wanted.{nothing, LeavesOpen}
-use Rattle.pc_licence.proofs.Attained.{high-attained, low-attained}
-use Rattle.pc_licence.proofs.Trees.{licence-open}
-use Rattle.pc_search.specs.declared.limit.Limit.{Limit}
+use Rattle.pc_branch_licences.specs.Licensed.{IsSpent, IfOuter, LicensedHigh, LicensedLow}
+use Rattle.pc_branch_licences.specs.Pools.{AreLawful, ShownFrom}
+use Rattle.pc_branch_licences.specs.Searched.{HighSearched, LowSearched}
+use Rattle.pc_branch_licences.specs.Shown.{runs_of_mark, shown_runs, counts_of_runs, IsShown}
+use Rattle.pc_branch_licences.specs.Totals.{seen_value}
+use Rattle.pc_branch_licences.specs.Wanted.{nothing, LeavesOpen}
+use Rattle.pc_branch_licences.proofs.Attained.{high-attained, low-attained}
+use Rattle.pc_branch_licences.proofs.Trees.{licence-open}
+use Rattle.pc_agg_search.specs.declared.limit.Limit.{Limit}
 use Rattle.pc_agg.specs.declared.aim.Aim.{Aim}
-use Rattle.pc_search.specs.declared.extreme.Extreme.{Extreme}
-use Rattle.pc_search.specs.declared.extreme.Extreme.TheVariants.{Low, High}
+use Rattle.pc_agg_search.specs.declared.extreme.Extreme.{Extreme}
+use Rattle.pc_agg_search.specs.declared.extreme.Extreme.TheVariants.{Low, High}
 use Rattle.pc_agg.specs.Answered.{IsEnd}
-use Rattle.pc_search.specs.Asked.{Asking, setting_for}
-use Rattle.pc_search.specs.Ends.{gain_towards, signed, HoldsEnd, program_towards}
-use Rattle.pc_search.specs.Fitting.{AreObserved, IsFitEnd}
-use Rattle.pc_search.specs.Limits.{IsLimit, IsReached, IsCutShort}
+use Rattle.pc_agg_search.specs.Asked.{Asking, setting_for}
+use Rattle.pc_agg_search.specs.Ends.{gain_towards, signed, HoldsEnd, program_towards}
+use Rattle.pc_agg_search.specs.Fitting.{AreObserved, IsFitEnd}
+use Rattle.pc_agg_search.specs.Limits.{IsLimit, IsReached, IsCutShort}
 use Rattle.pc_agg.specs.Marks.{IsMarked, IsAim, IsAmong}
 use Rattle.pc_agg.specs.Observed.{folded_value}
-use Rattle.pc_search.specs.Settings.{unseen}
+use Rattle.pc_agg_search.specs.Settings.{unseen}
 use Rattle.pc_agg.proofs.Attained.{attained, of_cells, counted_runs}
-use Rattle.pc_search.proofs.ProgramEnds.{is_program}
-use Rattle.pc_search.proofs.Shorts.{fit_limit}
+use Rattle.pc_agg_search.proofs.ProgramEnds.{is_program}
+use Rattle.pc_agg_search.proofs.Shorts.{fit_limit}
 use Rattle.pc_agg.proofs.EndSizes.{end_value}
 use Rattle.pc_agg.proofs.Questions.{folded_is, posed, tree_for}
 

@@ -11,11 +11,11 @@ use Rattle.pc_model.specs.declared.tree.CutNode.{CutNode}
 use Rattle.pc_model.specs.Membership.{has}
 use Rattle.pc_model.specs.WellFormed.{IsWellFormed}
 use Rattle.pc_model.specs.Cells.{Class, IsRowOf, IsInSome, IsSettledTree, leaves_in, classes_of}
-use Rattle.pc_class.proofs.SettledTrees.{rows_of_tree}
+use Rattle.pc_cells_laws.proofs.SettledTrees.{rows_of_tree}
 use Rattle.pc_model.specs.declared.query.Query.{Query}
 use Rattle.pc_cells.specs.declared.cells.Cell.{Cell}
 use Rattle.pc_cells.proofs.Decomposed.{classes_of_cells}
-use Rattle.pc_search.specs.Settings.{unseen}
+use Rattle.pc_agg_search.specs.Settings.{unseen}
 use Rattle.pc_agg.specs.Settling.{AreRowsOfCells}
 use Rattle.pc_cells.specs.Found.{class_of_cell, cell_of, cells_of, IsFilled, leaves_at, leaf_at}
 

@@ -11,22 +11,22 @@ use Rattle.pc_model.specs.declared.tree.CutNode.{CutNode}
 use Rattle.pc_model.specs.Accepted.{AreConstraints}
 use Rattle.pc_model.specs.WellFormed.{IsWellFormed}
 use Rattle.pc_model.specs.Cells.{Class, IsSettledTree}
-use Rattle.pc_bound.specs.Sums.{int_at}
-use Rattle.pc_bound.specs.CellPrograms.{cap_of}
-use Rattle.pc_bound.proofs.CellPlaces.{no_class, cell_inside, floor_is}
+use Rattle.pc_program_bound.specs.Sums.{int_at}
+use Rattle.pc_program_bound.specs.CellPrograms.{cap_of}
+use Rattle.pc_program_bound.proofs.CellPlaces.{no_class, cell_inside, floor_is}
 use Rattle.pc_branch.specs.Ends.{HasSmallGains}
 use Rattle.pc_proof.specs.Setting.{Setting, cells, on_chosen, counting, open_cap, program_for, program_without}
 use Rattle.pc_proof.specs.Table.{one}
-use Rattle.pc_search.specs.declared.extreme.Extreme.{Extreme}
-use Rattle.pc_search.specs.declared.want.Want.TheVariants as wants
-use Rattle.pc_search.specs.Flat.{flat_tree}
-use Rattle.pc_search.specs.Keys.{key_of}
+use Rattle.pc_agg_search.specs.declared.extreme.Extreme.{Extreme}
+use Rattle.pc_agg_search.specs.declared.want.Want.TheVariants as wants
+use Rattle.pc_agg_search.specs.Flat.{flat_tree}
+use Rattle.pc_agg_search.specs.Keys.{key_of}
 use Rattle.pc_agg.specs.Rungs.{AllUpTo}
-use Rattle.pc_search.specs.Settings.{unseen}
-use Rattle.pc_search.specs.Wants.{FallsShort}
-use Rattle.pc_search.specs.Limits.{greatest_gain}
-use Rattle.pc_search.proofs.FlatTrees.{no_product, flat_short}
-use Rattle.pc_search.proofs.UnseenPrograms.{tested_small, for_program, for_small, without_program, without_small}
+use Rattle.pc_agg_search.specs.Settings.{unseen}
+use Rattle.pc_agg_search.specs.Wants.{FallsShort}
+use Rattle.pc_agg_search.specs.Limits.{greatest_gain}
+use Rattle.pc_agg_search.proofs.FlatTrees.{no_product, flat_short}
+use Rattle.pc_agg_search.proofs.UnseenPrograms.{tested_small, for_program, for_small, without_program, without_small}
 
 -- ---- programs of cells
 

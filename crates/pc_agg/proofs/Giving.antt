@@ -9,19 +9,19 @@ use Rattle.pc_model.specs.declared.constraint.Constraint.{Constraint}
 use Rattle.pc_model.specs.declared.query.Query.{Query}
 use Rattle.pc_model.specs.declared.query.Folded.{Folded}
 use Rattle.pc_model.specs.declared.tree.CutNode.{CutNode}
-use Rattle.pc_bound.specs.Sums.{nat_at, int_at}
-use Rattle.pc_bound.specs.Allocation.{cells_of, worth}
-use Rattle.pc_bound.proofs.CellPlaces.{no_class, cell_inside}
-use Rattle.pc_bound.proofs.SumBelow.{sum_below_mono, sum_below-none}
+use Rattle.pc_program_bound.specs.Sums.{nat_at, int_at}
+use Rattle.pc_program_bound.specs.Allocation.{cells_of, worth}
+use Rattle.pc_program_bound.proofs.CellPlaces.{no_class, cell_inside}
+use Rattle.pc_program_bound.proofs.SumBelow.{sum_below_mono, sum_below-none}
 use Rattle.pc_proof.specs.declared.answer.Lack.{Lack}
 use Rattle.pc_proof.specs.declared.answer.Lack.TheVariants as lacks
 use Rattle.pc_proof.specs.Setting.{Setting, cells, on_chosen, seen_count}
 use Rattle.pc_proof.specs.Table.{one}
-use Rattle.pc_licence.specs.Pools.{AreLawful}
-use Rattle.pc_search.specs.declared.want.Want.TheVariants as wants
-use Rattle.pc_search.specs.Asked.{Asking, setting_for}
-use Rattle.pc_search.specs.Settings.{unseen}
-use Rattle.pc_search.specs.Wants.{want_for, most_chosen, fewest_chosen, IsFound, IsDoubt}
+use Rattle.pc_branch_licences.specs.Pools.{AreLawful}
+use Rattle.pc_agg_search.specs.declared.want.Want.TheVariants as wants
+use Rattle.pc_agg_search.specs.Asked.{Asking, setting_for}
+use Rattle.pc_agg_search.specs.Settings.{unseen}
+use Rattle.pc_agg_search.specs.Wants.{want_for, most_chosen, fewest_chosen, IsFound, IsDoubt}
 use Rattle.pc_agg.specs.declared.grounds.Lacking.{Lacking}
 use Rattle.pc_agg.specs.declared.grounds.Lacking.TheVariants as lackings
 use Rattle.pc_agg.specs.Extremes.{IsOpenLack, IsLackFrom}

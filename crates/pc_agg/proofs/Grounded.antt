@@ -9,7 +9,7 @@ use Rattle.pc_model.specs.declared.tree.Tree.{Tree}
 use Rattle.pc_model.specs.Accepted.{AreConstraints}
 use Rattle.pc_model.specs.WellFormed.{IsWellFormed}
 use Rattle.pc_model.specs.Cells.{Class}
-use Rattle.pc_bound.specs.declared.program.Program.{Program}
+use Rattle.pc_program_bound.specs.declared.program.Program.{Program}
 use Rattle.pc_cells.specs.declared.cells.Cell.{Cell}
 use Rattle.pc_cells.specs.declared.cells.Cells.{Cells}
 use Rattle.pc_cells.specs.Found.{class_of_cell}
@@ -20,26 +20,26 @@ use Rattle.pc_proof.specs.declared.answer.Why.{Why}
 use Rattle.pc_proof.specs.Setting.{Setting, cells, on_chosen, program_for}
 use Rattle.pc_proof.specs.Table.{one, minus_one}
 use Rattle.pc_proof.specs.Unbroken.{IsDecided}
-use Rattle.pc_licence.specs.Pools.{AreLawful}
+use Rattle.pc_branch_licences.specs.Pools.{AreLawful}
 use Rattle.pc_agg.specs.declared.grounds.Lacking.{Lacking}
 use Rattle.pc_agg.specs.declared.grounds.Lacking.TheVariants as lackings
-use Rattle.pc_search.specs.declared.probes.Probed.{Probed}
-use Rattle.pc_search.specs.declared.probes.Verdict.TheVariants as verdicts
-use Rattle.pc_search.specs.declared.want.Want.{Want}
-use Rattle.pc_search.specs.declared.want.Want.TheVariants as wants
-use Rattle.pc_search.specs.Asked.{AreCells}
-use Rattle.pc_search.specs.Fitting.{IsVoidTree}
-use Rattle.pc_search.specs.Flat.{flat_tree}
-use Rattle.pc_search.specs.Wants.{want_for, most_chosen, fewest_chosen}
+use Rattle.pc_agg_search.specs.declared.probes.Probed.{Probed}
+use Rattle.pc_agg_search.specs.declared.probes.ProbeVerdict.TheVariants as verdicts
+use Rattle.pc_agg_search.specs.declared.want.Want.{Want}
+use Rattle.pc_agg_search.specs.declared.want.Want.TheVariants as wants
+use Rattle.pc_agg_search.specs.Asked.{AreCells}
+use Rattle.pc_agg_search.specs.Fitting.{IsVoidTree}
+use Rattle.pc_agg_search.specs.Flat.{flat_tree}
+use Rattle.pc_agg_search.specs.Wants.{want_for, most_chosen, fewest_chosen}
 use Rattle.pc_agg.specs.Grounds.{HasValues, AreGrounds, AreAlways, AreGroundsSurely, IsLacking, IsLackingSurely, IsUnlistedIfNone}
-use Rattle.pc_search.specs.Settings.{unseen}
+use Rattle.pc_agg_search.specs.Settings.{unseen}
 use Rattle.pc_agg.specs.Settling.{IsRelation, IsUnlisted}
-use Rattle.pc_search.specs.Wants.{FallsShort, IsDoubt, IsFound, IsProbed, IsSure, IsVerdict}
-use Rattle.pc_search.proofs.Empty.{void_tree}
+use Rattle.pc_agg_search.specs.Wants.{FallsShort, IsDoubt, IsFound, IsProbed, IsSure, IsVerdict}
+use Rattle.pc_agg_search.proofs.Empty.{void_tree}
 use Rattle.pc_agg.proofs.Flat.{flat_none}
 use Rattle.pc_agg.proofs.Lacking.{unlisted_grown, lacking_grown, surely_grown}
-use Rattle.pc_search.proofs.SettledPrograms.{classes_are}
-use Rattle.pc_search.proofs.Shorts.{shows_no_gain, shows_some_row, short_empty, fit_short}
+use Rattle.pc_agg_search.proofs.SettledPrograms.{classes_are}
+use Rattle.pc_agg_search.proofs.Shorts.{shows_no_gain, shows_some_row, short_empty, fit_short}
 
 any_map : {X Y : Type 0} (P : Y → Type 0) (f : X → Y) (xs : List X) → Any (λ x. P (f x)) xs → Any P (map f xs)
 any_map P f xs some = (some.0, f some.1, omega (arith, some.2, length-map xs f), get_or-map f xs some.0 some.1 (f some.1) some.2 ∙ ap f some.3, some.4)

@@ -5,29 +5,29 @@ use Rattle.std.proofs.lemmas.List.{append_assoc, length-map, length-append, get_
 use Rattle.std.proofs.lemmas.List.Elements.{All-append, All-weaker}
 use Rattle.pc_model.specs.declared.tree.Tree.{Tree}
 use Rattle.pc_model.specs.Cells.{Class}
-use Rattle.pc_bound.specs.declared.program.Program.{Program}
-use Rattle.pc_bound.specs.Sums.{nat_at, int_at}
-use Rattle.pc_bound.specs.Allocation.{IsAllocation}
-use Rattle.pc_bound.specs.CellPrograms.{cap_of}
-use Rattle.pc_bound.proofs.CellPlaces.{no_class}
+use Rattle.pc_program_bound.specs.declared.program.Program.{Program}
+use Rattle.pc_program_bound.specs.Sums.{nat_at, int_at}
+use Rattle.pc_program_bound.specs.Allocation.{IsAllocation}
+use Rattle.pc_program_bound.specs.CellPrograms.{cap_of}
+use Rattle.pc_program_bound.proofs.CellPlaces.{no_class}
 use Rattle.pc_proof.specs.Setting.{Setting, cells, counting, open_cap}
-use Rattle.pc_search.specs.Fitting.{IsVoidTree}
-use Rattle.pc_licence.specs.Pools.{AreLawful}
-use Rattle.pc_search.specs.declared.extreme.Extreme.{Extreme}
+use Rattle.pc_agg_search.specs.Fitting.{IsVoidTree}
+use Rattle.pc_branch_licences.specs.Pools.{AreLawful}
+use Rattle.pc_agg_search.specs.declared.extreme.Extreme.{Extreme}
 use Rattle.pc_agg.specs.declared.ladder.Test.{Test}
 use Rattle.pc_agg.specs.declared.ladder.Test.TheVariants.{Reach, Avoid}
 use Rattle.pc_agg.specs.declared.ladder.Ladder.{Ladder}
 use Rattle.pc_agg.specs.declared.climb.Span.{Span}
-use Rattle.pc_search.specs.declared.probes.Probed.{Probed}
-use Rattle.pc_search.specs.declared.probes.Verdict.{Verdict}
-use Rattle.pc_search.specs.declared.probes.Verdict.TheVariants as verdicts
-use Rattle.pc_search.specs.declared.want.Want.{Want}
+use Rattle.pc_agg_search.specs.declared.probes.Probed.{Probed}
+use Rattle.pc_agg_search.specs.declared.probes.ProbeVerdict.{ProbeVerdict}
+use Rattle.pc_agg_search.specs.declared.probes.ProbeVerdict.TheVariants as verdicts
+use Rattle.pc_agg_search.specs.declared.want.Want.{Want}
 use Rattle.pc_agg.specs.Climbing.{above, if_empty, narrowed, IsSpan, IsHalved, IsSureSpan, IsSureHalf}
-use Rattle.pc_search.specs.Limits.{IsEmpty}
-use Rattle.pc_search.specs.Keys.{key_of}
+use Rattle.pc_agg_search.specs.Limits.{IsEmpty}
+use Rattle.pc_agg_search.specs.Keys.{key_of}
 use Rattle.pc_agg.specs.Rungs.{reaches, rung_program, program_at, IsStanding}
-use Rattle.pc_search.specs.Wants.{IsDoubt, IsFound, IsMet, IsProbed, IsSure, IsUnder, IsVerdict, FallsShort}
-use Rattle.pc_search.proofs.Empty.{void_tree}
+use Rattle.pc_agg_search.specs.Wants.{IsDoubt, IsFound, IsMet, IsProbed, IsSure, IsUnder, IsVerdict, FallsShort}
+use Rattle.pc_agg_search.proofs.Empty.{void_tree}
 
 -- ---- what was found stays found
 
@@ -126,7 +126,7 @@ module _ (s : Setting) where
             (subst (λ test. IsEmpty (rung_program s ladder.extreme test (int_at ladder.rungs middle)) budget tree) is_test empty)
         by_empty Avoid is_test tree empty = (past_it tree (short_of_empty Middle want budget tree empty), omega (arith, from, to))
 
-        by_verdict : (verdict : Verdict) → IsVerdict Middle want budget after verdict → IsHalved s budget ladder want found span (narrowed ladder.test span.from span.to middle span.tree after verdict)
+        by_verdict : (verdict : ProbeVerdict) → IsVerdict Middle want budget after verdict → IsHalved s budget ladder want found span (narrowed ladder.test span.from span.to middle span.tree after verdict)
         by_verdict (verdicts.Empty tree) empty = by_empty ladder.test refl tree empty
         by_verdict (verdicts.Short tree) short = (past_it tree short, omega (arith, from, to))
         by_verdict verdicts.Open doubt = (up_to_it doubt, omega (arith, from, to))
@@ -144,7 +144,7 @@ module _ (s : Setting) where
     sure_empty Reach past tree sure = tt
     sure_empty Avoid past tree sure = sure
 
-    sure_by : (span : Span) (middle : ℕ) (after more : List (List ℕ)) (verdict : Verdict) → after ≡ span.found ++ more → IsSure (program_at s ladder middle) want (record { verdict = verdict; found = after }) → IsSureSpan s ladder want span
+    sure_by : (span : Span) (middle : ℕ) (after more : List (List ℕ)) (verdict : ProbeVerdict) → after ≡ span.found ++ more → IsSure (program_at s ladder middle) want (record { verdict = verdict; found = after }) → IsSureSpan s ladder want span
         → IsSureHalf s ladder want (narrowed ladder.test span.from span.to middle span.tree after verdict)
     sure_by span middle after more (verdicts.Empty tree) grown found sure = sure_empty ladder.test (above middle span.to tree after) tree (sure_past span middle after more tree grown sure)
     sure_by span middle after more (verdicts.Short tree) grown found sure = sure_past span middle after more tree grown sure

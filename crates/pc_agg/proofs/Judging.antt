@@ -16,8 +16,8 @@ use Rattle.pc_model.specs.Membership.{AreDisjoint}
 use Rattle.pc_model.specs.WellFormed.{IsWellFormed}
 use Rattle.pc_model.specs.Cells.{Class, IsRowOf, IsSettledTree, leaves_in, classes_of}
 use Rattle.pc_model.specs.Right.{always_has_value}
-use Rattle.pc_bound.specs.declared.program.Program.{Program}
-use Rattle.pc_bound.specs.Allocation.{cells_of}
+use Rattle.pc_program_bound.specs.declared.program.Program.{Program}
+use Rattle.pc_program_bound.specs.Allocation.{cells_of}
 use Rattle.pc_cells.specs.declared.cells.Cell.{Cell}
 use Rattle.pc_cells.specs.Found.{cell_of}
 use Rattle.pc_cells.specs.Found.{cells_of as cells_of_leaves}
@@ -26,25 +26,25 @@ use Rattle.pc_proof.specs.declared.answer.AlwaysBy.TheVariants as alwayses
 use Rattle.pc_proof.specs.declared.answer.Answer.{Answer}
 use Rattle.pc_proof.specs.Setting.{Setting, cells}
 use Rattle.pc_proof.specs.Table.{IsExtreme}
-use Rattle.pc_licence.specs.Licensed.{IsSettledLack}
-use Rattle.pc_licence.specs.Pools.{AreLawful}
-use Rattle.pc_search.specs.declared.extreme.Extreme.{Extreme}
-use Rattle.pc_search.specs.declared.extreme.Extreme.TheVariants.{Low, High}
+use Rattle.pc_branch_licences.specs.Licensed.{IsSettledLack}
+use Rattle.pc_branch_licences.specs.Pools.{AreLawful}
+use Rattle.pc_agg_search.specs.declared.extreme.Extreme.{Extreme}
+use Rattle.pc_agg_search.specs.declared.extreme.Extreme.TheVariants.{Low, High}
 use Rattle.pc_agg.specs.declared.grounds.Grounds.{Grounds}
 use Rattle.pc_agg.specs.declared.ladder.Test.{Test}
 use Rattle.pc_agg.specs.declared.ladder.Test.TheVariants.{Reach, Avoid}
 use Rattle.pc_agg.specs.declared.stand.Stand.{Stand}
 use Rattle.pc_agg.specs.Answered.{bounded_by}
-use Rattle.pc_search.specs.Asked.{Asking, setting_for}
+use Rattle.pc_agg_search.specs.Asked.{Asking, setting_for}
 use Rattle.pc_agg.specs.Extremes.{agg_of, seen_number, test_at, key_at, relation_from, always_as, crossed, AreStands, CanStand, IsJudged}
-use Rattle.pc_search.specs.Wants.{want_for, most_chosen}
+use Rattle.pc_agg_search.specs.Wants.{want_for, most_chosen}
 use Rattle.pc_agg.specs.Grounds.{AreGrounds, AreAlways, AreGroundsSurely, IsLacking, IsLackingSurely, IsUnlistedIfNone}
 use Rattle.pc_agg.specs.Owed.{Owes}
-use Rattle.pc_search.specs.Settings.{unseen}
+use Rattle.pc_agg_search.specs.Settings.{unseen}
 use Rattle.pc_agg.specs.Settling.{AreRowsOfCells}
-use Rattle.pc_search.specs.Keys.{IsAtEnd}
+use Rattle.pc_agg_search.specs.Keys.{IsAtEnd}
 use Rattle.pc_agg.specs.Stands.{IsWanted, IsStand}
-use Rattle.pc_search.specs.Wants.{IsFound, IsDoubt, IsMet}
+use Rattle.pc_agg_search.specs.Wants.{IsFound, IsDoubt, IsMet}
 use Rattle.pc_agg.proofs.Ending.{IsDone}
 use Rattle.pc_agg.proofs.Lacking.{any_grown, doubt_grown, unlisted_grown, lacking_grown, surely_grown, relation_is, relation_may, relation_decided, IsObserving, lack_done, lack_settled}
 use Rattle.pc_agg.proofs.Owing.{IsLackDone, owes_always, owes_both, both_fit, crossing, do_cross}

@@ -14,7 +14,7 @@ use Rattle.pc_model.specs.Right.{always_has_value}
 use Rattle.pc_model.specs.Right as plain
 use Rattle.pc_model.specs.Runs.{runs_from}
 use Rattle.pc_model.specs.declared.region.Region.{Region}
-use Rattle.pc_bound.specs.declared.program.Program.{Program}
+use Rattle.pc_program_bound.specs.declared.program.Program.{Program}
 use Rattle.pc_witness.proofs.Zipped.{AllZip-weaker}
 use Rattle.pc_proof.specs.declared.answer.NeverBy.{NeverBy}
 use Rattle.pc_proof.specs.declared.answer.NeverBy.TheVariants as nevers
@@ -23,24 +23,24 @@ use Rattle.pc_proof.specs.declared.answer.Lack.TheVariants as lacks
 use Rattle.pc_proof.specs.declared.answer.Answer.{Answer}
 use Rattle.pc_proof.specs.Setting.{Setting, cells, seen_count}
 use Rattle.pc_proof.specs.Unbroken.{IsDecided, GivesNone, GivesSome, plain_relation}
-use Rattle.pc_licence.specs.Licensed.{LicensedLack, IsSettledLack}
-use Rattle.pc_licence.specs.Picked.{AreOfCells, IsOfCell}
-use Rattle.pc_licence.specs.Pools.{AreLawful, ShownFrom}
-use Rattle.pc_licence.specs.Shown.{counts_of_runs}
-use Rattle.pc_licence.specs.Wanted as wanted
-use Rattle.pc_licence.proofs.Attaining.{lacking, giving}
-use Rattle.pc_licence.proofs.Found.{shown-found}
+use Rattle.pc_branch_licences.specs.Licensed.{LicensedLack, IsSettledLack}
+use Rattle.pc_branch_licences.specs.Picked.{AreOfCells, IsOfCell}
+use Rattle.pc_branch_licences.specs.Pools.{AreLawful, ShownFrom}
+use Rattle.pc_branch_licences.specs.Shown.{counts_of_runs}
+use Rattle.pc_branch_licences.specs.Wanted as wanted
+use Rattle.pc_branch_licences.proofs.Attaining.{lacking, giving}
+use Rattle.pc_branch_licences.proofs.Found.{shown-found}
 use Rattle.pc_agg.specs.declared.grounds.Lacking.{Lacking}
 use Rattle.pc_agg.specs.declared.grounds.Lacking.TheVariants as lackings
-use Rattle.pc_search.specs.declared.want.Want.{Want}
-use Rattle.pc_search.specs.declared.want.Want.TheVariants as wants
-use Rattle.pc_search.specs.Asked.{Asking, setting_for}
+use Rattle.pc_agg_search.specs.declared.want.Want.{Want}
+use Rattle.pc_agg_search.specs.declared.want.Want.TheVariants as wants
+use Rattle.pc_agg_search.specs.Asked.{Asking, setting_for}
 use Rattle.pc_agg.specs.Extremes.{relation_from, IsOpenLack, IsLackFrom}
-use Rattle.pc_search.specs.Wants.{want_for, most_chosen, fewest_chosen}
+use Rattle.pc_agg_search.specs.Wants.{want_for, most_chosen, fewest_chosen}
 use Rattle.pc_agg.specs.Grounds.{IsLacking, IsLackingSurely, IsUnlistedIfNone}
-use Rattle.pc_search.specs.Settings.{unseen}
+use Rattle.pc_agg_search.specs.Settings.{unseen}
 use Rattle.pc_agg.specs.Settling.{AreRowsOfCells, IsRelation}
-use Rattle.pc_search.specs.Wants.{IsFound, IsDoubt}
+use Rattle.pc_agg_search.specs.Wants.{IsFound, IsDoubt}
 use Rattle.pc_agg.proofs.Attained.{counted_runs}
 use Rattle.pc_agg.proofs.Owing.{IsLackDone}
 use Rattle.pc_agg.proofs.Questions.{posed, tree_for}

@@ -5,7 +5,7 @@ use Rattle.std.proofs.lemmas.List.Elements.{All-push, All-weaker, Contains-push,
 use Rattle.pc_cells.specs.declared.cells.Cell.{Cell}
 use Rattle.pc_agg.specs.declared.ladder.Test.{Test}
 use Rattle.pc_agg.specs.Kept.{passes, HasKey, AreKept}
-use Rattle.pc_search.specs.Targets.{cell_at}
+use Rattle.pc_agg_search.specs.Targets.{cell_at}
 
 module _ (cells : List Cell) (keys : List ℤ) (test : Test) (seen : Option ℤ) where
   module _ (place : ℕ) (kept : List ℤ) (so_far : AreKept cells keys test seen place kept) where

@@ -9,20 +9,20 @@ use Rattle.pc_model.specs.declared.constraint.Constraint.{Constraint}
 use Rattle.pc_model.specs.declared.query.Query.{Query}
 use Rattle.pc_model.specs.declared.tree.CutNode.{CutNode}
 use Rattle.pc_model.specs.Cells.{Class, classes_of, leaves_in}
-use Rattle.pc_bound.proofs.CellPlaces.{no_class}
+use Rattle.pc_program_bound.proofs.CellPlaces.{no_class}
 use Rattle.pc_cells.specs.declared.cells.Cell.{Cell}
 use Rattle.pc_cells.specs.Found.{class_of_cell, cells_of}
 use Rattle.pc_cells.proofs.Decomposed.{classes_of_cells}
 use Rattle.pc_proof.specs.Setting.{Setting, cells, on_chosen}
-use Rattle.pc_search.specs.declared.extreme.Extreme.{Extreme}
+use Rattle.pc_agg_search.specs.declared.extreme.Extreme.{Extreme}
 use Rattle.pc_agg.specs.declared.ladder.Test.{Test}
 use Rattle.pc_agg.specs.declared.ladder.Test.TheVariants.{Reach, Avoid}
 use Rattle.pc_agg.specs.Falling.{IsFallingOf}
 use Rattle.pc_agg.specs.Kept.{passes, HasKey, AreKept, AreStandable}
-use Rattle.pc_search.specs.Keys.{key_of}
+use Rattle.pc_agg_search.specs.Keys.{key_of}
 use Rattle.pc_agg.specs.Rungs.{AreRungs}
-use Rattle.pc_search.specs.Settings.{unseen}
-use Rattle.pc_search.specs.Targets.{cell_at}
+use Rattle.pc_agg_search.specs.Settings.{unseen}
+use Rattle.pc_agg_search.specs.Targets.{cell_at}
 use Rattle.pc_agg.proofs.LadderRungs.{reach_apart, reach_each, reach_top, reach_bottom, avoid_apart, avoid_each, avoid_top, avoid_bottom, none_standable}
 
 abbrev is_chosen : Class → Bool

@@ -5,12 +5,12 @@ use Rattle.std.proofs.lemmas.List.{get_or_default}
 use Rattle.pc_model.specs.declared.row.Row.{Row}
 use Rattle.pc_model.specs.declared.row.Run.{Run}
 use Rattle.pc_model.specs.Runs.{runs_from}
-use Rattle.pc_bound.specs.declared.program.Program.{Program}
+use Rattle.pc_program_bound.specs.declared.program.Program.{Program}
 use Rattle.pc_model.specs.Cells.{Class}
 use Rattle.pc_proof.specs.Setting.{Setting, program_for}
-use Rattle.pc_licence.specs.Pools.{AreLawful}
-use Rattle.pc_search.specs.declared.want.Want.{Want}
-use Rattle.pc_search.specs.Wants.{IsFound, IsMet}
+use Rattle.pc_branch_licences.specs.Pools.{AreLawful}
+use Rattle.pc_agg_search.specs.declared.want.Want.{Want}
+use Rattle.pc_agg_search.specs.Wants.{IsFound, IsMet}
 
 pub lawful_met : (u : Setting) (gain : Class → ℤ) (found : List (List ℕ)) → All (AreLawful u) found → All (IsMet (program_for u gain)) found
 lawful_met u gain found lawful place d inside = let own = lawful place d inside in record { sized = own.sized; met = own.met }

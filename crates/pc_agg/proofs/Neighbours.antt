@@ -6,13 +6,13 @@ use Rattle.std.proofs.lemmas.List.Elements.{All-head, All-tail}
 use Rattle.pc_model.specs.Aggregate.{whole}
 use Rattle.pc_model.specs.Cells.{Class}
 use Rattle.pc_model.specs.declared.query.Agg.TheVariants.{Min, Max}
-use Rattle.pc_bound.specs.CellPrograms.{cap_of}
+use Rattle.pc_program_bound.specs.CellPrograms.{cap_of}
 use Rattle.pc_proof.specs.Setting.{Setting, cells, low_in, high_in, on_chosen, counting, open_cap, program_for, program_without}
 use Rattle.pc_proof.specs.Table.{one, high_program, low_program}
-use Rattle.pc_licence.specs.Licensed.{upto_low, from_high, under_high, over_low}
-use Rattle.pc_search.specs.declared.extreme.Extreme.{Extreme}
-use Rattle.pc_search.specs.declared.extreme.Extreme.TheVariants.{Low, High}
-use Rattle.pc_search.specs.Keys.{key_of}
+use Rattle.pc_branch_licences.specs.Licensed.{upto_low, from_high, under_high, over_low}
+use Rattle.pc_agg_search.specs.declared.extreme.Extreme.{Extreme}
+use Rattle.pc_agg_search.specs.declared.extreme.Extreme.TheVariants.{Low, High}
+use Rattle.pc_agg_search.specs.Keys.{key_of}
 use Rattle.pc_agg.specs.Rungs.{reaches, avoids, AreApart, AllFrom}
 
 -- ---- tests of whole numbers

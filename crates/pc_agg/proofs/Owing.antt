@@ -28,29 +28,29 @@ use Rattle.pc_proof.specs.declared.answer.Mark.{Mark}
 use Rattle.pc_proof.specs.declared.answer.Mark.TheVariants as marks
 use Rattle.pc_proof.specs.declared.answer.End.{End}
 use Rattle.pc_proof.specs.declared.answer.Answer.{Answer}
-use Rattle.pc_bound.specs.declared.program.Program.{Program}
-use Rattle.pc_bound.specs.Allocation.{IsAllocation}
+use Rattle.pc_program_bound.specs.declared.program.Program.{Program}
+use Rattle.pc_program_bound.specs.Allocation.{IsAllocation}
 use Rattle.pc_proof.specs.Setting.{Setting, region_of, leaves, program_for}
 use Rattle.pc_proof.specs.Table.{ratio_of, one, minus_one, EndsCross, HasValue, ShowsAlways, ShowsImpossible}
 use Rattle.pc_proof.specs.Unbroken.{HoldsRelation, HoldsLack, HasForm, IsUnbroken, IsDecided, IsExact, MayStand, plain_relation, plain_lack}
-use Rattle.pc_licence.specs.Licensed.{LicensedRelation, LicensedLack, IfOuter, IsSettledLack}
-use Rattle.pc_licence.specs.Pools.{AreLawful, ShownFrom}
-use Rattle.pc_licence.specs.Searched.{WhySearched, AlwaysSearched, RelationSearched, LackSearched}
-use Rattle.pc_licence.specs.Wanted.{any, Has}
-use Rattle.pc_licence.specs.Shown.{runs_of_mark, runs_of_relation, runs_of_lack, shown_runs, counts_of_runs, IsShown}
+use Rattle.pc_branch_licences.specs.Licensed.{LicensedRelation, LicensedLack, IfOuter, IsSettledLack}
+use Rattle.pc_branch_licences.specs.Pools.{AreLawful, ShownFrom}
+use Rattle.pc_branch_licences.specs.Searched.{WhySearched, AlwaysSearched, RelationSearched, LackSearched}
+use Rattle.pc_branch_licences.specs.Wanted.{any, Has}
+use Rattle.pc_branch_licences.specs.Shown.{runs_of_mark, runs_of_relation, runs_of_lack, shown_runs, counts_of_runs, IsShown}
 use Rattle.pc_agg.specs.declared.aim.Aim.{Aim}
 use Rattle.pc_agg.specs.declared.settling.Settled.{Settled}
-use Rattle.pc_search.specs.declared.extreme.Extreme.TheVariants.{Low, High}
+use Rattle.pc_agg_search.specs.declared.extreme.Extreme.TheVariants.{Low, High}
 use Rattle.pc_agg.specs.Answered.{impossible_by, answer_between, bounded_by, is_open, IsAnswer, IsBetween}
-use Rattle.pc_search.specs.Asked.{Asking, setting_for}
-use Rattle.pc_search.specs.Ends.{program_towards}
-use Rattle.pc_search.specs.Fitting.{AreObserved, IsFitBounded, IsFitWhy, IsFitAlways, IsFitRelation, IsFitLack}
-use Rattle.pc_search.specs.Limits.{IsReached}
+use Rattle.pc_agg_search.specs.Asked.{Asking, setting_for}
+use Rattle.pc_agg_search.specs.Ends.{program_towards}
+use Rattle.pc_agg_search.specs.Fitting.{AreObserved, IsFitBounded, IsFitWhy, IsFitAlways, IsFitRelation, IsFitLack}
+use Rattle.pc_agg_search.specs.Limits.{IsReached}
 use Rattle.pc_agg.specs.Marks.{IsAim, IsAmong}
 use Rattle.pc_agg.specs.Owed.{Owes, OwesSettled, answer_of, HasEnds, CanGive, IsGiving, MayGiveOne, LeavesLack}
-use Rattle.pc_search.specs.Settings.{unseen}
+use Rattle.pc_agg_search.specs.Settings.{unseen}
 use Rattle.pc_agg.specs.Settling.{IsListed, IsUnlisted, IsOfCells, IsRelation, IsSettled}
-use Rattle.pc_search.proofs.FormedAnswers.{formed_relation, formed_lack, formed_answer}
+use Rattle.pc_agg_search.proofs.FormedAnswers.{formed_relation, formed_lack, formed_answer}
 use Rattle.pc_agg.proofs.Attained.{lawful_runs, counted_runs}
 use Rattle.pc_agg.proofs.Ending.{IsEndDone, IsDone, end_done, end_exact}
 use Rattle.pc_agg.proofs.Questions.{tree_for}

@@ -4,18 +4,18 @@ use Rattle.std.specs.Prelude.{is_some, Bool}
 use Rattle.std.proofs.lemmas.List.{append_assoc, length-append}
 use Rattle.std.proofs.lemmas.List.Elements.{All-append}
 use Rattle.pc_proof.specs.Setting.{Setting}
-use Rattle.pc_licence.specs.Pools.{AreLawful}
-use Rattle.pc_search.specs.declared.extreme.Extreme.{Extreme}
-use Rattle.pc_search.specs.declared.extreme.Extreme.TheVariants.{Low, High}
+use Rattle.pc_branch_licences.specs.Pools.{AreLawful}
+use Rattle.pc_agg_search.specs.declared.extreme.Extreme.{Extreme}
+use Rattle.pc_agg_search.specs.declared.extreme.Extreme.TheVariants.{Low, High}
 use Rattle.pc_agg.specs.declared.ladder.Test.{Test}
 use Rattle.pc_agg.specs.declared.ladder.Test.TheVariants.{Reach, Avoid}
 use Rattle.pc_agg.specs.declared.stand.Stand.{Stand}
-use Rattle.pc_search.specs.declared.want.Want.TheVariants as wants
+use Rattle.pc_agg_search.specs.declared.want.Want.TheVariants as wants
 use Rattle.pc_agg.specs.Extremes.{test_at, key_at, AreStands}
-use Rattle.pc_search.specs.Wants.{want_for, most_chosen}
+use Rattle.pc_agg_search.specs.Wants.{want_for, most_chosen}
 use Rattle.pc_agg.specs.Rungs.{reaches, avoids}
 use Rattle.pc_agg.specs.Stands.{IsWanted, IsStand, IsStoodAt}
-use Rattle.pc_search.specs.Wants.{IsFound, IsDoubt}
+use Rattle.pc_agg_search.specs.Wants.{IsFound, IsDoubt}
 use Rattle.pc_agg.proofs.Lacking.{any_grown, doubt_grown}
 
 -- ---- a stand, as more is found

@@ -14,15 +14,15 @@ use Rattle.pc_model.specs.WellFormed.{IsWellFormed}
 use Rattle.pc_model.specs.Aggregate.{whole, asked, int_sum}
 use Rattle.pc_model.specs.Right.{value_for, always_has_value}
 use Rattle.pc_model.specs.Cells.{IsSettledTree}
-use Rattle.pc_counting.proofs.Sums.{int_sum-same}
+use Rattle.pc_proof.proofs.RowSums.{int_sum-same}
 use Rattle.pc_proof.specs.Setting.{Setting, region_of, seen_count, seen_sum}
 use Rattle.pc_proof.specs.Unbroken.{IsWellPosed}
 use Rattle.pc_proof.proofs.Ends.{sum_asks_numbers}
 use Rattle.pc_proof.proofs.Groups.{keeps_region}
 use Rattle.pc_proof.proofs.Seen.{keeps, value-count, value-sum}
-use Rattle.pc_licence.specs.Totals.{seen_value}
-use Rattle.pc_search.specs.Asked.{Asking, asked_as, setting_for}
-use Rattle.pc_search.specs.Ends.{adds}
+use Rattle.pc_branch_licences.specs.Totals.{seen_value}
+use Rattle.pc_agg_search.specs.Asked.{Asking, asked_as, setting_for}
+use Rattle.pc_agg_search.specs.Ends.{adds}
 use Rattle.pc_agg.specs.Observed.{folded_value}
 
 some_sum : (column : Option ℕ) (named : ℕ) (P : Type 0) → column ≡ Some named → IfSome column (λ _. P) → P

@@ -9,31 +9,31 @@ use Rattle.pc_model.specs.Accepted.{AreConstraints}
 use Rattle.pc_model.specs.Membership.{AreDisjoint}
 use Rattle.pc_model.specs.WellFormed.{IsWellFormed}
 use Rattle.pc_model.specs.Cells.{Class}
-use Rattle.pc_bound.specs.declared.program.Program.{Program}
-use Rattle.pc_bound.specs.Sums.{nat_at, int_at}
-use Rattle.pc_bound.specs.Allocation.{IsProgram}
-use Rattle.pc_bound.specs.CellPrograms.{cap_of, program_with}
-use Rattle.pc_tableau.specs.Numbers.{table}
+use Rattle.pc_program_bound.specs.declared.program.Program.{Program}
+use Rattle.pc_program_bound.specs.Sums.{nat_at, int_at}
+use Rattle.pc_program_bound.specs.Allocation.{IsProgram}
+use Rattle.pc_program_bound.specs.CellPrograms.{cap_of, program_with}
+use Rattle.pc_simplex_tableau.specs.Numbers.{table}
 use Rattle.pc_branch.specs.Ends.{HasSmallGains}
 use Rattle.pc_program.specs.Settled.{HasOneBits}
 use Rattle.pc_cells.specs.declared.cells.Cell.{Cell}
 use Rattle.pc_cells.specs.declared.cells.Cells.{Cells}
 use Rattle.pc_cells.specs.Found.{class_of_cell}
 use Rattle.pc_proof.specs.Setting.{Setting, cells, on_chosen, counting, open_cap}
-use Rattle.pc_search.specs.declared.extreme.Extreme.{Extreme}
+use Rattle.pc_agg_search.specs.declared.extreme.Extreme.{Extreme}
 use Rattle.pc_agg.specs.declared.ladder.Ladder.{Ladder}
 use Rattle.pc_agg.specs.declared.ladder.Test.{Test}
 use Rattle.pc_agg.specs.declared.ladder.Test.TheVariants.{Reach, Avoid}
-use Rattle.pc_search.specs.Asked.{AreCells}
+use Rattle.pc_agg_search.specs.Asked.{AreCells}
 use Rattle.pc_agg.specs.Keyed.{reach_gain, avoid_cap, with_closed, tested_program}
-use Rattle.pc_search.specs.Targets.{chosen_gain}
-use Rattle.pc_search.specs.Keys.{key_of}
+use Rattle.pc_agg_search.specs.Targets.{chosen_gain}
+use Rattle.pc_agg_search.specs.Keys.{key_of}
 use Rattle.pc_agg.specs.Rungs.{reaches, avoids, rung_program, program_at, IsLadder}
-use Rattle.pc_search.specs.Settings.{unseen}
-use Rattle.pc_search.specs.Limits.{greatest_gain}
+use Rattle.pc_agg_search.specs.Settings.{unseen}
+use Rattle.pc_agg_search.specs.Limits.{greatest_gain}
 use Rattle.pc_proof.proofs.Masks.{map_twice}
-use Rattle.pc_search.proofs.ListedPrograms.{no_cell, table_mapped, gains_are, program_is, chosen_is, own_classes}
-use Rattle.pc_search.proofs.UnseenPrograms.{tested_small, for_program, for_small, for_one_bits, without_program, without_small, without_one_bits}
+use Rattle.pc_agg_search.proofs.ListedPrograms.{no_cell, table_mapped, gains_are, program_is, chosen_is, own_classes}
+use Rattle.pc_agg_search.proofs.UnseenPrograms.{tested_small, for_program, for_small, for_one_bits, without_program, without_small, without_one_bits}
 
 gain_same : (chosen : Bool) (rung key : ℤ) → cond (chosen && int_le rung (cond chosen key (pos 0))) (pos 1) (pos 0) ≡ cond (chosen && int_le rung key) (pos 1) (pos 0)
 gain_same true rung key = refl

@@ -14,10 +14,10 @@ use Rattle.pc_model.specs.declared.tree.CutNode.{CutNode}
 use Rattle.pc_model.specs.Aggregate.{asked}
 use Rattle.pc_proof.specs.Setting.{Setting, seen_count, seen_numbers, seen_least, seen_greatest}
 use Rattle.pc_proof.specs.Setting.{seen as seen_rows}
-use Rattle.pc_search.specs.declared.extreme.Extreme.{Extreme}
-use Rattle.pc_search.specs.declared.extreme.Extreme.TheVariants.{Low, High}
-use Rattle.pc_search.specs.Asked.{Asking, setting_for}
-use Rattle.pc_search.specs.Ends.{signed}
+use Rattle.pc_agg_search.specs.declared.extreme.Extreme.{Extreme}
+use Rattle.pc_agg_search.specs.declared.extreme.Extreme.TheVariants.{Low, High}
+use Rattle.pc_agg_search.specs.Asked.{Asking, setting_for}
+use Rattle.pc_agg_search.specs.Ends.{signed}
 use Rattle.pc_agg.specs.Extremes.{seen_number, key_at}
 
 -- ---- numbers of a list

@@ -24,20 +24,20 @@ use Rattle.pc_proof.specs.declared.answer.Lack.TheVariants as lacks
 use Rattle.pc_proof.specs.declared.answer.Relation.{Relation}
 use Rattle.pc_proof.specs.Setting.{Setting}
 use Rattle.pc_proof.specs.Unbroken.{HoldsLack, plain_lack}
-use Rattle.pc_licence.specs.Licensed.{LicensedLack, IsSettledLack}
-use Rattle.pc_licence.specs.Pools.{AreLawful, ShownFrom}
-use Rattle.pc_licence.specs.Searched.{LackSearched}
-use Rattle.pc_licence.specs.Shown.{runs_of_lack, counts_of_runs}
+use Rattle.pc_branch_licences.specs.Licensed.{LicensedLack, IsSettledLack}
+use Rattle.pc_branch_licences.specs.Pools.{AreLawful, ShownFrom}
+use Rattle.pc_branch_licences.specs.Searched.{LackSearched}
+use Rattle.pc_branch_licences.specs.Shown.{runs_of_lack, counts_of_runs}
 use Rattle.pc_agg.specs.declared.grounds.Grounds.{Grounds}
 use Rattle.pc_agg.specs.declared.grounds.Grounded.{Grounded}
 use Rattle.pc_agg.specs.declared.grounds.Grounded.TheVariants as grounded
 use Rattle.pc_agg.specs.declared.settling.Settled.{Settled}
-use Rattle.pc_search.specs.Asked.{Asking, setting_for}
-use Rattle.pc_search.specs.Fitting.{IsFitLack}
+use Rattle.pc_agg_search.specs.Asked.{Asking, setting_for}
+use Rattle.pc_agg_search.specs.Fitting.{IsFitLack}
 use Rattle.pc_agg.specs.Extremes.{relation_from, HasLawful, IsLackFrom, IsSettledOver, IsSettledFrom}
 use Rattle.pc_agg.specs.Grounds.{IsGrounded, IsGroundedSurely, IsUnlistedIfNone}
 use Rattle.pc_agg.specs.Owed.{OwesSettled, CanGive, IsGiving, MayGiveOne, LeavesLack}
-use Rattle.pc_search.specs.Settings.{unseen}
+use Rattle.pc_agg_search.specs.Settings.{unseen}
 use Rattle.pc_agg.specs.Settling.{AreRowsOfCells}
 use Rattle.pc_agg.proofs.Giving.{is_undecided, settled_lack, can_give, may_give, surely_giving, lack_left}
 use Rattle.pc_agg.proofs.Lacking.{relation_is, relation_may, relation_decided, IsObserving, lack_done, lack_settled}

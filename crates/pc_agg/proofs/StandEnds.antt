@@ -16,8 +16,8 @@ use Rattle.pc_model.specs.WellFormed.{IsWellFormed}
 use Rattle.pc_model.specs.Cells.{IsRowOf, IsSettledTree}
 use Rattle.pc_model.specs.Right.{IsAttained}
 use Rattle.pc_model.specs.Runs.{runs_from}
-use Rattle.pc_bound.specs.declared.program.Program.{Program}
-use Rattle.pc_bound.specs.Allocation.{worth}
+use Rattle.pc_program_bound.specs.declared.program.Program.{Program}
+use Rattle.pc_program_bound.specs.Allocation.{worth}
 use Rattle.pc_witness.proofs.Zipped.{AllZip-weaker}
 use Rattle.pc_proof.specs.declared.answer.Mark.{Mark}
 use Rattle.pc_proof.specs.declared.answer.Mark.TheVariants as marks
@@ -29,30 +29,30 @@ use Rattle.pc_proof.specs.Setting.{Setting, cells, program_for}
 use Rattle.pc_proof.specs.Table.{one, HasRatio}
 use Rattle.pc_proof.specs.Form.{IsFormedValue}
 use Rattle.pc_proof.specs.Unbroken.{HoldsMark, MayShow, IsExact}
-use Rattle.pc_licence.specs.Licensed.{IfOuter, IsSpent, BothTotals}
-use Rattle.pc_licence.specs.Pools.{AreLawful, ShownFrom, HoldsNone}
-use Rattle.pc_licence.specs.Shown.{runs_of_mark, counts_of_runs, IsShown}
-use Rattle.pc_licence.specs.Wanted.{Has, LeavesOpen}
-use Rattle.pc_licence.proofs.Found.{shown-found}
-use Rattle.pc_search.specs.declared.extreme.Extreme.{Extreme}
-use Rattle.pc_search.specs.declared.extreme.Extreme.TheVariants.{Low, High}
+use Rattle.pc_branch_licences.specs.Licensed.{IfOuter, IsSpent, BothTotals}
+use Rattle.pc_branch_licences.specs.Pools.{AreLawful, ShownFrom, HoldsNone}
+use Rattle.pc_branch_licences.specs.Shown.{runs_of_mark, counts_of_runs, IsShown}
+use Rattle.pc_branch_licences.specs.Wanted.{Has, LeavesOpen}
+use Rattle.pc_branch_licences.proofs.Found.{shown-found}
+use Rattle.pc_agg_search.specs.declared.extreme.Extreme.{Extreme}
+use Rattle.pc_agg_search.specs.declared.extreme.Extreme.TheVariants.{Low, High}
 use Rattle.pc_agg.specs.declared.ladder.Test.{Test}
 use Rattle.pc_agg.specs.declared.ladder.Test.TheVariants.{Reach, Avoid}
 use Rattle.pc_agg.specs.declared.stand.Stand.{Stand}
-use Rattle.pc_search.specs.declared.want.Want.{Want}
-use Rattle.pc_search.specs.declared.want.Want.TheVariants as wants
-use Rattle.pc_search.specs.Asked.{Asking, setting_for}
-use Rattle.pc_search.specs.Ends.{signed, HoldsEnd}
-use Rattle.pc_search.specs.Fitting.{IsFitProof, IsFitEnd}
+use Rattle.pc_agg_search.specs.declared.want.Want.{Want}
+use Rattle.pc_agg_search.specs.declared.want.Want.TheVariants as wants
+use Rattle.pc_agg_search.specs.Asked.{Asking, setting_for}
+use Rattle.pc_agg_search.specs.Ends.{signed, HoldsEnd}
+use Rattle.pc_agg_search.specs.Fitting.{IsFitProof, IsFitEnd}
 use Rattle.pc_agg.specs.Extremes.{agg_of, seen_number, test_at, key_at}
-use Rattle.pc_search.specs.Wants.{want_for}
+use Rattle.pc_agg_search.specs.Wants.{want_for}
 use Rattle.pc_agg.specs.Grounds.{IsUnlistedIfNone}
 use Rattle.pc_agg.specs.Rungs.{reaches, avoids, rung_program}
-use Rattle.pc_search.specs.Settings.{unseen}
+use Rattle.pc_agg_search.specs.Settings.{unseen}
 use Rattle.pc_agg.specs.Settling.{AreRowsOfCells}
-use Rattle.pc_search.specs.Keys.{IsAtEnd}
+use Rattle.pc_agg_search.specs.Keys.{IsAtEnd}
 use Rattle.pc_agg.specs.Stands.{IsProved, IsBeside, IsBeyond, IsObservedKey, IsNear, IsWanted, IsStand, IsMarkedBy, IsEndAt}
-use Rattle.pc_search.specs.Wants.{wanted_of, Reaches, IsFound, IsDoubt}
+use Rattle.pc_agg_search.specs.Wants.{wanted_of, Reaches, IsFound, IsDoubt}
 use Rattle.pc_agg.proofs.Attained.{counted_runs}
 use Rattle.pc_agg.proofs.Ending.{ShowsEnd, LicensedEnd, SearchedEnd, IsDone}
 use Rattle.pc_agg.proofs.Owing.{both_totals}

@@ -9,21 +9,21 @@ use Rattle.pc_model.specs.declared.query.Folded.{Folded}
 use Rattle.pc_model.specs.declared.tree.CutNode.{CutNode}
 use Rattle.pc_model.specs.Aggregate.{whole, IsSame}
 use Rattle.pc_model.specs.Cells.{Class}
-use Rattle.pc_bound.specs.declared.program.Program.{Program}
+use Rattle.pc_program_bound.specs.declared.program.Program.{Program}
 use Rattle.pc_proof.specs.declared.answer.Proof.{Proof}
 use Rattle.pc_proof.specs.declared.answer.Answer.{Answer}
 use Rattle.pc_proof.specs.Setting.{Setting, cells, low_in, high_in, seen_least, seen_greatest}
-use Rattle.pc_licence.specs.Licensed.{IsLowOf, IsHighOf, IsSpent, MayHave, MayAvoid, BothTotals}
-use Rattle.pc_search.specs.declared.extreme.Extreme.{Extreme}
-use Rattle.pc_search.specs.declared.extreme.Extreme.TheVariants.{Low, High}
+use Rattle.pc_branch_licences.specs.Licensed.{IsLowOf, IsHighOf, IsSpent, MayHave, MayAvoid, BothTotals}
+use Rattle.pc_agg_search.specs.declared.extreme.Extreme.{Extreme}
+use Rattle.pc_agg_search.specs.declared.extreme.Extreme.TheVariants.{Low, High}
 use Rattle.pc_agg.specs.declared.ladder.Test.TheVariants.{Avoid}
-use Rattle.pc_search.specs.Asked.{Asking, setting_for}
-use Rattle.pc_search.specs.Ends.{signed}
+use Rattle.pc_agg_search.specs.Asked.{Asking, setting_for}
+use Rattle.pc_agg_search.specs.Ends.{signed}
 use Rattle.pc_agg.specs.Extremes.{agg_of, seen_number, test_at, key_at}
-use Rattle.pc_search.specs.Wants.{want_for}
-use Rattle.pc_search.specs.Keys.{key_of}
+use Rattle.pc_agg_search.specs.Wants.{want_for}
+use Rattle.pc_agg_search.specs.Keys.{key_of}
 use Rattle.pc_agg.specs.Rungs.{IsKey}
-use Rattle.pc_search.specs.Wants.{wanted_of, Reaches}
+use Rattle.pc_agg_search.specs.Wants.{wanted_of, Reaches}
 use Rattle.pc_agg.proofs.Ending.{LicensedEnd}
 use Rattle.pc_agg.proofs.SeenNumbers.{number_of_key, least_is, greatest_is, observed_some, observed_none}
 use Rattle.pc_agg.proofs.StandMarks.{reach_avoid, within_key, over_key, under_key, past_key}

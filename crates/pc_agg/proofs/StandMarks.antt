@@ -16,27 +16,27 @@ use Rattle.pc_model.specs.WellFormed.{IsWellFormed}
 use Rattle.pc_model.specs.Cells.{Class, IsRowOf, IsSettledTree}
 use Rattle.pc_model.specs.Right.{IsAttained}
 use Rattle.pc_model.specs.Runs.{runs_from}
-use Rattle.pc_bound.specs.Allocation.{worth}
+use Rattle.pc_program_bound.specs.Allocation.{worth}
 use Rattle.pc_witness.proofs.Zipped.{AllZip-weaker}
 use Rattle.pc_proof.specs.declared.answer.Proof.{Proof}
 use Rattle.pc_proof.specs.Setting.{Setting, region_of, cells, seen_count, seen_least, seen_greatest}
 use Rattle.pc_proof.specs.Table.{HasRatio}
-use Rattle.pc_licence.specs.Picked.{AreOfCells, AreLowest, AreHighest, IsLowest, IsHighest, IsOfCell}
-use Rattle.pc_licence.specs.Pools.{AreLawful}
-use Rattle.pc_licence.specs.Shown.{counts_of_runs}
-use Rattle.pc_licence.proofs.Attaining.{far-min_low, far-max_high, near-min_high, near-max_low, observed-min_low, observed-max_high}
-use Rattle.pc_licence.proofs.Reached.{attained-min_low, attained-max_high, attained-min_high, attained-max_low}
-use Rattle.pc_search.specs.declared.extreme.Extreme.{Extreme}
-use Rattle.pc_search.specs.declared.extreme.Extreme.TheVariants.{Low, High}
+use Rattle.pc_branch_licences.specs.Picked.{AreOfCells, AreLowest, AreHighest, IsLowest, IsHighest, IsOfCell}
+use Rattle.pc_branch_licences.specs.Pools.{AreLawful}
+use Rattle.pc_branch_licences.specs.Shown.{counts_of_runs}
+use Rattle.pc_branch_licences.proofs.Attaining.{far-min_low, far-max_high, near-min_high, near-max_low, observed-min_low, observed-max_high}
+use Rattle.pc_branch_licences.proofs.Reached.{attained-min_low, attained-max_high, attained-min_high, attained-max_low}
+use Rattle.pc_agg_search.specs.declared.extreme.Extreme.{Extreme}
+use Rattle.pc_agg_search.specs.declared.extreme.Extreme.TheVariants.{Low, High}
 use Rattle.pc_agg.specs.declared.ladder.Test.{Test}
 use Rattle.pc_agg.specs.declared.ladder.Test.TheVariants.{Reach, Avoid}
-use Rattle.pc_search.specs.Asked.{Asking, setting_for}
-use Rattle.pc_search.specs.Ends.{signed}
+use Rattle.pc_agg_search.specs.Asked.{Asking, setting_for}
+use Rattle.pc_agg_search.specs.Ends.{signed}
 use Rattle.pc_agg.specs.Extremes.{agg_of, seen_number, test_at, key_at}
-use Rattle.pc_search.specs.Wants.{want_for}
-use Rattle.pc_search.specs.Settings.{unseen}
-use Rattle.pc_search.specs.Keys.{IsAtEnd}
-use Rattle.pc_search.specs.Wants.{Reaches, IsFound}
+use Rattle.pc_agg_search.specs.Wants.{want_for}
+use Rattle.pc_agg_search.specs.Settings.{unseen}
+use Rattle.pc_agg_search.specs.Keys.{IsAtEnd}
+use Rattle.pc_agg_search.specs.Wants.{Reaches, IsFound}
 use Rattle.pc_agg.proofs.Ending.{ShowsEnd}
 use Rattle.pc_agg.proofs.Questions.{posed, tree_for}
 use Rattle.pc_agg.proofs.SeenNumbers.{number_of_key, least_is, greatest_is, observed_some, observed_none}

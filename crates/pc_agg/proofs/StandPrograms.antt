@@ -1,12 +1,12 @@
 -- The programs of a stand are those that the statement of its end and its licence name.
 use Rattle.std.proofs.Common.{◌≡◌, ℤ, sym}
 use Rattle.pc_model.specs.Aggregate.{whole}
-use Rattle.pc_bound.specs.declared.program.Program.{Program}
+use Rattle.pc_program_bound.specs.declared.program.Program.{Program}
 use Rattle.pc_proof.specs.Setting.{Setting, counting, program_for, program_without}
-use Rattle.pc_licence.specs.Licensed.{upto_low, from_high, under_high, over_low}
-use Rattle.pc_search.specs.declared.extreme.Extreme.{Extreme}
-use Rattle.pc_search.specs.declared.extreme.Extreme.TheVariants.{Low, High}
-use Rattle.pc_search.specs.Ends.{signed}
+use Rattle.pc_branch_licences.specs.Licensed.{upto_low, from_high, under_high, over_low}
+use Rattle.pc_agg_search.specs.declared.extreme.Extreme.{Extreme}
+use Rattle.pc_agg_search.specs.declared.extreme.Extreme.TheVariants.{Low, High}
+use Rattle.pc_agg_search.specs.Ends.{signed}
 use Rattle.pc_agg.specs.Extremes.{agg_of, test_at}
 use Rattle.pc_agg.specs.Rungs.{rung_program}
 use Rattle.pc_agg.specs.Stands.{shown_by}

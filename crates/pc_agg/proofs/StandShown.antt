@@ -9,24 +9,24 @@ use Rattle.pc_model.specs.declared.query.Folded.{Folded}
 use Rattle.pc_model.specs.declared.tree.CutNode.{CutNode}
 use Rattle.pc_model.specs.declared.tree.Tree.{Tree}
 use Rattle.pc_model.specs.Aggregate.{whole, IsAtMost}
-use Rattle.pc_bound.specs.declared.program.Program.{Program}
+use Rattle.pc_program_bound.specs.declared.program.Program.{Program}
 use Rattle.pc_proof.specs.declared.answer.Proof.{Proof}
 use Rattle.pc_proof.specs.declared.answer.Proof.TheVariants as proofs
 use Rattle.pc_proof.specs.Setting.{Setting, seen_count, seen_least, seen_greatest}
 use Rattle.pc_proof.specs.Table.{HasRatio, ShowsForced}
-use Rattle.pc_search.specs.declared.extreme.Extreme.{Extreme}
-use Rattle.pc_search.specs.declared.extreme.Extreme.TheVariants.{Low, High}
+use Rattle.pc_agg_search.specs.declared.extreme.Extreme.{Extreme}
+use Rattle.pc_agg_search.specs.declared.extreme.Extreme.TheVariants.{Low, High}
 use Rattle.pc_agg.specs.declared.ladder.Test.{Test}
 use Rattle.pc_agg.specs.declared.ladder.Test.TheVariants.{Reach, Avoid}
-use Rattle.pc_search.specs.Asked.{Asking, setting_for}
-use Rattle.pc_search.specs.Ends.{signed}
+use Rattle.pc_agg_search.specs.Asked.{Asking, setting_for}
+use Rattle.pc_agg_search.specs.Ends.{signed}
 use Rattle.pc_agg.specs.Extremes.{agg_of, seen_number, test_at, key_at}
-use Rattle.pc_search.specs.Wants.{want_for}
+use Rattle.pc_agg_search.specs.Wants.{want_for}
 use Rattle.pc_agg.specs.Stands.{shown_by, want_at, IsProved, IsBeside}
-use Rattle.pc_search.specs.Wants.{FallsShort}
+use Rattle.pc_agg_search.specs.Wants.{FallsShort}
 use Rattle.pc_agg.proofs.Ending.{program_at, ShowsEnd, SearchedEnd}
 use Rattle.pc_agg.proofs.SeenNumbers.{number_of_key, key_some, least_is, greatest_is, observed_none}
-use Rattle.pc_search.proofs.Shorts.{shows_no_gain, shows_forced_any, shows_forced_gaining}
+use Rattle.pc_agg_search.proofs.Shorts.{shows_no_gain, shows_forced_any, shows_forced_gaining}
 use Rattle.pc_agg.proofs.StandPrograms.{shown_is}
 
 -- ---- a key beside what was observed

@@ -16,27 +16,27 @@ use Rattle.pc_model.specs.declared.query.Query.{Query}
 use Rattle.pc_model.specs.declared.tree.CutNode.{CutNode}
 use Rattle.pc_model.specs.WellFormed.{IsWellFormed}
 use Rattle.pc_model.specs.Cells.{IsSettledTree}
-use Rattle.pc_bound.specs.declared.program.Program.{Program}
-use Rattle.pc_bound.specs.Sums.{int_at}
+use Rattle.pc_program_bound.specs.declared.program.Program.{Program}
+use Rattle.pc_program_bound.specs.Sums.{int_at}
 use Rattle.pc_proof.specs.Setting.{Setting, cells, on_chosen, program_for}
 use Rattle.pc_proof.specs.Table.{one}
-use Rattle.pc_licence.specs.Pools.{AreLawful}
+use Rattle.pc_branch_licences.specs.Pools.{AreLawful}
 use Rattle.pc_agg.specs.declared.climb.Standing.{Standing}
-use Rattle.pc_search.specs.declared.extreme.Extreme.{Extreme}
+use Rattle.pc_agg_search.specs.declared.extreme.Extreme.{Extreme}
 use Rattle.pc_agg.specs.declared.ladder.Ladder.{Ladder}
 use Rattle.pc_agg.specs.declared.ladder.Test.{Test}
 use Rattle.pc_agg.specs.declared.ladder.Test.TheVariants.{Reach, Avoid}
 use Rattle.pc_agg.specs.declared.stand.Stand.{Stand}
-use Rattle.pc_search.specs.declared.want.Want.{Want}
-use Rattle.pc_search.specs.declared.want.Want.TheVariants as wants
-use Rattle.pc_search.specs.Wants.{want_for, most_chosen}
-use Rattle.pc_search.specs.Keys.{key_of}
+use Rattle.pc_agg_search.specs.declared.want.Want.{Want}
+use Rattle.pc_agg_search.specs.declared.want.Want.TheVariants as wants
+use Rattle.pc_agg_search.specs.Wants.{want_for, most_chosen}
+use Rattle.pc_agg_search.specs.Keys.{key_of}
 use Rattle.pc_agg.specs.Rungs.{reaches, avoids, rung_program, program_at, AllUpTo, AllFrom, IsKey, IsRung, IsReachRung, IsAvoidRung, IsTop, IsBottom, AreRungs, IsLadder, IsStep, IsStanding}
 use Rattle.pc_agg.specs.Stands.{passing, falling_short, shown_by, want_at, proof_of, is_observed, AttainsBy, IsProved, IsBeside, IsBeyond, IsObservedKey, IsNear, IsWanted, IsStand, IsStoodAt, IsStoodOn}
-use Rattle.pc_search.specs.Keys.{IsAtEnd}
-use Rattle.pc_search.specs.Flat.{flat_tree}
-use Rattle.pc_search.specs.Settings.{unseen}
-use Rattle.pc_search.specs.Wants.{FallsShort, IsDoubt, IsFound}
+use Rattle.pc_agg_search.specs.Keys.{IsAtEnd}
+use Rattle.pc_agg_search.specs.Flat.{flat_tree}
+use Rattle.pc_agg_search.specs.Settings.{unseen}
+use Rattle.pc_agg_search.specs.Wants.{FallsShort, IsDoubt, IsFound}
 use Rattle.pc_agg.proofs.Flat.{flat_reach, flat_avoid}
 use Rattle.pc_agg.proofs.Lacking.{any_grown, doubt_grown}
 use Rattle.pc_agg.proofs.StandMarks.{reach_avoid}

@@ -9,25 +9,25 @@ use Rattle.pc_model.specs.declared.row.Row.{Row}
 use Rattle.pc_model.specs.declared.tree.Tree.{Tree}
 use Rattle.pc_model.specs.Cells.{Class, IsRowOf}
 use Rattle.pc_model.specs.Runs.{runs_from}
-use Rattle.pc_bound.specs.declared.program.Program.{Program}
-use Rattle.pc_bound.specs.Allocation.{IsProgram, IsAllocation}
-use Rattle.pc_bound.specs.CellPrograms.{program_with}
+use Rattle.pc_program_bound.specs.declared.program.Program.{Program}
+use Rattle.pc_program_bound.specs.Allocation.{IsProgram, IsAllocation}
+use Rattle.pc_program_bound.specs.CellPrograms.{program_with}
 use Rattle.pc_proof.specs.declared.answer.Relation.TheVariants as relations
 use Rattle.pc_proof.specs.declared.answer.Lack.TheVariants as lacks
 use Rattle.pc_proof.specs.declared.answer.Why.TheVariants as whys
 use Rattle.pc_proof.specs.Setting.{Setting, cells, program_for}
 use Rattle.pc_proof.specs.Table.{one, minus_one, bound_for, IsSound, Cross}
-use Rattle.pc_licence.specs.Pools.{AreLawful}
-use Rattle.pc_licence.specs.Wanted.{any, LeavesOpen}
-use Rattle.pc_licence.proofs.Trees.{licence-open}
-use Rattle.pc_search.specs.declared.limit.Limit.{Limit}
+use Rattle.pc_branch_licences.specs.Pools.{AreLawful}
+use Rattle.pc_branch_licences.specs.Wanted.{any, LeavesOpen}
+use Rattle.pc_branch_licences.proofs.Trees.{licence-open}
+use Rattle.pc_agg_search.specs.declared.limit.Limit.{Limit}
 use Rattle.pc_agg.specs.declared.settling.Settled.{Settled}
 use Rattle.pc_agg.specs.declared.settling.Total.{Total}
 use Rattle.pc_agg.specs.declared.settling.Total.TheVariants as totals
-use Rattle.pc_search.specs.Limits.{IsLimit, IsReached, IsCutShort, IsEmpty}
+use Rattle.pc_agg_search.specs.Limits.{IsLimit, IsReached, IsCutShort, IsEmpty}
 use Rattle.pc_agg.specs.Settling.{AreRowsOfCells, AreOpenTotals, IsLimitOfGain, IsSettled, IsLeftOpen, IsTotal, IsTotalOf, left_open}
-use Rattle.pc_search.proofs.Empty.{void_tree}
-use Rattle.pc_search.proofs.Shorts.{fit_limit}
+use Rattle.pc_agg_search.proofs.Empty.{void_tree}
+use Rattle.pc_agg_search.proofs.Shorts.{fit_limit}
 use Rattle.pc_agg.proofs.Ending.{within_limit}
 
 -- what holds of a good result by two clauses, one of which has a premise

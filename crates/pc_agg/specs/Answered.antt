@@ -2,7 +2,7 @@
 use Rattle.std.specs.Prelude.{◌≡◌, ◌≤◌, ◌^◌, ◌+ℤ◌, ℕ, int_lt, nat_abs, Bool, true, false, ◌&&◌, cond, length, List, All, Some, None}
 use Rattle.pc_model.specs.declared.query.Agg.{Agg}
 use Rattle.pc_model.specs.declared.query.Folded.{Folded}
-use Rattle.pc_bound.specs.Allocation.{IsProgram, IsAllocation, cells_of}
+use Rattle.pc_program_bound.specs.Allocation.{IsProgram, IsAllocation, cells_of}
 use Rattle.pc_branch.specs.Ends.{HasSmallGains}
 use Rattle.pc_proof.specs.declared.answer.Bounded.{Bounded}
 use Rattle.pc_proof.specs.declared.answer.Why.{Why}
@@ -13,9 +13,9 @@ use Rattle.pc_proof.specs.declared.answer.Lack.TheVariants.{Silent}
 use Rattle.pc_proof.specs.declared.answer.End.{End}
 use Rattle.pc_proof.specs.declared.answer.Answer.{Answer}
 use Rattle.pc_agg.specs.declared.aim.Aim.{Aim}
-use Rattle.pc_search.specs.declared.extreme.Extreme.{Extreme}
-use Rattle.pc_search.specs.declared.extreme.Extreme.TheVariants.{Low, High}
-use Rattle.pc_search.specs.Ends.{signed}
+use Rattle.pc_agg_search.specs.declared.extreme.Extreme.{Extreme}
+use Rattle.pc_agg_search.specs.declared.extreme.Extreme.TheVariants.{Low, High}
+use Rattle.pc_agg_search.specs.Ends.{signed}
 use Rattle.pc_agg.specs.Marks.{IsEndOf}
 use Rattle.pc_agg.specs.Observed.{folded_value}
 

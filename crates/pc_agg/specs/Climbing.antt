@@ -2,19 +2,19 @@
 use Rattle.std.specs.Prelude.{◌≡◌, ⊤, ℕ, suc, ◌+◌, ◌-◌, ◌<◌, ◌≤◌, List, length, ◌++◌, All, Any, Option, Some}
 use Rattle.pc_model.specs.declared.tree.Tree.{Tree}
 use Rattle.pc_proof.specs.Setting.{Setting}
-use Rattle.pc_licence.specs.Pools.{AreLawful}
+use Rattle.pc_branch_licences.specs.Pools.{AreLawful}
 use Rattle.pc_agg.specs.declared.ladder.Test.{Test}
 use Rattle.pc_agg.specs.declared.ladder.Test.TheVariants.{Reach, Avoid}
 use Rattle.pc_agg.specs.declared.ladder.Ladder.{Ladder}
 use Rattle.pc_agg.specs.declared.climb.Span.{Span}
 use Rattle.pc_agg.specs.declared.climb.Halved.{Halved}
 use Rattle.pc_agg.specs.declared.climb.Halved.TheVariants as halves
-use Rattle.pc_search.specs.declared.probes.Verdict.{Verdict}
-use Rattle.pc_search.specs.declared.probes.Verdict.TheVariants as verdicts
-use Rattle.pc_search.specs.declared.want.Want.{Want}
-use Rattle.pc_search.specs.Fitting.{IsVoidTree}
+use Rattle.pc_agg_search.specs.declared.probes.ProbeVerdict.{ProbeVerdict}
+use Rattle.pc_agg_search.specs.declared.probes.ProbeVerdict.TheVariants as verdicts
+use Rattle.pc_agg_search.specs.declared.want.Want.{Want}
+use Rattle.pc_agg_search.specs.Fitting.{IsVoidTree}
 use Rattle.pc_agg.specs.Rungs.{program_at, IsStep}
-use Rattle.pc_search.specs.Wants.{IsDoubt, IsFound}
+use Rattle.pc_agg_search.specs.Wants.{IsDoubt, IsFound}
 
 -- the rungs before the first are shown not to be ends, and the last, unless it is that of the ladder, is in doubt
 pub record IsSpan (s : Setting) (budget : ℕ) (ladder : Ladder) (want : Want) (found : List (List ℕ)) (span : Span) : Type 0 where
@@ -48,7 +48,7 @@ abbrev pub if_empty : Test → Span → Tree → Halved
 if_empty Reach past shown = halves.Empty shown
 if_empty Avoid past shown = halves.Within past
 
-abbrev pub narrowed : Test → ℕ → ℕ → ℕ → Option Tree → List (List ℕ) → Verdict → Halved
+abbrev pub narrowed : Test → ℕ → ℕ → ℕ → Option Tree → List (List ℕ) → ProbeVerdict → Halved
 narrowed test from to middle tree found (verdicts.Empty shown) = if_empty test (above middle to shown found) shown
 narrowed test from to middle tree found (verdicts.Short shown) = halves.Within (above middle to shown found)
 narrowed test from to middle tree found verdicts.Open = halves.Within (record { from = from; to = middle; tree = tree; found = found })

@@ -5,7 +5,7 @@ use Rattle.pc_model.specs.declared.query.Agg.{Agg}
 use Rattle.pc_model.specs.declared.query.Agg.TheVariants.{Min, Max}
 use Rattle.pc_model.specs.declared.query.Folded.{Folded}
 use Rattle.pc_model.specs.Runs.{runs_from}
-use Rattle.pc_bound.specs.Allocation.{IsProgram, cells_of}
+use Rattle.pc_program_bound.specs.Allocation.{IsProgram, cells_of}
 use Rattle.pc_branch.specs.Ends.{HasSmallGains}
 use Rattle.pc_proof.specs.declared.answer.AlwaysBy.{AlwaysBy}
 use Rattle.pc_proof.specs.declared.answer.AlwaysBy.TheVariants as alwayses
@@ -17,9 +17,9 @@ use Rattle.pc_proof.specs.declared.answer.Lack.TheVariants as lacks
 use Rattle.pc_proof.specs.declared.answer.End.{End}
 use Rattle.pc_proof.specs.declared.answer.Answer.{Answer}
 use Rattle.pc_proof.specs.Setting.{Setting}
-use Rattle.pc_licence.specs.Pools.{AreLawful}
-use Rattle.pc_search.specs.declared.extreme.Extreme.{Extreme}
-use Rattle.pc_search.specs.declared.extreme.Extreme.TheVariants.{Low, High}
+use Rattle.pc_branch_licences.specs.Pools.{AreLawful}
+use Rattle.pc_agg_search.specs.declared.extreme.Extreme.{Extreme}
+use Rattle.pc_agg_search.specs.declared.extreme.Extreme.TheVariants.{Low, High}
 use Rattle.pc_agg.specs.declared.extremes.Pair.{Pair}
 use Rattle.pc_agg.specs.declared.extremes.Pair.TheVariants as pairs
 use Rattle.pc_agg.specs.declared.grounds.Grounded.{Grounded}
@@ -30,14 +30,14 @@ use Rattle.pc_agg.specs.declared.ladder.Test.{Test}
 use Rattle.pc_agg.specs.declared.ladder.Test.TheVariants.{Reach, Avoid}
 use Rattle.pc_agg.specs.declared.settling.Settled.{Settled}
 use Rattle.pc_agg.specs.declared.stand.Stand.{Stand}
-use Rattle.pc_search.specs.declared.want.Want.TheVariants as wants
+use Rattle.pc_agg_search.specs.declared.want.Want.TheVariants as wants
 use Rattle.pc_agg.specs.Answered.{impossible_by, bounded_by}
-use Rattle.pc_search.specs.Ends.{signed}
-use Rattle.pc_search.specs.Fitting.{IsVoidTree}
-use Rattle.pc_search.specs.Wants.{fewest_chosen, most_chosen}
+use Rattle.pc_agg_search.specs.Ends.{signed}
+use Rattle.pc_agg_search.specs.Fitting.{IsVoidTree}
+use Rattle.pc_agg_search.specs.Wants.{fewest_chosen, most_chosen}
 use Rattle.pc_agg.specs.Settling.{AreRowsOfCells}
 use Rattle.pc_agg.specs.Stands.{IsStand, IsEndAt}
-use Rattle.pc_search.specs.Wants.{IsFound, IsMet}
+use Rattle.pc_agg_search.specs.Wants.{IsFound, IsMet}
 
 -- the far end of a least number is the low one, of a greatest the high one
 abbrev pub agg_of : Extreme → Agg

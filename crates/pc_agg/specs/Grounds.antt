@@ -5,16 +5,16 @@ use Rattle.pc_model.specs.Cells.{Class}
 use Rattle.pc_proof.specs.declared.answer.NeverBy.TheVariants as nevers
 use Rattle.pc_proof.specs.Setting.{Setting, cells}
 use Rattle.pc_proof.specs.Table.{Shows, ShowsImpossible}
-use Rattle.pc_licence.specs.Pools.{AreLawful}
+use Rattle.pc_branch_licences.specs.Pools.{AreLawful}
 use Rattle.pc_agg.specs.declared.grounds.Lacking.{Lacking}
 use Rattle.pc_agg.specs.declared.grounds.Lacking.TheVariants as lackings
 use Rattle.pc_agg.specs.declared.grounds.Grounds.{Grounds}
 use Rattle.pc_agg.specs.declared.grounds.Grounded.{Grounded}
 use Rattle.pc_agg.specs.declared.grounds.Grounded.TheVariants as grounds
-use Rattle.pc_search.specs.declared.want.Want.TheVariants as wants
+use Rattle.pc_agg_search.specs.declared.want.Want.TheVariants as wants
 use Rattle.pc_agg.specs.Settling.{IsUnlisted, IsOfCells}
-use Rattle.pc_search.specs.Fitting.{IsFitTree}
-use Rattle.pc_search.specs.Wants.{want_for, most_chosen, fewest_chosen, IsDoubt, IsFound}
+use Rattle.pc_agg_search.specs.Fitting.{IsFitTree}
+use Rattle.pc_agg_search.specs.Wants.{want_for, most_chosen, fewest_chosen, IsDoubt, IsFound}
 
 -- where nothing was found, both totals were cut short and do not cross
 abbrev pub IsUnlistedIfNone : Setting → ℕ → List (List ℕ) → Type 0

@@ -3,7 +3,7 @@ use Rattle.std.specs.Prelude.{◌≡◌, ℕ, ◌<◌, ◌⊎◌, ℤ, pos, int_
 use Rattle.pc_cells.specs.declared.cells.Cell.{Cell}
 use Rattle.pc_agg.specs.declared.ladder.Test.{Test}
 use Rattle.pc_agg.specs.declared.ladder.Test.TheVariants.{Reach, Avoid}
-use Rattle.pc_search.specs.Targets.{cell_at}
+use Rattle.pc_agg_search.specs.Targets.{cell_at}
 
 abbrev pub is_beyond : Test → ℤ → ℤ → Bool
 is_beyond Reach observed key = int_lt observed key

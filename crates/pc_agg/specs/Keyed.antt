@@ -1,15 +1,15 @@
 -- What cells gain, and how many rows they can have, by their keys.
 use Rattle.std.specs.Prelude.{ℕ, ℤ, pos, int_le, int_lt, ◌&&◌, cond, List, length, map}
 use Rattle.pc_model.specs.declared.constraint.Constraint.{Constraint}
-use Rattle.pc_bound.specs.declared.program.Program.{Program}
-use Rattle.pc_bound.specs.Sums.{nat_at, int_at}
-use Rattle.pc_bound.specs.CellPrograms.{program_with}
-use Rattle.pc_tableau.specs.Numbers.{table}
+use Rattle.pc_program_bound.specs.declared.program.Program.{Program}
+use Rattle.pc_program_bound.specs.Sums.{nat_at, int_at}
+use Rattle.pc_program_bound.specs.CellPrograms.{program_with}
+use Rattle.pc_simplex_tableau.specs.Numbers.{table}
 use Rattle.pc_cells.specs.declared.cells.Cell.{Cell}
 use Rattle.pc_cells.specs.Found.{class_of_cell}
 use Rattle.pc_agg.specs.declared.ladder.Test.{Test}
 use Rattle.pc_agg.specs.declared.ladder.Test.TheVariants.{Reach, Avoid}
-use Rattle.pc_search.specs.Targets.{cell_at, chosen_gain}
+use Rattle.pc_agg_search.specs.Targets.{cell_at, chosen_gain}
 
 -- one for a chosen cell whose key reaches the rung
 abbrev pub reach_gain : List Cell → List ℤ → ℤ → ℕ → ℤ

@@ -4,21 +4,21 @@ use Rattle.std.specs.List.{AllZip}
 use Rattle.pc_model.specs.declared.row.Row.{Row}
 use Rattle.pc_model.specs.declared.query.Agg.{Agg}
 use Rattle.pc_model.specs.Runs.{runs_from}
-use Rattle.pc_bound.specs.declared.program.Program.{Program}
-use Rattle.pc_bound.specs.Allocation.{worth}
+use Rattle.pc_program_bound.specs.declared.program.Program.{Program}
+use Rattle.pc_program_bound.specs.Allocation.{worth}
 use Rattle.pc_proof.specs.declared.answer.Mark.{Mark}
 use Rattle.pc_proof.specs.declared.answer.Mark.TheVariants as marks
 use Rattle.pc_proof.specs.declared.answer.Proof.TheVariants as proofs
 use Rattle.pc_proof.specs.declared.answer.End.{End}
 use Rattle.pc_proof.specs.Setting.{Setting, cells}
-use Rattle.pc_search.specs.declared.limit.Limit.{Limit}
+use Rattle.pc_agg_search.specs.declared.limit.Limit.{Limit}
 use Rattle.pc_agg.specs.declared.aim.Aim.{Aim}
 use Rattle.pc_agg.specs.declared.aim.Aimed.{Aimed}
 use Rattle.pc_agg.specs.declared.aim.Aimed.TheVariants.{At, Nothing}
-use Rattle.pc_search.specs.declared.extreme.Extreme.{Extreme}
-use Rattle.pc_search.specs.Ends.{IsPick, program_towards}
-use Rattle.pc_search.specs.Fitting.{IsVoidTree}
-use Rattle.pc_search.specs.Limits.{IsLimit, IsReached}
+use Rattle.pc_agg_search.specs.declared.extreme.Extreme.{Extreme}
+use Rattle.pc_agg_search.specs.Ends.{IsPick, program_towards}
+use Rattle.pc_agg_search.specs.Fitting.{IsVoidTree}
+use Rattle.pc_agg_search.specs.Limits.{IsLimit, IsReached}
 
 -- the runs are those of counts that were found and are worth the most; or none of those that were found is
 abbrev pub IsMarked : Program → ℤ → List Row → List (List ℕ) → Mark → Type 0

@@ -6,19 +6,19 @@ use Rattle.pc_model.specs.Right as plain
 use Rattle.pc_model.specs.Cells.{Class}
 use Rattle.pc_proof.specs.declared.answer.Relation.{Relation}
 use Rattle.pc_proof.specs.declared.answer.Relation.TheVariants as relations
-use Rattle.pc_bound.specs.Allocation.{worth}
+use Rattle.pc_program_bound.specs.Allocation.{worth}
 use Rattle.pc_proof.specs.declared.answer.Lack.{Lack}
 use Rattle.pc_proof.specs.declared.answer.Lack.TheVariants as lacks
 use Rattle.pc_proof.specs.declared.answer.Answer.{Answer}
 use Rattle.pc_proof.specs.Setting.{Setting, cells, seen_count}
 use Rattle.pc_proof.specs.Unbroken.{HoldsRelation, HoldsLack, HasForm, IsUnbroken, IsSharp, IsDecided, plain_relation, plain_lack}
 use Rattle.pc_proof.specs.Form.{IsFormedRelation, IsFormedLack, IsFormedAnswer}
-use Rattle.pc_licence.specs.Licensed.{IsLicensed, IsSettledLack}
-use Rattle.pc_licence.specs.Pools.{AreLawful, ShownFrom}
-use Rattle.pc_licence.specs.Searched.{AreSearched}
-use Rattle.pc_licence.specs.Wanted.{some, without, LeavesOpen}
-use Rattle.pc_search.specs.Fitting.{AreObserved, IsFitRelation, IsFitLack}
-use Rattle.pc_search.specs.Wants.{most_chosen, fewest_chosen}
+use Rattle.pc_branch_licences.specs.Licensed.{IsLicensed, IsSettledLack}
+use Rattle.pc_branch_licences.specs.Pools.{AreLawful, ShownFrom}
+use Rattle.pc_branch_licences.specs.Searched.{AreSearched}
+use Rattle.pc_branch_licences.specs.Wanted.{some, without, LeavesOpen}
+use Rattle.pc_agg_search.specs.Fitting.{AreObserved, IsFitRelation, IsFitLack}
+use Rattle.pc_agg_search.specs.Wants.{most_chosen, fewest_chosen}
 
 -- disjoint predicates leave nothing open
 abbrev pub DisjointIsSharp : Setting → Answer → Type 0

@@ -2,21 +2,21 @@
 use Rattle.std.specs.Prelude.{◌≡◌, ⊤, ℕ, suc, ◌<◌, ◌-◌, ◌⊎◌, ℤ, ◌≤ℤ◌, ◌<ℤ◌, int_lt, int_le, true, List, length, map, ◌++◌, All, Any, Option, Some, None, IfSome, MatchOption}
 use Rattle.pc_model.specs.declared.tree.Tree.{Tree}
 use Rattle.pc_model.specs.Cells.{Class}
-use Rattle.pc_bound.specs.declared.program.Program.{Program}
-use Rattle.pc_bound.specs.Sums.{int_at}
+use Rattle.pc_program_bound.specs.declared.program.Program.{Program}
+use Rattle.pc_program_bound.specs.Sums.{int_at}
 use Rattle.pc_proof.specs.Setting.{Setting, cells, on_chosen, counting, program_for, program_without}
-use Rattle.pc_licence.specs.Pools.{AreLawful}
-use Rattle.pc_search.specs.declared.extreme.Extreme.{Extreme}
+use Rattle.pc_branch_licences.specs.Pools.{AreLawful}
+use Rattle.pc_agg_search.specs.declared.extreme.Extreme.{Extreme}
 use Rattle.pc_agg.specs.declared.ladder.Test.{Test}
 use Rattle.pc_agg.specs.declared.ladder.Test.TheVariants.{Reach, Avoid}
 use Rattle.pc_agg.specs.declared.ladder.Ladder.{Ladder}
 use Rattle.pc_agg.specs.declared.climb.Climbed.{Climbed}
 use Rattle.pc_agg.specs.declared.climb.Climbed.TheVariants as climbs
 use Rattle.pc_agg.specs.declared.climb.Standing.{Standing}
-use Rattle.pc_search.specs.declared.want.Want.{Want}
-use Rattle.pc_search.specs.Fitting.{IsVoidTree}
-use Rattle.pc_search.specs.Keys.{key_of}
-use Rattle.pc_search.specs.Wants.{IsDoubt, IsFound, FallsShort}
+use Rattle.pc_agg_search.specs.declared.want.Want.{Want}
+use Rattle.pc_agg_search.specs.Fitting.{IsVoidTree}
+use Rattle.pc_agg_search.specs.Keys.{key_of}
+use Rattle.pc_agg_search.specs.Wants.{IsDoubt, IsFound, FallsShort}
 
 -- rows of the cells that reach a key; or lists without rows of the cells that fall short of it
 abbrev pub reaches : Setting → Extreme → ℤ → Program

@@ -5,7 +5,7 @@ use Rattle.pc_model.specs.declared.row.Row.{Row}
 use Rattle.pc_model.specs.declared.row.Run.{Run}
 use Rattle.pc_model.specs.Runs.{runs_from}
 use Rattle.pc_model.specs.Cells.{Class, IsRowOf}
-use Rattle.pc_bound.specs.declared.program.Program.{Program}
+use Rattle.pc_program_bound.specs.declared.program.Program.{Program}
 use Rattle.pc_proof.specs.declared.answer.Relation.{Relation}
 use Rattle.pc_proof.specs.declared.answer.Relation.TheVariants as relations
 use Rattle.pc_proof.specs.declared.answer.Lack.TheVariants as lacks
@@ -14,14 +14,14 @@ use Rattle.pc_proof.specs.declared.answer.Why.TheVariants as whys
 use Rattle.pc_proof.specs.Setting.{Setting, cells, program_for}
 use Rattle.pc_proof.specs.Table.{one, minus_one, ShowsImpossible}
 use Rattle.pc_proof.specs.Unbroken.{IsDecided}
-use Rattle.pc_licence.specs.Pools.{AreLawful}
-use Rattle.pc_licence.specs.Wanted.{any, LeavesOpen}
+use Rattle.pc_branch_licences.specs.Pools.{AreLawful}
+use Rattle.pc_branch_licences.specs.Wanted.{any, LeavesOpen}
 use Rattle.pc_agg.specs.declared.settling.Settled.{Settled}
 use Rattle.pc_agg.specs.declared.settling.Total.{Total}
 use Rattle.pc_agg.specs.declared.settling.Total.TheVariants as totals
-use Rattle.pc_search.specs.declared.limit.Limit.{Limit}
-use Rattle.pc_search.specs.Fitting.{IsFitTree}
-use Rattle.pc_search.specs.Limits.{IsLimit}
+use Rattle.pc_agg_search.specs.declared.limit.Limit.{Limit}
+use Rattle.pc_agg_search.specs.Fitting.{IsFitTree}
+use Rattle.pc_agg_search.specs.Limits.{IsLimit}
 
 -- a row of each cell
 abbrev pub AreRowsOfCells : Setting → List Row → Type 0

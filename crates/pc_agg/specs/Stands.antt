@@ -4,9 +4,9 @@ use Rattle.std.specs.List.{AllZip}
 use Rattle.pc_model.specs.declared.row.Row.{Row}
 use Rattle.pc_model.specs.declared.tree.Tree.{Tree}
 use Rattle.pc_model.specs.Runs.{runs_from}
-use Rattle.pc_bound.specs.declared.program.Program.{Program}
-use Rattle.pc_bound.specs.Sums.{int_at}
-use Rattle.pc_bound.specs.Allocation.{IsProgram}
+use Rattle.pc_program_bound.specs.declared.program.Program.{Program}
+use Rattle.pc_program_bound.specs.Sums.{int_at}
+use Rattle.pc_program_bound.specs.Allocation.{IsProgram}
 use Rattle.pc_branch.specs.Ends.{HasSmallGains}
 use Rattle.pc_proof.specs.declared.answer.Proof.{Proof}
 use Rattle.pc_proof.specs.declared.answer.Proof.TheVariants as proofs
@@ -15,24 +15,24 @@ use Rattle.pc_proof.specs.declared.answer.Mark.TheVariants as marks
 use Rattle.pc_proof.specs.declared.answer.End.{End}
 use Rattle.pc_proof.specs.Setting.{Setting, cells, counting, program_for, program_without}
 use Rattle.pc_proof.specs.Table.{one}
-use Rattle.pc_licence.specs.Pools.{AreLawful}
-use Rattle.pc_search.specs.declared.extreme.Extreme.{Extreme}
+use Rattle.pc_branch_licences.specs.Pools.{AreLawful}
+use Rattle.pc_agg_search.specs.declared.extreme.Extreme.{Extreme}
 use Rattle.pc_agg.specs.declared.climb.Standing.{Standing}
 use Rattle.pc_agg.specs.declared.ladder.Ladder.{Ladder}
 use Rattle.pc_agg.specs.declared.ladder.Test.{Test}
 use Rattle.pc_agg.specs.declared.ladder.Test.TheVariants.{Reach, Avoid}
-use Rattle.pc_search.specs.declared.want.Want.{Want}
-use Rattle.pc_search.specs.declared.want.Want.TheVariants as wants
+use Rattle.pc_agg_search.specs.declared.want.Want.{Want}
+use Rattle.pc_agg_search.specs.declared.want.Want.TheVariants as wants
 use Rattle.pc_agg.specs.declared.stand.Stand.{Stand}
 use Rattle.pc_agg.specs.declared.stand.Stood.{Stood}
 use Rattle.pc_agg.specs.declared.stand.Stood.TheVariants as stoods
-use Rattle.pc_search.specs.Ends.{signed}
-use Rattle.pc_search.specs.Fitting.{IsVoidTree}
-use Rattle.pc_search.specs.Flat.{flat_tree}
-use Rattle.pc_search.specs.Wants.{want_for}
-use Rattle.pc_search.specs.Keys.{key_of, IsAtEnd}
+use Rattle.pc_agg_search.specs.Ends.{signed}
+use Rattle.pc_agg_search.specs.Fitting.{IsVoidTree}
+use Rattle.pc_agg_search.specs.Flat.{flat_tree}
+use Rattle.pc_agg_search.specs.Wants.{want_for}
+use Rattle.pc_agg_search.specs.Keys.{key_of, IsAtEnd}
 use Rattle.pc_agg.specs.Rungs.{reaches, avoids, IsKey, rung_program}
-use Rattle.pc_search.specs.Wants.{FallsShort, IsDoubt, IsFound}
+use Rattle.pc_agg_search.specs.Wants.{FallsShort, IsDoubt, IsFound}
 
 -- the programs that show that no list passes a key, and that each list with a value comes up to it
 abbrev pub passing : Setting → Extreme → ℤ → Program

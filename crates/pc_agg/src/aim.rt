@@ -5,15 +5,15 @@ ghost use Rattle.pc_model.specs.Right.{always_has_value};
 ghost use Rattle.pc_model.specs.WellFormed.{IsWellFormed};
 ghost use Rattle.pc_proof.specs.Setting.{program_for};
 ghost use Rattle.pc_proof.specs.Table.{none};
-ghost use Rattle.pc_search.specs.Asked.{AreCells};
+ghost use Rattle.pc_agg_search.specs.Asked.{AreCells};
 ghost use Rattle.pc_agg.specs.Marks.{IsAimed, IsAimReached};
-ghost use Rattle.pc_search.specs.Settings.{unseen};
+ghost use Rattle.pc_agg_search.specs.Settings.{unseen};
 
+use pc_agg_search::{Extreme, Limit, Sought, Targets, find_targets, seek};
 use pc_cells::Cells;
 use pc_list::Seq;
 use pc_model::{Constraint, Query, Row, Schema, Tree};
 use pc_num::Memory;
-use pc_search::{Extreme, Limit, Sought, Targets, find_targets, seek};
 use std::alloc::Global;
 
 /// The most that lost rows can gain towards an end, and a row of each cell that gains it.

@@ -2,19 +2,19 @@ ghost use Rattle.std.specs.Prelude.{◌≡◌, ◌≤◌, ◌^◌, ◌++◌, nat
 ghost use Rattle.pc_model.specs.declared.query.Agg.TheVariants as aggs;
 ghost use Rattle.pc_model.specs.Right.{always_has_value};
 ghost use Rattle.pc_agg.specs.Answered.{answer_between, bounded_by, impossible_by, is_open, CanEnd, IsAnswer};
-ghost use Rattle.pc_search.specs.Limits.{found_of};
-ghost use Rattle.pc_search.specs.Asked.{AreAsked, Asking, setting_for};
+ghost use Rattle.pc_agg_search.specs.Limits.{found_of};
+ghost use Rattle.pc_agg_search.specs.Asked.{AreAsked, Asking, setting_for};
 ghost use Rattle.pc_agg.specs.Owed.{Owes};
 
 use crate::aim::{Aim, Aimed, aim_at};
 use crate::ends::end_towards;
 use crate::settling::{Settled, listed, settle_open};
+use pc_agg_search::{Extreme, FoundCounts, Limit};
 use pc_cells::Cells;
 use pc_list::Seq;
 use pc_model::{Agg, Constraint, Folded, Query, Schema};
 use pc_num::Memory;
 use pc_proof::{Answer, Bounded, End, Lack, Relation, Why};
-use pc_search::{Extreme, Limit};
 use std::alloc::Global;
 
 /// The range of the number of rows that the query chooses, where those observed come to `seen`, by searches of at most
@@ -109,14 +109,14 @@ fn bound(
 }
 
 /// What the searches of both ends found.
-fn found_by(alloc: Global, low: &Limit, high: &Limit) -> Result<Seq<Seq<u64>>, Memory>
+fn found_by(alloc: Global, low: &Limit, high: &Limit) -> Result<FoundCounts, Memory>
     ensures { IfOk result (λ found. found ≡ found_of low.now.found ++ found_of high.now.found) }
 {
     let found = with_found(Seq::new(alloc), &low.found)?;
     with_found(found, &high.found)
 }
 
-fn with_found(found: Seq<Seq<u64>>, more: &Option<Seq<u64>>) -> Result<Seq<Seq<u64>>, Memory>
+fn with_found(found: FoundCounts, more: &Option<Seq<u64>>) -> Result<FoundCounts, Memory>
     ensures { IfOk result (λ all. all ≡ found ++ found_of more.now) }
 {
     let Some(counts) = more else {

@@ -2,19 +2,18 @@ ghost use Rattle.std.specs.Prelude.{◌≡◌, ℕ, ◌<◌, ◌≤◌, List, Al
 ghost use Rattle.pc_model.specs.WellFormed.{IsWellFormed};
 ghost use Rattle.pc_model.specs.Accepted.{AreConstraints};
 ghost use Rattle.pc_model.specs.Membership.{AreDisjoint};
-ghost use Rattle.pc_licence.specs.Pools.{AreLawful};
-ghost use Rattle.pc_search.specs.Asked.{AreCells};
+ghost use Rattle.pc_branch_licences.specs.Pools.{AreLawful};
+ghost use Rattle.pc_agg_search.specs.Asked.{AreCells};
 ghost use Rattle.pc_agg.specs.Climbing.{above, narrowed, IsSpan, IsHalved, IsSureSpan, IsSureHalf};
 ghost use Rattle.pc_agg.specs.Rungs.{program_at, IsLadder, IsClimbed, IsClimbedSurely};
-ghost use Rattle.pc_search.specs.Settings.{unseen};
+ghost use Rattle.pc_agg_search.specs.Settings.{unseen};
 
 use crate::ladder::{Ladder, Test};
 use crate::rungs::program_at;
+use pc_agg_search::{FoundCounts, ProbeVerdict, Probed, Want, probe};
 use pc_cells::Cells;
-use pc_list::Seq;
 use pc_model::{Constraint, Query, Schema, Tree};
 use pc_num::Memory;
-use pc_search::{Probed, Verdict, Want, probe};
 use std::alloc::Global;
 
 /// The rung that an end stands on, with a tree that rules out the rung before it, unless it is the first, and all counts
@@ -23,7 +22,7 @@ use std::alloc::Global;
 pub(crate) struct Standing {
     pub place: usize,
     pub tree: Option<Tree>,
-    pub found: Seq<Seq<u64>>,
+    pub found: FoundCounts,
 }
 
 /// Where an end stands, or a tree that shows that no lost rows meet the constraints.
@@ -43,7 +42,7 @@ pub(crate) fn climb(
     query: &Query,
     ladder: &Ladder,
     want: Want,
-    found: Seq<Seq<u64>>,
+    found: FoundCounts,
     nodes: u32,
 ) -> Result<Climbed, Memory>
     requires well_formed { IsWellFormed schema.now }
@@ -88,7 +87,7 @@ struct Span {
     from: usize,
     to: usize,
     tree: Option<Tree>,
-    found: Seq<Seq<u64>>,
+    found: FoundCounts,
 }
 
 /// Fewer rungs, or a tree that shows that no lost rows meet the constraints.
@@ -163,12 +162,12 @@ fn narrowed(
 {
     let Probed { verdict, found } = probed;
     match verdict {
-        Verdict::Empty(shown) => match test {
+        ProbeVerdict::Empty(shown) => match test {
             Test::Reach => Halved::Empty(shown),
             Test::Avoid => Halved::Within(above(middle, to, shown, found)),
         },
-        Verdict::Short(shown) => Halved::Within(above(middle, to, shown, found)),
-        Verdict::Open => Halved::Within(Span {
+        ProbeVerdict::Short(shown) => Halved::Within(above(middle, to, shown, found)),
+        ProbeVerdict::Open => Halved::Within(Span {
             from,
             to: middle,
             tree,
@@ -178,7 +177,7 @@ fn narrowed(
 }
 
 /// The rungs past the middle one, which a tree rules out.
-fn above(middle: usize, to: usize, shown: Tree, found: Seq<Seq<u64>>) -> Span
+fn above(middle: usize, to: usize, shown: Tree, found: FoundCounts) -> Span
     requires inside { middle < to }
     ensures { result ≡ above middle to shown found }
 {

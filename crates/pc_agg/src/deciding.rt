@@ -2,11 +2,11 @@ ghost use Rattle.std.specs.Prelude.{◌≡◌, ◌≤◌, All, IfOk};
 ghost use Rattle.pc_model.specs.Accepted.{AreConstraints};
 ghost use Rattle.pc_model.specs.Right.{always_has_value};
 ghost use Rattle.pc_model.specs.WellFormed.{IsWellFormed};
-ghost use Rattle.pc_licence.specs.Pools.{AreLawful};
-ghost use Rattle.pc_search.specs.Asked.{AreAsked, AreCells, Asking, setting_for};
+ghost use Rattle.pc_branch_licences.specs.Pools.{AreLawful};
+ghost use Rattle.pc_agg_search.specs.Asked.{AreAsked, AreCells, Asking, setting_for};
 ghost use Rattle.pc_agg.specs.Grounds.{IsGrounded};
 ghost use Rattle.pc_agg.specs.Owed.{OwesSettled};
-ghost use Rattle.pc_search.specs.Settings.{unseen};
+ghost use Rattle.pc_agg_search.specs.Settings.{unseen};
 ghost use Rattle.pc_agg.specs.Extremes.{HasLawful, IsSettledFrom};
 
 use crate::grounds::{Grounded, Grounds, ground};

@@ -1,17 +1,17 @@
 ghost use Rattle.std.specs.Prelude.{◌≡◌, ◌≤◌, ◌^◌, ◌+ℤ◌, length, nat_abs, All, IfOk};
-ghost use Rattle.pc_bound.specs.Allocation.{IsProgram, IsAllocation, cells_of};
+ghost use Rattle.pc_program_bound.specs.Allocation.{IsProgram, IsAllocation, cells_of};
 ghost use Rattle.pc_branch.specs.Ends.{HasSmallGains};
 ghost use Rattle.pc_agg.specs.Answered.{CanEnd, IsEnd};
-ghost use Rattle.pc_search.specs.Ends.{signed};
+ghost use Rattle.pc_agg_search.specs.Ends.{signed};
 ghost use Rattle.pc_agg.specs.Marks.{IsMarked, IsEndOf};
 ghost use Rattle.pc_agg.specs.Observed.{folded_value};
 
 use crate::aim::Aim;
+use pc_agg_search::{Extreme, Limit, find_worth};
 use pc_list::Seq;
 use pc_model::{Agg, Folded, Row};
 use pc_num::{Frac, Memory};
 use pc_proof::{End, Mark, Proof};
-use pc_search::{Extreme, Limit, find_worth};
 use pc_witness::rebuild;
 use std::alloc::Global;
 

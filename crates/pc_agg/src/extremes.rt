@@ -3,26 +3,25 @@ ghost use Rattle.pc_model.specs.Accepted.{AreConstraints, IsNumeric, IsColumnWhe
 ghost use Rattle.pc_model.specs.Membership.{AreDisjoint};
 ghost use Rattle.pc_model.specs.WellFormed.{IsWellFormed};
 ghost use Rattle.pc_model.specs.declared.query.Agg.TheVariants as aggs;
-ghost use Rattle.pc_licence.specs.Pools.{AreLawful};
-ghost use Rattle.pc_search.specs.Asked.{AreAsked, AreCells, Asking, setting_for};
+ghost use Rattle.pc_branch_licences.specs.Pools.{AreLawful};
+ghost use Rattle.pc_agg_search.specs.Asked.{AreAsked, AreCells, Asking, setting_for};
 ghost use Rattle.pc_agg.specs.Extremes.{agg_of, key_at, seen_number, test_at, IsPair, IsPairSurely};
-ghost use Rattle.pc_search.specs.Wants.{most_chosen, want_for};
+ghost use Rattle.pc_agg_search.specs.Wants.{most_chosen, want_for};
 ghost use Rattle.pc_agg.specs.Grounds.{HasValues};
 ghost use Rattle.pc_agg.specs.Owed.{Owes};
-ghost use Rattle.pc_search.specs.Settings.{unseen};
-ghost use Rattle.pc_search.specs.Wants.{IsDoubt, IsFound};
+ghost use Rattle.pc_agg_search.specs.Settings.{unseen};
+ghost use Rattle.pc_agg_search.specs.Wants.{IsDoubt, IsFound};
 
 use crate::bounds::impossible_by;
 use crate::grounds::{Grounded, Grounds, ground};
 use crate::judged::{always_by, judge};
 use crate::ladder::Test;
 use crate::stand::{On, Stand, Stood, search_end};
+use pc_agg_search::{Extreme, FoundCounts};
 use pc_cells::Cells;
-use pc_list::Seq;
 use pc_model::{Constraint, Folded, Query, Schema, Tree};
 use pc_num::Memory;
 use pc_proof::{AlwaysBy, Answer, Why};
-use pc_search::Extreme;
 use std::alloc::Global;
 
 /// The range of the least number that a column has among the rows that the query chooses, where those observed come to
@@ -148,7 +147,7 @@ enum Pair {
     At {
         low: Stand,
         high: Stand,
-        found: Seq<Seq<u64>>,
+        found: FoundCounts,
     },
     Empty(Tree),
 }
@@ -161,7 +160,7 @@ fn stand_both(
     query: &Query,
     far: Extreme,
     number: Option<i64>,
-    found: Seq<Seq<u64>>,
+    found: FoundCounts,
     nodes: u32,
 ) -> Result<Pair, Memory>
     requires well_formed { IsWellFormed schema.now }

@@ -3,19 +3,20 @@ ghost use Rattle.pc_model.specs.Accepted.{AreConstraints};
 ghost use Rattle.pc_model.specs.Membership.{AreDisjoint};
 ghost use Rattle.pc_model.specs.WellFormed.{IsWellFormed};
 ghost use Rattle.pc_cells.specs.declared.cells.Cell.{Cell};
-ghost use Rattle.pc_licence.specs.Pools.{AreLawful};
-ghost use Rattle.pc_search.specs.Asked.{AreCells};
-ghost use Rattle.pc_search.specs.Wants.{want_for};
+ghost use Rattle.pc_branch_licences.specs.Pools.{AreLawful};
+ghost use Rattle.pc_agg_search.specs.Asked.{AreCells};
+ghost use Rattle.pc_agg_search.specs.Wants.{want_for};
 ghost use Rattle.pc_agg.specs.Grounds.{HasValues, IsGrounded, IsGroundedSurely, IsLacking, IsLackingSurely, IsUnlistedIfNone};
-ghost use Rattle.pc_search.specs.Settings.{unseen};
+ghost use Rattle.pc_agg_search.specs.Settings.{unseen};
 
 use crate::settling::{Settled, settle_totals};
+use pc_agg_search::{
+    FoundCounts, ProbeVerdict, Probed, Want, chosen_program, flat_tree, probe, want_for,
+};
 use pc_cells::Cells;
-use pc_list::Seq;
 use pc_model::{Constraint, Query, Schema, Tree};
 use pc_num::Memory;
 use pc_proof::{NeverBy, Relation, Why};
-use pc_search::{Probed, Verdict, Want, chosen_program, flat_tree, probe, want_for};
 use std::alloc::Global;
 
 /// Whether the aggregate can lack a value: never, or it may, unless the budget was spent.
@@ -29,7 +30,7 @@ pub(crate) enum Lacking {
 #[derive(Debug, Drop)]
 pub(crate) struct Grounds {
     pub lacking: Lacking,
-    pub found: Seq<Seq<u64>>,
+    pub found: FoundCounts,
 }
 
 /// What the programs of all rows and of the chosen ones come to: that there is no list, that none gives a value, or neither.
@@ -37,7 +38,7 @@ pub(crate) struct Grounds {
 #[derive(Debug, Drop)]
 pub(crate) enum Grounded {
     Impossible(Why),
-    Always(Tree, Seq<Seq<u64>>),
+    Always(Tree, FoundCounts),
     Open(Grounds),
 }
 
@@ -90,7 +91,7 @@ fn ground_unseen(
     constraints: &[Constraint],
     cells: &Cells,
     query: &Query,
-    found: Seq<Seq<u64>>,
+    found: FoundCounts,
     nodes: u32,
 ) -> Result<Grounded, Memory>
     requires well_formed { IsWellFormed schema.now }
@@ -109,9 +110,9 @@ fn ground_unseen(
     let fewest = chosen_program(alloc, schema, constraints, cells, query, -1)?;
     let Probed { verdict, found } = probe(alloc, &fewest, Want::Without, found, nodes)?;
     let lacking = match verdict {
-        Verdict::Empty(tree) => return Ok(Grounded::Impossible(Why::Void(tree))),
-        Verdict::Short(tree) => Lacking::Never(NeverBy::Tree(tree)),
-        Verdict::Open => Lacking::Open,
+        ProbeVerdict::Empty(tree) => return Ok(Grounded::Impossible(Why::Void(tree))),
+        ProbeVerdict::Short(tree) => Lacking::Never(NeverBy::Tree(tree)),
+        ProbeVerdict::Open => Lacking::Open,
     };
     ground_most(
         alloc,
@@ -148,7 +149,7 @@ fn ground_most(
     query: &Query,
     observed: bool,
     lacking: Lacking,
-    found: Seq<Seq<u64>>,
+    found: FoundCounts,
     nodes: u32,
 ) -> Result<Grounded, Memory>
     requires well_formed { IsWellFormed schema.now }
@@ -166,9 +167,9 @@ fn ground_most(
     let want = want_for(observed);
     let Probed { verdict, found } = probe(alloc, &most, want, found, nodes)?;
     match verdict {
-        Verdict::Empty(tree) => Ok(Grounded::Impossible(Why::Void(tree))),
-        Verdict::Short(tree) if observed => Ok(Grounded::Impossible(Why::Void(tree))),
-        Verdict::Short(tree) => Ok(Grounded::Always(tree, found)),
-        Verdict::Open => Ok(Grounded::Open(Grounds { lacking, found })),
+        ProbeVerdict::Empty(tree) => Ok(Grounded::Impossible(Why::Void(tree))),
+        ProbeVerdict::Short(tree) if observed => Ok(Grounded::Impossible(Why::Void(tree))),
+        ProbeVerdict::Short(tree) => Ok(Grounded::Always(tree, found)),
+        ProbeVerdict::Open => Ok(Grounded::Open(Grounds { lacking, found })),
     }
 }

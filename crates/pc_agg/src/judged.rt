@@ -6,23 +6,23 @@ ghost use Rattle.pc_model.specs.WellFormed.{IsWellFormed};
 ghost use Rattle.pc_cells.specs.declared.cells.Cell.{Cell};
 ghost use Rattle.pc_cells.specs.Found.{IsFilled};
 ghost use Rattle.pc_model.specs.declared.row.Row.{Row};
-ghost use Rattle.pc_licence.specs.Pools.{AreLawful};
-ghost use Rattle.pc_search.specs.Asked.{AreCells};
+ghost use Rattle.pc_branch_licences.specs.Pools.{AreLawful};
+ghost use Rattle.pc_agg_search.specs.Asked.{AreCells};
 ghost use Rattle.pc_agg.specs.Extremes.{always_as, crossed, judged, relation_from, CanStand, IsJudged, IsLackFrom, IsOpenLack};
-ghost use Rattle.pc_search.specs.Ends.{signed};
-ghost use Rattle.pc_search.specs.Settings.{unseen};
+ghost use Rattle.pc_agg_search.specs.Ends.{signed};
+ghost use Rattle.pc_agg_search.specs.Settings.{unseen};
 ghost use Rattle.pc_agg.specs.Stands.{IsEndAt, IsMarkedBy};
 
 use crate::bounds::{bounded_by, impossible_by};
 use crate::grounds::Lacking;
 use crate::settling::rows_of_cells;
 use crate::stand::Stand;
+use pc_agg_search::{Extreme, FoundCounts, Want, chosen_program, find_wanted};
 use pc_cells::Cells;
 use pc_list::Seq;
 use pc_model::{Constraint, Query, Row, Schema};
 use pc_num::{Frac, Memory};
 use pc_proof::{AlwaysBy, Answer, End, Lack, Mark, Relation, Why};
-use pc_search::{Extreme, Want, chosen_program, find_wanted};
 use pc_witness::rebuild;
 use std::alloc::Global;
 
@@ -37,7 +37,7 @@ pub(crate) fn judge(
     lacking: Lacking,
     low: Stand,
     high: Stand,
-    found: Seq<Seq<u64>>,
+    found: FoundCounts,
 ) -> Result<Answer, Memory>
     requires well_formed { IsWellFormed schema.now }
     requires constraints { AreConstraints schema.now constraints.now }

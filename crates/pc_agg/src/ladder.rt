@@ -3,18 +3,18 @@ ghost use Rattle.std.specs.Option.{option_to_list};
 ghost use Rattle.pc_model.specs.Cells.{classes_of, leaves_in};
 ghost use Rattle.pc_model.specs.WellFormed.{IsWellFormed};
 ghost use Rattle.pc_proof.specs.Setting.{on_chosen};
-ghost use Rattle.pc_search.specs.Asked.{AreCells};
+ghost use Rattle.pc_agg_search.specs.Asked.{AreCells};
 ghost use Rattle.pc_agg.specs.Kept.{passes, AreKept};
-ghost use Rattle.pc_search.specs.Keys.{key_of};
+ghost use Rattle.pc_agg_search.specs.Keys.{key_of};
 ghost use Rattle.pc_agg.specs.Rungs.{AreRungs, IsLadder};
-ghost use Rattle.pc_search.specs.Settings.{unseen};
+ghost use Rattle.pc_agg_search.specs.Settings.{unseen};
 
 use crate::falling::falling_of;
+use pc_agg_search::Extreme;
 use pc_cells::{Cell, Cells};
 use pc_list::Seq;
 use pc_model::{Constraint, Query, Schema};
 use pc_num::Memory;
-use pc_search::Extreme;
 use std::alloc::Global;
 
 /// How an end is tested at a number: whether some list has a row that reaches it, or whether some list has no row that

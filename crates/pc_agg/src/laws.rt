@@ -8,8 +8,8 @@ ghost use Rattle.pc_model.specs.declared.tree.CutNode.{CutNode};
 ghost use Rattle.pc_model.specs.Accepted.{IsQuery};
 ghost use Rattle.pc_model.specs.Folds.{IsFold};
 ghost use Rattle.pc_proof.specs.Unbroken.{AllowsName};
-ghost use Rattle.pc_search.specs.Asked.{Asking, query_for, setting_for};
-ghost use Rattle.pc_search.specs.Settings.{setting_in};
+ghost use Rattle.pc_agg_search.specs.Asked.{Asking, query_for, setting_for};
+ghost use Rattle.pc_agg_search.specs.Settings.{setting_in};
 
 /// A query, of a name where it is grouped, is asked of whatever observed rows come to its fold.
 pub fn folds_are_asked_of()

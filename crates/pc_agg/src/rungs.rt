@@ -2,26 +2,26 @@ ghost use Rattle.std.specs.Prelude.{◌≡◌, ◌<◌, ◌≤◌, ◌&&◌, pos
 ghost use Rattle.pc_model.specs.WellFormed.{IsWellFormed};
 ghost use Rattle.pc_model.specs.Accepted.{AreConstraints};
 ghost use Rattle.pc_model.specs.Membership.{AreDisjoint};
-ghost use Rattle.pc_bound.specs.Allocation.{IsProgram};
-ghost use Rattle.pc_bound.specs.Sums.{int_at};
-ghost use Rattle.pc_bound.specs.CellPrograms.{program_with};
+ghost use Rattle.pc_program_bound.specs.Allocation.{IsProgram};
+ghost use Rattle.pc_program_bound.specs.Sums.{int_at};
+ghost use Rattle.pc_program_bound.specs.CellPrograms.{program_with};
 ghost use Rattle.pc_branch.specs.Ends.{HasSmallGains};
 ghost use Rattle.pc_program.specs.Settled.{HasOneBits};
-ghost use Rattle.pc_tableau.specs.Numbers.{table};
+ghost use Rattle.pc_simplex_tableau.specs.Numbers.{table};
 ghost use Rattle.pc_cells.specs.Found.{class_of_cell};
-ghost use Rattle.pc_search.specs.Asked.{AreCells};
+ghost use Rattle.pc_agg_search.specs.Asked.{AreCells};
 ghost use Rattle.pc_agg.specs.Keyed.{reach_gain, avoid_cap, with_closed, tested_program};
-ghost use Rattle.pc_search.specs.Targets.{chosen_gain};
+ghost use Rattle.pc_agg_search.specs.Targets.{chosen_gain};
 ghost use Rattle.pc_agg.specs.Rungs.{program_at, IsLadder};
-ghost use Rattle.pc_search.specs.Settings.{unseen};
+ghost use Rattle.pc_agg_search.specs.Settings.{unseen};
 
 use crate::ladder::{Ladder, Test};
-use pc_bound::Program;
+use pc_agg_search::{chosen_gains, program_of};
 use pc_cells::{Cell, Cells};
 use pc_list::Seq;
 use pc_model::{Constraint, Query, Schema};
 use pc_num::Memory;
-use pc_search::{chosen_gains, program_of};
+use pc_program_bound::Program;
 use std::alloc::Global;
 
 /// The program that tests a rung.
@@ -83,7 +83,7 @@ fn reaching(
     program_of(alloc, constraints, cells, gains)
 }
 
-#[tactic(auto, using(pc_tableau::proofs::Tables::table_steps))]
+#[tactic(auto, using(pc_simplex_tableau::proofs::Tables::table_steps))]
 fn reach_gains(
     alloc: Global,
     cells: &[Cell],
@@ -128,7 +128,7 @@ fn avoiding(
     Ok(program)
 }
 
-#[tactic(auto, using(pc_tableau::proofs::Tables::table_steps))]
+#[tactic(auto, using(pc_simplex_tableau::proofs::Tables::table_steps))]
 fn open_caps(
     alloc: Global,
     cells: &[Cell],

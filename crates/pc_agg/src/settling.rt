@@ -12,18 +12,18 @@ ghost use Rattle.pc_proof.specs.Setting.{program_for};
 ghost use Rattle.pc_proof.specs.declared.answer.Relation.TheVariants as relations;
 ghost use Rattle.pc_proof.specs.declared.answer.Lack.TheVariants as lacks;
 ghost use Rattle.pc_proof.specs.Unbroken.{IsDecided};
-ghost use Rattle.pc_licence.specs.Pools.{AreLawful};
-ghost use Rattle.pc_search.specs.Asked.{AreCells, AreAsked, Asking, setting_for};
+ghost use Rattle.pc_branch_licences.specs.Pools.{AreLawful};
+ghost use Rattle.pc_agg_search.specs.Asked.{AreCells, AreAsked, Asking, setting_for};
 ghost use Rattle.pc_agg.specs.Owed.{OwesSettled};
-ghost use Rattle.pc_search.specs.Settings.{unseen};
+ghost use Rattle.pc_agg_search.specs.Settings.{unseen};
 ghost use Rattle.pc_agg.specs.Settling.{AreOpenTotals, IsLimitOfGain, IsSettled, IsTotal, IsTotalDecided, IsTotalOf, left_open};
 
+use pc_agg_search::{FoundCounts, Limit, Sought, equal_gains, seek};
 use pc_cells::Cells;
 use pc_list::Seq;
 use pc_model::{Constraint, Folded, Query, Row, Schema};
 use pc_num::Memory;
 use pc_proof::{Lack, Relation, Why};
-use pc_search::{Limit, Sought, equal_gains, seek};
 use pc_witness::rebuild;
 use std::alloc::Global;
 
@@ -33,7 +33,7 @@ use std::alloc::Global;
 pub struct Settled {
     pub relation: Relation,
     pub lack: Lack,
-    pub found: Seq<Seq<u64>>,
+    pub found: FoundCounts,
 }
 
 /// What the search for the most or the fewest rows comes to: the relation, or a bound below which nothing was found.
@@ -214,7 +214,7 @@ fn possible(
     listed(alloc, picks.as_slice(), found)
 }
 
-fn only(alloc: Global, counts: Seq<u64>) -> Result<Seq<Seq<u64>>, Memory>
+fn only(alloc: Global, counts: Seq<u64>) -> Result<FoundCounts, Memory>
     ensures { IfOk result (λ found. found ≡ counts ∷ []) }
 {
     let mut found = Seq::new(alloc);
@@ -223,7 +223,7 @@ fn only(alloc: Global, counts: Seq<u64>) -> Result<Seq<Seq<u64>>, Memory>
 }
 
 /// A list with the first of these counts, by a row of each cell.
-pub(crate) fn listed(alloc: Global, picks: &[Row], found: Seq<Seq<u64>>) -> Result<Settled, Memory>
+pub(crate) fn listed(alloc: Global, picks: &[Row], found: FoundCounts) -> Result<Settled, Memory>
     requires some { 0 < length found }
     requires sized { length picks.now ≡ length (slice_index_or found 0 []) }
     ensures { IfOk result (λ settled. settled ≡ record { relation = relations.Possible (runs_from picks.now (slice_index_or found 0 [])); lack = lacks.Silent; found = found }) }

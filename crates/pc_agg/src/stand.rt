@@ -2,25 +2,27 @@ ghost use Rattle.std.specs.Prelude.{◌≡◌, ◌-◌, ◌<◌, ◌≤◌, ◌^
 ghost use Rattle.pc_model.specs.Accepted.{AreConstraints, IsNumeric, IsColumnWhere};
 ghost use Rattle.pc_model.specs.Membership.{AreDisjoint};
 ghost use Rattle.pc_model.specs.WellFormed.{IsWellFormed};
-ghost use Rattle.pc_licence.specs.Pools.{AreLawful};
-ghost use Rattle.pc_search.specs.Asked.{AreCells};
-ghost use Rattle.pc_search.specs.Wants.{most_chosen, want_for};
+ghost use Rattle.pc_branch_licences.specs.Pools.{AreLawful};
+ghost use Rattle.pc_agg_search.specs.Asked.{AreCells};
+ghost use Rattle.pc_agg_search.specs.Wants.{most_chosen, want_for};
 ghost use Rattle.pc_agg.specs.Grounds.{HasValues};
 ghost use Rattle.pc_agg.specs.Rungs.{IsLadder};
-ghost use Rattle.pc_search.specs.Settings.{unseen};
+ghost use Rattle.pc_agg_search.specs.Settings.{unseen};
 ghost use Rattle.pc_agg.specs.Stands.{is_observed, proof_of, want_at, IsAttaining, IsStood, IsStoodOn, IsStoodSurely};
-ghost use Rattle.pc_search.specs.Wants.{IsDoubt, IsFound};
+ghost use Rattle.pc_agg_search.specs.Wants.{IsDoubt, IsFound};
 
 use crate::climb::{Climbed, Standing, climb};
 use crate::ladder::{Ladder, Test, ladder_of};
 use crate::rungs::program_at;
-use pc_bound::Program;
+use pc_agg_search::{
+    Extreme, FoundCounts, Targets, Want, find_keys, flat_tree, total_program, want_for,
+};
 use pc_cells::Cells;
 use pc_list::Seq;
 use pc_model::{Constraint, Query, Row, Schema, Tree};
 use pc_num::Memory;
+use pc_program_bound::Program;
 use pc_proof::Proof;
-use pc_search::{Extreme, Targets, Want, find_keys, flat_tree, total_program, want_for};
 use std::alloc::Global;
 
 /// Where an end stands: its key, what shows that it holds, the program whose wanted counts attain it, and a row of each
@@ -38,7 +40,7 @@ pub(crate) struct Stand {
 #[derive(Debug, Drop)]
 pub(crate) struct On {
     pub stand: Stand,
-    pub found: Seq<Seq<u64>>,
+    pub found: FoundCounts,
 }
 
 /// Where an end stands, or a tree that shows that there is no list.
@@ -58,7 +60,7 @@ pub(crate) fn search_end(
     extreme: Extreme,
     test: Test,
     seen: Option<i128>,
-    found: Seq<Seq<u64>>,
+    found: FoundCounts,
     nodes: u32,
 ) -> Result<Stood, Memory>
     requires well_formed { IsWellFormed schema.now }

@@ -21,27 +21,27 @@ use Rattle.pc_model.specs.Aggregate.{Ratio, whole, asked, is_in_group}
 use Rattle.pc_model.specs.Cells.{Class}
 use Rattle.pc_model.specs.Membership.{has}
 use Rattle.pc_model.specs.WellFormed.{IsWellFormed}
-use Rattle.pc_bound.proofs.Ring.{mul_mono}
-use Rattle.pc_tableau.proofs.Products.{le_cancel, mul_swap, mul-zero}
-use Rattle.pc_short.proofs.Sizes.{size_of_product-le}
+use Rattle.pc_program_bound.proofs.Ring.{mul_mono}
+use Rattle.pc_simplex_tableau.proofs.Products.{le_cancel, mul_swap, mul-zero}
+use Rattle.pc_simplex_short.proofs.Sizes.{size_of_product-le}
 use Rattle.pc_proof.specs.Form.{IsFormedRatio}
 use Rattle.pc_proof.specs.Setting.{Setting, cells, on_chosen, seen_numbers}
 use Rattle.pc_proof.specs.Setting.{seen as seen_rows}
 use Rattle.pc_proof.specs.Table.{ratio_of}
 use Rattle.pc_proof.proofs.Numbers.{least_keeps, greatest_keeps}
-use Rattle.pc_search.specs.declared.extreme.Extreme.{Extreme}
-use Rattle.pc_search.specs.declared.extreme.Extreme.TheVariants.{Low, High}
-use Rattle.pc_search.specs.Asked.{Asking, setting_for}
-use Rattle.pc_search.specs.Ends.{signed}
-use Rattle.pc_search.specs.Fitting.{AreObserved}
-use Rattle.pc_search.specs.Keys.{key_of}
-use Rattle.pc_search.specs.Settings.{unseen}
+use Rattle.pc_agg_search.specs.declared.extreme.Extreme.{Extreme}
+use Rattle.pc_agg_search.specs.declared.extreme.Extreme.TheVariants.{Low, High}
+use Rattle.pc_agg_search.specs.Asked.{Asking, setting_for}
+use Rattle.pc_agg_search.specs.Ends.{signed}
+use Rattle.pc_agg_search.specs.Fitting.{AreObserved}
+use Rattle.pc_agg_search.specs.Keys.{key_of}
+use Rattle.pc_agg_search.specs.Settings.{unseen}
 use Rattle.pc_proof.proofs.RowNumbers.{asked_small}
-use Rattle.pc_ratio.specs.declared.fractional.Fractional.{Fractional}
-use Rattle.pc_ratio.specs.Fractional.{most_sum, over_before}
-use Rattle.pc_ratio.specs.Highest.{IsAbove, IsLesser, fewest_rows}
-use Rattle.pc_ratio.specs.Steps.{IsRatioOf}
-use Rattle.pc_ratio.proofs.Raising.{fewest_small, bottom_some}
+use Rattle.pc_avg_ratio.specs.declared.fractional.Fractional.{Fractional}
+use Rattle.pc_avg_ratio.specs.Fractional.{most_sum, over_before}
+use Rattle.pc_avg_ratio.specs.Highest.{IsAbove, IsLesser, fewest_rows}
+use Rattle.pc_avg_ratio.specs.Steps.{IsRatioOf}
+use Rattle.pc_avg_ratio.proofs.Raising.{fewest_small, bottom_some}
 use Rattle.pc_avg.specs.declared.sides.Side.{Side}
 use Rattle.pc_avg.specs.Ends.{turned}
 use Rattle.pc_avg.specs.Sides.{observed_key, IsChosenKey, IsOutermostKey, IsOutermost, IsSide}

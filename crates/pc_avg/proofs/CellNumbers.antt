@@ -9,10 +9,10 @@ use Rattle.pc_model.specs.Aggregate.{asked}
 use Rattle.pc_model.specs.Cells.{Class}
 use Rattle.pc_model.specs.WellFormed.{IsWellFormed}
 use Rattle.pc_proof.specs.Setting.{Setting, on_chosen}
-use Rattle.pc_search.specs.declared.extreme.Extreme.{Extreme}
-use Rattle.pc_search.specs.declared.extreme.Extreme.TheVariants.{Low, High}
-use Rattle.pc_search.specs.Ends.{signed}
-use Rattle.pc_search.specs.Keys.{key_of, IsAtEnd}
+use Rattle.pc_agg_search.specs.declared.extreme.Extreme.{Extreme}
+use Rattle.pc_agg_search.specs.declared.extreme.Extreme.TheVariants.{Low, High}
+use Rattle.pc_agg_search.specs.Ends.{signed}
+use Rattle.pc_agg_search.specs.Keys.{key_of, IsAtEnd}
 use Rattle.pc_proof.proofs.RowNumbers.{asked_small}
 
 signed_small : (extreme : Extreme) (n : ℤ) (most : ℕ) → nat_abs n ≤ most → nat_abs (signed extreme n) ≤ most

@@ -12,21 +12,21 @@ use Rattle.pc_model.specs.declared.tree.CutNode.{CutNode}
 use Rattle.pc_model.specs.Accepted.{AreConstraints}
 use Rattle.pc_model.specs.Cells.{Class, HasRowOf, IsSettledTree}
 use Rattle.pc_model.specs.WellFormed.{IsWellFormed}
-use Rattle.pc_class.proofs.Cells.{classes_of-differ}
-use Rattle.pc_class.proofs.SettledTrees.{classes_of_tree}
-use Rattle.pc_bound.specs.declared.program.Program.{Program}
-use Rattle.pc_bound.specs.Sums.{int_at}
-use Rattle.pc_bound.specs.Allocation.{IsProgram}
-use Rattle.pc_bound.specs.Allocation as allocations
-use Rattle.pc_bound.proofs.CellPlaces.{no_class, cell_inside, floor_is}
+use Rattle.pc_cells_laws.proofs.Cells.{classes_of-differ}
+use Rattle.pc_cells_laws.proofs.SettledTrees.{classes_of_tree}
+use Rattle.pc_program_bound.specs.declared.program.Program.{Program}
+use Rattle.pc_program_bound.specs.Sums.{int_at}
+use Rattle.pc_program_bound.specs.Allocation.{IsProgram}
+use Rattle.pc_program_bound.specs.Allocation as allocations
+use Rattle.pc_program_bound.proofs.CellPlaces.{no_class, cell_inside, floor_is}
 use Rattle.pc_proof.specs.Setting.{Setting, cells, leaves, on_chosen, program_for}
 use Rattle.pc_proof.specs.Table.{one}
-use Rattle.pc_ratio.specs.Fractional.{IsFractional}
-use Rattle.pc_search.specs.declared.extreme.Extreme.{Extreme}
-use Rattle.pc_search.specs.Keys.{key_of, IsAtEnd}
-use Rattle.pc_search.specs.Settings.{unseen}
-use Rattle.pc_search.specs.Wants.{most_chosen}
-use Rattle.pc_search.proofs.UnseenPrograms.{for_program}
+use Rattle.pc_avg_ratio.specs.Fractional.{IsFractional}
+use Rattle.pc_agg_search.specs.declared.extreme.Extreme.{Extreme}
+use Rattle.pc_agg_search.specs.Keys.{key_of, IsAtEnd}
+use Rattle.pc_agg_search.specs.Settings.{unseen}
+use Rattle.pc_agg_search.specs.Wants.{most_chosen}
+use Rattle.pc_agg_search.proofs.UnseenPrograms.{for_program}
 use Rattle.pc_avg.proofs.CellNumbers.{keys_small}
 use Rattle.pc_avg.proofs.FewRows.{few_rows, room}
 

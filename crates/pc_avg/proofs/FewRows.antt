@@ -12,17 +12,17 @@ use Rattle.pc_model.specs.declared.constraint.Constraint.{Constraint}
 use Rattle.pc_model.specs.Accepted.{AreConstraints, frequency_limit}
 use Rattle.pc_model.specs.Cells.{Class, HasRowOf}
 use Rattle.pc_model.specs.Places.{has_bit}
-use Rattle.pc_class.proofs.Masks.{later_bit}
-use Rattle.pc_bound.specs.declared.program.Program.{Program}
-use Rattle.pc_bound.specs.Sums.{sum_below, nat_at, int_at}
-use Rattle.pc_bound.specs.Allocation.{IsAllocation, cells_of, constraints_of, count_for, total, worth}
-use Rattle.pc_bound.specs.CellPrograms.{members, cap_of, program_with}
-use Rattle.pc_bound.proofs.CellPlaces.{no_class, no_constraint, cell_inside, constraint_inside, mask_is, cap_is, most_is}
-use Rattle.pc_bound.proofs.SumBelow.{sum_below-zero, sum_below-suc, sum_below-same, sum_below-zeros, sum_below-swap, sum_below_mono, sum_below-front}
-use Rattle.pc_ratio.specs.Fractional.{most_added, most_room}
-use Rattle.pc_search.proofs.CellPrograms.{cap_small}
-use Rattle.pc_search.proofs.ManyCells.{many_cells}
-use Rattle.pc_search.proofs.OneBits.{Differ}
+use Rattle.pc_cells_laws.proofs.Masks.{later_bit}
+use Rattle.pc_program_bound.specs.declared.program.Program.{Program}
+use Rattle.pc_program_bound.specs.Sums.{sum_below, nat_at, int_at}
+use Rattle.pc_program_bound.specs.Allocation.{IsAllocation, cells_of, constraints_of, count_for, total, worth}
+use Rattle.pc_program_bound.specs.CellPrograms.{members, cap_of, program_with}
+use Rattle.pc_program_bound.proofs.CellPlaces.{no_class, no_constraint, cell_inside, constraint_inside, mask_is, cap_is, most_is}
+use Rattle.pc_program_bound.proofs.SumBelow.{sum_below-zero, sum_below-suc, sum_below-same, sum_below-zeros, sum_below-swap, sum_below_mono, sum_below-front}
+use Rattle.pc_avg_ratio.specs.Fractional.{most_added, most_room}
+use Rattle.pc_agg_search.proofs.CellPrograms.{cap_small}
+use Rattle.pc_agg_search.proofs.ManyCells.{many_cells}
+use Rattle.pc_agg_search.proofs.OneBits.{Differ}
 
 sum_small : (n m : ℕ) (f : ℕ → ℤ) → ((i : ℕ) → i < n → f i ≤ℤ pos m) → sum_below n f ≤ℤ pos (n * m)
 sum_small zero m f each = rw (sum_below-zero f) (omega (arith, ints))

@@ -10,14 +10,14 @@ use Rattle.pc_model.specs.declared.constraint.Constraint.{Constraint}
 use Rattle.pc_model.specs.declared.query.Query.{Query}
 use Rattle.pc_model.specs.declared.tree.CutNode.{CutNode}
 use Rattle.pc_model.specs.Cells.{Class, leaves_in}
-use Rattle.pc_bound.proofs.CellPlaces.{no_class}
+use Rattle.pc_program_bound.proofs.CellPlaces.{no_class}
 use Rattle.pc_cells.specs.declared.cells.Cell.{Cell}
 use Rattle.pc_cells.specs.Found.{cells_of}
 use Rattle.pc_proof.specs.Setting.{Setting, cells, on_chosen}
-use Rattle.pc_search.specs.declared.extreme.Extreme.{Extreme}
-use Rattle.pc_search.specs.Keys.{key_of}
-use Rattle.pc_search.specs.Settings.{unseen}
-use Rattle.pc_search.specs.Targets.{cell_at}
+use Rattle.pc_agg_search.specs.declared.extreme.Extreme.{Extreme}
+use Rattle.pc_agg_search.specs.Keys.{key_of}
+use Rattle.pc_agg_search.specs.Settings.{unseen}
+use Rattle.pc_agg_search.specs.Targets.{cell_at}
 use Rattle.pc_agg.specs.Kept.{HasKey}
 use Rattle.pc_agg.proofs.Ladders.{long, class_is, key_is}
 use Rattle.pc_avg.specs.Outermost.{greater, IsGreatestKey}

@@ -9,12 +9,12 @@ use Rattle.pc_model.specs.declared.query.Agg.TheVariants.{Avg}
 use Rattle.pc_model.specs.Cells.{Class}
 use Rattle.pc_model.specs.Right.{always_has_value}
 use Rattle.pc_model.specs.Right as plain
-use Rattle.pc_bound.specs.declared.program.Program.{Program}
-use Rattle.pc_bound.specs.Allocation.{IsAllocation, cells_of, worth}
-use Rattle.pc_bound.specs.Sums.{nat_at, int_at}
-use Rattle.pc_bound.proofs.CellPlaces.{no_class}
-use Rattle.pc_bound.proofs.SumBelow.{sum_below-same, sum_below-scale}
-use Rattle.pc_tableau.proofs.Products.{minus_one-mul}
+use Rattle.pc_program_bound.specs.declared.program.Program.{Program}
+use Rattle.pc_program_bound.specs.Allocation.{IsAllocation, cells_of, worth}
+use Rattle.pc_program_bound.specs.Sums.{nat_at, int_at}
+use Rattle.pc_program_bound.proofs.CellPlaces.{no_class}
+use Rattle.pc_program_bound.proofs.SumBelow.{sum_below-same, sum_below-scale}
+use Rattle.pc_simplex_tableau.proofs.Products.{minus_one-mul}
 use Rattle.pc_proof.specs.declared.answer.Answer.{Answer}
 use Rattle.pc_proof.specs.declared.answer.Relation.{Relation}
 use Rattle.pc_proof.specs.declared.answer.Relation.TheVariants as relations
@@ -24,12 +24,12 @@ use Rattle.pc_proof.specs.Setting.{Setting, cells, on_chosen, program_for, seen_
 use Rattle.pc_proof.specs.Table.{one, minus_one}
 use Rattle.pc_proof.specs.Unbroken.{plain_relation, plain_lack}
 use Rattle.pc_proof.proofs.Parts.{All-front, All-back}
-use Rattle.pc_licence.specs.Licensed.{IsSpent, MayHave, MayGive, BothTotals, LicensedRelation, LicensedLack}
-use Rattle.pc_licence.specs.Pools.{ShownFrom, HoldsNone}
-use Rattle.pc_licence.specs.Shown.{runs_of_relation, runs_of_lack, shown_runs, counts_of_runs}
-use Rattle.pc_licence.specs.Wanted.{any, some, without, Has, LeavesOpen}
-use Rattle.pc_licence.proofs.Found.{shown-found}
-use Rattle.pc_search.specs.Wants.{most_chosen, fewest_chosen}
+use Rattle.pc_branch_licences.specs.Licensed.{IsSpent, MayHave, MayGive, BothTotals, LicensedRelation, LicensedLack}
+use Rattle.pc_branch_licences.specs.Pools.{ShownFrom, HoldsNone}
+use Rattle.pc_branch_licences.specs.Shown.{runs_of_relation, runs_of_lack, shown_runs, counts_of_runs}
+use Rattle.pc_branch_licences.specs.Wanted.{any, some, without, Has, LeavesOpen}
+use Rattle.pc_branch_licences.proofs.Found.{shown-found}
+use Rattle.pc_agg_search.specs.Wants.{most_chosen, fewest_chosen}
 use Rattle.pc_agg.specs.Owed.{OwesSettled, answer_of, HasEnds, IsGiving, MayGiveOne, LeavesLack}
 use Rattle.pc_agg.proofs.Owing.{IsRelationDone, IsLackDone}
 use Rattle.pc_avg.specs.Averages.{has_ends}

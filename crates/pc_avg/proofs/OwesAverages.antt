@@ -26,22 +26,22 @@ use Rattle.pc_proof.specs.declared.answer.Lack.{Lack}
 use Rattle.pc_proof.specs.Setting.{Setting}
 use Rattle.pc_proof.specs.Table.{ratio_of}
 use Rattle.pc_proof.specs.Unbroken.{HoldsMark, IsDecided, IsExact, plain_relation, plain_lack}
-use Rattle.pc_licence.specs.Licensed.{IfOuter, IsSettledLack}
-use Rattle.pc_licence.specs.Shown.{runs_of_mark, runs_of_relation, runs_of_lack, counts_of_runs}
-use Rattle.pc_search.specs.declared.extreme.Extreme.{Extreme}
-use Rattle.pc_search.specs.declared.extreme.Extreme.TheVariants.{Low, High}
-use Rattle.pc_search.specs.Asked.{Asking, setting_for}
-use Rattle.pc_search.specs.Ends.{HoldsEnd}
-use Rattle.pc_search.specs.Settings.{unseen}
+use Rattle.pc_branch_licences.specs.Licensed.{IfOuter, IsSettledLack}
+use Rattle.pc_branch_licences.specs.Shown.{runs_of_mark, runs_of_relation, runs_of_lack, counts_of_runs}
+use Rattle.pc_agg_search.specs.declared.extreme.Extreme.{Extreme}
+use Rattle.pc_agg_search.specs.declared.extreme.Extreme.TheVariants.{Low, High}
+use Rattle.pc_agg_search.specs.Asked.{Asking, setting_for}
+use Rattle.pc_agg_search.specs.Ends.{HoldsEnd}
+use Rattle.pc_agg_search.specs.Settings.{unseen}
 use Rattle.pc_agg.specs.Owed.{Owes, OwesSettled, HasEnds, IsGiving, answer_of}
 use Rattle.pc_agg.proofs.Ending.{IsEndDone}
 use Rattle.pc_agg.proofs.Owing.{owes_ends}
 use Rattle.pc_agg.proofs.Questions as questions
-use Rattle.pc_ratio.specs.declared.fractional.Fractional.{Fractional}
-use Rattle.pc_ratio.specs.declared.highest.Highest.{Highest}
-use Rattle.pc_ratio.specs.declared.highest.Highest.TheVariants.{Reached, Above}
-use Rattle.pc_ratio.specs.Fractional.{ratio_with}
-use Rattle.pc_ratio.specs.Highest.{IsHighest}
+use Rattle.pc_avg_ratio.specs.declared.fractional.Fractional.{Fractional}
+use Rattle.pc_avg_ratio.specs.declared.highest.Highest.{Highest}
+use Rattle.pc_avg_ratio.specs.declared.highest.Highest.TheVariants.{Reached, Above}
+use Rattle.pc_avg_ratio.specs.Fractional.{ratio_with}
+use Rattle.pc_avg_ratio.specs.Highest.{IsHighest}
 use Rattle.pc_avg.specs.declared.sides.Side.{Side}
 use Rattle.pc_avg.specs.Averages.{has_ends}
 use Rattle.pc_avg.specs.Ends.{end_of, IsUnvalued, IsSought, IsEndOver, IsEndIfAny, IsEndSurely}

@@ -6,23 +6,23 @@ use Rattle.std.proofs.lemmas.Slice.Zip.{AllZip-long}
 use Rattle.pc_model.specs.declared.query.Folded.{Folded}
 use Rattle.pc_model.specs.Aggregate.{Ratio}
 use Rattle.pc_model.specs.Cells.{Class}
-use Rattle.pc_bound.specs.declared.program.Program.{Program}
-use Rattle.pc_bound.specs.Sums.{int_at}
-use Rattle.pc_bound.specs.Allocation.{IsAllocation, cells_of}
-use Rattle.pc_bound.proofs.CellPlaces.{no_class, cell_inside}
+use Rattle.pc_program_bound.specs.declared.program.Program.{Program}
+use Rattle.pc_program_bound.specs.Sums.{int_at}
+use Rattle.pc_program_bound.specs.Allocation.{IsAllocation, cells_of}
+use Rattle.pc_program_bound.proofs.CellPlaces.{no_class, cell_inside}
 use Rattle.pc_proof.specs.declared.answer.End.{End}
 use Rattle.pc_proof.specs.Setting.{Setting, cells, on_chosen}
 use Rattle.pc_proof.specs.Table.{one}
-use Rattle.pc_licence.specs.Pools.{AreLawful}
-use Rattle.pc_search.specs.declared.extreme.Extreme.{Extreme}
-use Rattle.pc_search.specs.Keys.{key_of, IsAtEnd}
-use Rattle.pc_search.specs.Wants.{most_chosen}
-use Rattle.pc_ratio.specs.declared.highest.Highest.{Highest}
-use Rattle.pc_ratio.specs.declared.highest.Highest.TheVariants.{Reached, Above}
-use Rattle.pc_ratio.specs.Best.{HasNoRows, IsHighestOf}
-use Rattle.pc_ratio.specs.Fractional.{ratio_with, IsLawful}
-use Rattle.pc_ratio.specs.Fractional as fractional
-use Rattle.pc_ratio.specs.Highest.{IsHighest, IsSurely}
+use Rattle.pc_branch_licences.specs.Pools.{AreLawful}
+use Rattle.pc_agg_search.specs.declared.extreme.Extreme.{Extreme}
+use Rattle.pc_agg_search.specs.Keys.{key_of, IsAtEnd}
+use Rattle.pc_agg_search.specs.Wants.{most_chosen}
+use Rattle.pc_avg_ratio.specs.declared.highest.Highest.{Highest}
+use Rattle.pc_avg_ratio.specs.declared.highest.Highest.TheVariants.{Reached, Above}
+use Rattle.pc_avg_ratio.specs.Best.{HasNoRows, IsHighestOf}
+use Rattle.pc_avg_ratio.specs.Fractional.{ratio_with, IsLawful}
+use Rattle.pc_avg_ratio.specs.Fractional as fractional
+use Rattle.pc_avg_ratio.specs.Highest.{IsHighest, IsSurely}
 use Rattle.std.specs.Prelude.{slice_index_or}
 use Rattle.pc_avg.specs.declared.sides.Side.{Side}
 use Rattle.pc_avg.specs.Ends.{end_of, end_by_values, CanTurn, IsEndOver, IsEndSurely}

@@ -20,11 +20,11 @@ use Rattle.pc_model.specs.WellFormed.{IsWellFormed}
 use Rattle.pc_model.specs.Cells.{Class, class_of, IsRowOf, IsSettledTree}
 use Rattle.pc_model.specs.Right.{IsAttained, ArePossible, IsPossibleFor, value_for}
 use Rattle.pc_model.specs.Runs.{rows_of, runs_from}
-use Rattle.pc_bound.specs.declared.program.Program.{Program}
-use Rattle.pc_bound.specs.Allocation.{worth}
-use Rattle.pc_bound.proofs.Ring.{mul_mono}
-use Rattle.pc_counting.proofs.PossibleRows.{rows_are_allocation, rows_are_worth}
-use Rattle.pc_tableau.proofs.Products.{neg-mul}
+use Rattle.pc_program_bound.specs.declared.program.Program.{Program}
+use Rattle.pc_program_bound.specs.Allocation.{worth}
+use Rattle.pc_program_bound.proofs.Ring.{mul_mono}
+use Rattle.pc_proof.proofs.PossibleRows.{rows_are_allocation, rows_are_worth}
+use Rattle.pc_simplex_tableau.proofs.Products.{neg-mul}
 use Rattle.pc_witness.proofs.Zipped.{AllZip-weaker}
 use Rattle.pc_proof.specs.Setting.{Setting, region_of, cells, on_chosen, program_for, seen_count, seen_sum}
 use Rattle.pc_proof.specs.Table.{one}
@@ -34,22 +34,22 @@ use Rattle.pc_proof.proofs.Gains.{gains_of}
 use Rattle.pc_proof.proofs.Groups.{keeps_region}
 use Rattle.pc_proof.proofs.Kept.{kept_count, kept_sum, cell_of, count_is, between}
 use Rattle.pc_proof.proofs.Seen.{keeps, all_numbers, how_many, what_sum, int_sum-neg, int_sum_mono}
-use Rattle.pc_licence.specs.Picked.{AreOfCells}
-use Rattle.pc_licence.specs.Pools.{AreLawful}
-use Rattle.pc_licence.specs.Shown.{counts_of_runs}
-use Rattle.pc_licence.proofs.Picks.{each_made, made_worth}
-use Rattle.pc_search.specs.declared.extreme.Extreme.{Extreme}
-use Rattle.pc_search.specs.declared.extreme.Extreme.TheVariants.{Low, High}
-use Rattle.pc_search.specs.Asked.{Asking, asked_as, setting_for}
-use Rattle.pc_search.specs.Ends.{signed}
-use Rattle.pc_search.specs.Keys.{key_of, IsAtEnd}
-use Rattle.pc_search.specs.Settings.{unseen}
+use Rattle.pc_branch_licences.specs.Picked.{AreOfCells}
+use Rattle.pc_branch_licences.specs.Pools.{AreLawful}
+use Rattle.pc_branch_licences.specs.Shown.{counts_of_runs}
+use Rattle.pc_branch_licences.proofs.Picks.{each_made, made_worth}
+use Rattle.pc_agg_search.specs.declared.extreme.Extreme.{Extreme}
+use Rattle.pc_agg_search.specs.declared.extreme.Extreme.TheVariants.{Low, High}
+use Rattle.pc_agg_search.specs.Asked.{Asking, asked_as, setting_for}
+use Rattle.pc_agg_search.specs.Ends.{signed}
+use Rattle.pc_agg_search.specs.Keys.{key_of, IsAtEnd}
+use Rattle.pc_agg_search.specs.Settings.{unseen}
 use Rattle.pc_agg.specs.Settling.{AreRowsOfCells}
 use Rattle.pc_agg.proofs.Attained.{lawful_runs, counted_runs}
 use Rattle.pc_agg.proofs.Questions as questions
 use Rattle.pc_agg.proofs.StandMarks.{cells_of_picks}
-use Rattle.pc_ratio.specs.declared.fractional.Fractional.{Fractional}
-use Rattle.pc_ratio.specs.Fractional.{rows_with, sum_with}
+use Rattle.pc_avg_ratio.specs.declared.fractional.Fractional.{Fractional}
+use Rattle.pc_avg_ratio.specs.Fractional.{rows_with, sum_with}
 use Rattle.pc_avg.specs.declared.sides.Side.{Side}
 use Rattle.pc_avg.specs.Sides.{IsSide}
 use Rattle.pc_avg.proofs.SidePrograms.{turned_ratio, numbered, side_count, side_sum}

@@ -19,33 +19,33 @@ use Rattle.pc_model.specs.Aggregate.{Ratio, whole}
 use Rattle.pc_model.specs.Cells.{IsSettledTree}
 use Rattle.pc_model.specs.Right.{IsAttained}
 use Rattle.pc_model.specs.Runs.{runs_from}
-use Rattle.pc_bound.specs.declared.program.Program.{Program}
-use Rattle.pc_bound.specs.Allocation.{IsAllocation}
-use Rattle.pc_bound.specs.SplitTrees.{bound_by, tree_of}
-use Rattle.pc_bound.proofs.Ring.{mul_assoc, mul_mono}
+use Rattle.pc_program_bound.specs.declared.program.Program.{Program}
+use Rattle.pc_program_bound.specs.Allocation.{IsAllocation}
+use Rattle.pc_program_bound.specs.SplitTrees.{bound_by, tree_of}
+use Rattle.pc_program_bound.proofs.Ring.{mul_assoc, mul_mono}
 use Rattle.pc_branch.specs.Licence.{IsLicence}
 use Rattle.pc_branch.specs.Outcome.{splits_of}
-use Rattle.pc_short.proofs.Sizes.{size_of_product-le}
+use Rattle.pc_simplex_short.proofs.Sizes.{size_of_product-le}
 use Rattle.pc_proof.specs.declared.answer.Answer.{Answer}
 use Rattle.pc_proof.specs.declared.answer.End.{End}
 use Rattle.pc_proof.specs.declared.answer.Proof.TheVariants as proofs
 use Rattle.pc_proof.specs.Setting.{Setting, seen_sum}
 use Rattle.pc_proof.specs.Table.{ratio_of, bound_for, left_over, fewest, IsFormed, IsSound}
 use Rattle.pc_proof.specs.Unbroken.{HoldsMark, MayShow}
-use Rattle.pc_licence.specs.Licensed.{IfOuter, MayGive}
-use Rattle.pc_licence.specs.Pools.{AreLawful, ShownFrom}
-use Rattle.pc_licence.specs.Shown.{runs_of_mark, counts_of_runs}
-use Rattle.pc_search.specs.declared.extreme.Extreme.{Extreme}
-use Rattle.pc_search.specs.Asked.{Asking, setting_for}
-use Rattle.pc_search.specs.Ends.{signed}
-use Rattle.pc_search.specs.Fitting.{AreObserved, IsFitEnd}
-use Rattle.pc_search.specs.Settings.{unseen}
+use Rattle.pc_branch_licences.specs.Licensed.{IfOuter, MayGive}
+use Rattle.pc_branch_licences.specs.Pools.{AreLawful, ShownFrom}
+use Rattle.pc_branch_licences.specs.Shown.{runs_of_mark, counts_of_runs}
+use Rattle.pc_agg_search.specs.declared.extreme.Extreme.{Extreme}
+use Rattle.pc_agg_search.specs.Asked.{Asking, setting_for}
+use Rattle.pc_agg_search.specs.Ends.{signed}
+use Rattle.pc_agg_search.specs.Fitting.{AreObserved, IsFitEnd}
+use Rattle.pc_agg_search.specs.Settings.{unseen}
 use Rattle.pc_agg.proofs.Ending.{ShowsEnd, LicensedEnd, SearchedEnd, IsEndDone, within_limit}
-use Rattle.pc_ratio.specs.declared.fractional.Fractional.{Fractional}
-use Rattle.pc_ratio.specs.declared.highest.Highest.TheVariants.{Reached, Above}
-use Rattle.pc_ratio.specs.Fractional.{IsLawful, program_at, over_before, most_rows, most_sum}
-use Rattle.pc_ratio.specs.Highest.{IsTreeWithin, IsShown, IsReached, IsAbove, fewest_rows}
-use Rattle.pc_ratio.specs.Steps.{IsRatioOf}
+use Rattle.pc_avg_ratio.specs.declared.fractional.Fractional.{Fractional}
+use Rattle.pc_avg_ratio.specs.declared.highest.Highest.TheVariants.{Reached, Above}
+use Rattle.pc_avg_ratio.specs.Fractional.{IsLawful, program_at, over_before, most_rows, most_sum}
+use Rattle.pc_avg_ratio.specs.Highest.{IsTreeWithin, IsShown, IsReached, IsAbove, fewest_rows}
+use Rattle.pc_avg_ratio.specs.Steps.{IsRatioOf}
 use Rattle.pc_avg.specs.declared.sides.Side.{Side}
 use Rattle.pc_avg.specs.Ends.{turned, end_of, end_by_values}
 use Rattle.pc_avg.specs.Sides.{IsSide}

@@ -16,17 +16,17 @@ use Rattle.pc_model.specs.declared.query.Folded.{Folded}
 use Rattle.pc_model.specs.Accepted.{IsNumeric, IsColumnWhere}
 use Rattle.pc_model.specs.Aggregate.{asked}
 use Rattle.pc_model.specs.Cells.{Class}
-use Rattle.pc_tableau.proofs.Products.{neg-mul}
+use Rattle.pc_simplex_tableau.proofs.Products.{neg-mul}
 use Rattle.pc_proof.specs.Setting.{Setting, cells, seen_count, seen_sum, seen_least, seen_greatest, seen_numbers, low_in, high_in}
 use Rattle.pc_proof.specs.Setting.{seen as seen_rows}
 use Rattle.pc_proof.specs.Table.{greater_of, lesser_of, chosen_cells, greatest_number, least_number}
 use Rattle.pc_proof.proofs.Numbers.{least_keeps, greatest_keeps, each_under_greatest, each_over_least, All-kept, All-kept_back, all_from_least, all_from_greatest, sum_under, sum_over}
-use Rattle.pc_search.specs.declared.extreme.Extreme.{Extreme}
-use Rattle.pc_search.specs.declared.extreme.Extreme.TheVariants.{Low, High}
-use Rattle.pc_search.specs.Asked.{Asking, setting_for}
-use Rattle.pc_search.specs.Ends.{signed}
-use Rattle.pc_search.specs.Keys.{key_of}
-use Rattle.pc_search.specs.Settings.{unseen}
+use Rattle.pc_agg_search.specs.declared.extreme.Extreme.{Extreme}
+use Rattle.pc_agg_search.specs.declared.extreme.Extreme.TheVariants.{Low, High}
+use Rattle.pc_agg_search.specs.Asked.{Asking, setting_for}
+use Rattle.pc_agg_search.specs.Ends.{signed}
+use Rattle.pc_agg_search.specs.Keys.{key_of}
+use Rattle.pc_agg_search.specs.Settings.{unseen}
 use Rattle.pc_agg.specs.Owed.{CanGive}
 use Rattle.pc_agg.proofs.SeenNumbers.{least_is, greatest_is, observed_none}
 use Rattle.pc_avg.specs.declared.sides.Side.{Side}

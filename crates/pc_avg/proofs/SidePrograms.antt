@@ -13,27 +13,27 @@ use Rattle.pc_model.specs.Accepted.{IsNumeric, IsColumnWhere, Measures}
 use Rattle.pc_model.specs.Aggregate.{Ratio, asked, int_sum}
 use Rattle.pc_model.specs.Cells.{Class}
 use Rattle.pc_model.specs.Right.{Question}
-use Rattle.pc_bound.specs.declared.program.Program.{Program}
-use Rattle.pc_bound.specs.Sums.{int_at}
-use Rattle.pc_bound.specs.Allocation.{cells_of}
-use Rattle.pc_bound.proofs.CellPlaces.{no_class}
-use Rattle.pc_tableau.specs.Numbers.{table}
-use Rattle.pc_tableau.proofs.Products.{mul-neg, neg-mul}
+use Rattle.pc_program_bound.specs.declared.program.Program.{Program}
+use Rattle.pc_program_bound.specs.Sums.{int_at}
+use Rattle.pc_program_bound.specs.Allocation.{cells_of}
+use Rattle.pc_program_bound.proofs.CellPlaces.{no_class}
+use Rattle.pc_simplex_tableau.specs.Numbers.{table}
+use Rattle.pc_simplex_tableau.proofs.Products.{mul-neg, neg-mul}
 use Rattle.pc_proof.specs.Setting.{Setting, cells, low_in, on_chosen, program_for, seen_count, seen_sum}
 use Rattle.pc_proof.specs.Setting.{seen as seen_rows}
 use Rattle.pc_proof.specs.Table.{one, above_ratio, below_ratio, seen_above}
 use Rattle.pc_proof.proofs.Numbers.{none_from_length}
-use Rattle.pc_search.specs.declared.extreme.Extreme.{Extreme}
-use Rattle.pc_search.specs.declared.extreme.Extreme.TheVariants.{Low, High}
-use Rattle.pc_search.specs.Asked.{Asking, setting_for}
-use Rattle.pc_search.specs.Ends.{signed}
-use Rattle.pc_search.specs.Keys.{key_of}
-use Rattle.pc_search.specs.Settings.{unseen}
-use Rattle.pc_search.specs.Wants.{most_chosen}
-use Rattle.pc_search.proofs.ListedPrograms.{table_mapped}
+use Rattle.pc_agg_search.specs.declared.extreme.Extreme.{Extreme}
+use Rattle.pc_agg_search.specs.declared.extreme.Extreme.TheVariants.{Low, High}
+use Rattle.pc_agg_search.specs.Asked.{Asking, setting_for}
+use Rattle.pc_agg_search.specs.Ends.{signed}
+use Rattle.pc_agg_search.specs.Keys.{key_of}
+use Rattle.pc_agg_search.specs.Settings.{unseen}
+use Rattle.pc_agg_search.specs.Wants.{most_chosen}
+use Rattle.pc_agg_search.proofs.ListedPrograms.{table_mapped}
 use Rattle.pc_agg.proofs.Ending as ending
-use Rattle.pc_ratio.specs.declared.fractional.Fractional.{Fractional}
-use Rattle.pc_ratio.specs.Fractional.{gain_over, program_at, over_before}
+use Rattle.pc_avg_ratio.specs.declared.fractional.Fractional.{Fractional}
+use Rattle.pc_avg_ratio.specs.Fractional.{gain_over, program_at, over_before}
 use Rattle.pc_avg.specs.declared.sides.Side.{Side}
 use Rattle.pc_avg.specs.Sides.{IsSide}
 

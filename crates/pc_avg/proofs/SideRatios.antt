@@ -6,15 +6,15 @@ use lib.IntN.{*ℤ_comm}
 use Rattle.std.proofs.lemmas.Int.{ints, clamps, by_lt_z}
 use Rattle.pc_model.specs.declared.tree.Tree.{Tree}
 use Rattle.pc_model.specs.Aggregate.{Ratio, whole, IsAtMost, IsSame}
-use Rattle.pc_bound.specs.declared.program.Program.{Program}
-use Rattle.pc_bound.proofs.Ring.{mul-add, mul_assoc, mul_mono}
-use Rattle.pc_tableau.proofs.Products.{neg-mul}
+use Rattle.pc_program_bound.specs.declared.program.Program.{Program}
+use Rattle.pc_program_bound.proofs.Ring.{mul-add, mul_assoc, mul_mono}
+use Rattle.pc_simplex_tableau.proofs.Products.{neg-mul}
 use Rattle.pc_proof.specs.Table.{limit, bound_for, left_over, Shows}
 use Rattle.pc_proof.proofs.Fractions.{mul_above}
-use Rattle.pc_search.specs.declared.extreme.Extreme.{Extreme}
-use Rattle.pc_search.specs.declared.extreme.Extreme.TheVariants.{Low, High}
-use Rattle.pc_ratio.specs.Highest.{IsTreeWithin}
-use Rattle.pc_ratio.specs.Highest as highest
+use Rattle.pc_agg_search.specs.declared.extreme.Extreme.{Extreme}
+use Rattle.pc_agg_search.specs.declared.extreme.Extreme.TheVariants.{Low, High}
+use Rattle.pc_avg_ratio.specs.Highest.{IsTreeWithin}
+use Rattle.pc_avg_ratio.specs.Highest as highest
 use Rattle.pc_avg.proofs.SidePrograms.{turned_ratio}
 
 -- ---- turned ratios

@@ -10,12 +10,12 @@ use Rattle.pc_model.specs.declared.query.Folded.{Folded}
 use Rattle.pc_model.specs.Aggregate.{Ratio}
 use Rattle.pc_proof.specs.declared.answer.End.{End}
 use Rattle.pc_proof.specs.Setting.{Setting}
-use Rattle.pc_search.specs.declared.extreme.Extreme.{Extreme}
-use Rattle.pc_search.specs.declared.extreme.Extreme.TheVariants.{Low, High}
-use Rattle.pc_search.specs.Ends.{signed}
-use Rattle.pc_ratio.specs.declared.highest.Highest.{Highest}
-use Rattle.pc_ratio.specs.declared.highest.Highest.TheVariants.{Reached, Above}
-use Rattle.pc_ratio.specs.Highest.{IsHighest}
+use Rattle.pc_agg_search.specs.declared.extreme.Extreme.{Extreme}
+use Rattle.pc_agg_search.specs.declared.extreme.Extreme.TheVariants.{Low, High}
+use Rattle.pc_agg_search.specs.Ends.{signed}
+use Rattle.pc_avg_ratio.specs.declared.highest.Highest.{Highest}
+use Rattle.pc_avg_ratio.specs.declared.highest.Highest.TheVariants.{Reached, Above}
+use Rattle.pc_avg_ratio.specs.Highest.{IsHighest}
 use Rattle.pc_avg.specs.declared.sides.Side.{Side}
 use Rattle.pc_avg.specs.Averages.{IsShortEnd}
 use Rattle.pc_avg.specs.Ends.{turned, end_of, IsUnvalued, IsSought, IsEndOver}

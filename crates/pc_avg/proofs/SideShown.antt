@@ -19,8 +19,8 @@ use Rattle.pc_model.specs.Aggregate.{Ratio, IsAtMost, IsSame, int_sum, value_of}
 use Rattle.pc_model.specs.Cells.{IsSettledTree}
 use Rattle.pc_model.specs.Right.{Question, IsAttained}
 use Rattle.pc_model.specs.Runs.{rows_of, runs_from}
-use Rattle.pc_bound.specs.declared.program.Program.{Program}
-use Rattle.pc_bound.specs.Allocation.{worth}
+use Rattle.pc_program_bound.specs.declared.program.Program.{Program}
+use Rattle.pc_program_bound.specs.Allocation.{worth}
 use Rattle.pc_proof.specs.declared.answer.End.{End}
 use Rattle.pc_proof.specs.declared.answer.Mark.{Mark}
 use Rattle.pc_proof.specs.declared.answer.Mark.TheVariants as marks
@@ -31,20 +31,20 @@ use Rattle.pc_proof.specs.Unbroken.{IsExact}
 use Rattle.pc_proof.proofs.Fractions.{at_most_trans}
 use Rattle.pc_proof.proofs.Seen.{all_numbers}
 use Rattle.pc_proof.proofs.Shown.{high_holds, low_holds}
-use Rattle.pc_licence.specs.Licensed.{IfOuter}
-use Rattle.pc_licence.specs.Shown.{runs_of_mark, counts_of_runs}
-use Rattle.pc_search.specs.declared.extreme.Extreme.{Extreme}
-use Rattle.pc_search.specs.declared.extreme.Extreme.TheVariants.{Low, High}
-use Rattle.pc_search.specs.Asked.{Asking, setting_for}
-use Rattle.pc_search.specs.Settings.{unseen}
-use Rattle.pc_search.specs.Wants.{most_chosen}
+use Rattle.pc_branch_licences.specs.Licensed.{IfOuter}
+use Rattle.pc_branch_licences.specs.Shown.{runs_of_mark, counts_of_runs}
+use Rattle.pc_agg_search.specs.declared.extreme.Extreme.{Extreme}
+use Rattle.pc_agg_search.specs.declared.extreme.Extreme.TheVariants.{Low, High}
+use Rattle.pc_agg_search.specs.Asked.{Asking, setting_for}
+use Rattle.pc_agg_search.specs.Settings.{unseen}
+use Rattle.pc_agg_search.specs.Wants.{most_chosen}
 use Rattle.pc_agg.specs.Owed.{IsGiving}
 use Rattle.pc_agg.proofs.Ending.{IsEndDone}
 use Rattle.pc_agg.proofs.Questions as questions
-use Rattle.pc_ratio.specs.declared.fractional.Fractional.{Fractional}
-use Rattle.pc_ratio.specs.Best.{HasNoRows, IsNoHigher, IsHighestOf}
-use Rattle.pc_ratio.specs.Fractional.{rows_with, ratio_with, over_before}
-use Rattle.pc_ratio.specs.Highest.{IsAbove, fewest_rows}
+use Rattle.pc_avg_ratio.specs.declared.fractional.Fractional.{Fractional}
+use Rattle.pc_avg_ratio.specs.Best.{HasNoRows, IsNoHigher, IsHighestOf}
+use Rattle.pc_avg_ratio.specs.Fractional.{rows_with, ratio_with, over_before}
+use Rattle.pc_avg_ratio.specs.Highest.{IsAbove, fewest_rows}
 use Rattle.pc_avg.specs.declared.sides.Side.{Side}
 use Rattle.pc_avg.specs.Ends.{IsEndSurely}
 use Rattle.pc_avg.specs.Sides.{IsSide}

@@ -9,25 +9,25 @@ use Rattle.pc_model.specs.declared.query.Agg.TheVariants.{Avg}
 use Rattle.pc_model.specs.declared.tree.Tree.{Tree}
 use Rattle.pc_model.specs.Aggregate.{Ratio, whole, IsAtMost, IsSame}
 use Rattle.pc_model.specs.Right.{IsAttained}
-use Rattle.pc_tableau.proofs.Products.{neg-mul}
+use Rattle.pc_simplex_tableau.proofs.Products.{neg-mul}
 use Rattle.pc_branch.specs.Licence.{Splits, leaf, split, IsLicence}
-use Rattle.pc_bound.specs.declared.program.Program.{Program}
-use Rattle.pc_bound.specs.SplitTrees.{less_caps, more_floors}
+use Rattle.pc_program_bound.specs.declared.program.Program.{Program}
+use Rattle.pc_program_bound.specs.SplitTrees.{less_caps, more_floors}
 use Rattle.pc_proof.specs.declared.answer.Answer.{Answer}
 use Rattle.pc_proof.specs.declared.answer.End.{End}
 use Rattle.pc_proof.specs.declared.answer.Proof.TheVariants as proofs
 use Rattle.pc_proof.specs.Setting.{Setting}
 use Rattle.pc_proof.specs.Table.{ratio_of, bound_for, left_over, seen_above, fewest, raised_by, lowered_by, high_program, low_program, IsSound, ShowsHigh, ShowsLow}
 use Rattle.pc_proof.specs.Unbroken.{HoldsMark, MayShow}
-use Rattle.pc_licence.specs.Licensed.{IsSpent, MayGive}
-use Rattle.pc_licence.specs.Wanted.{nothing, EndsInNone}
-use Rattle.pc_search.specs.declared.extreme.Extreme.{Extreme}
-use Rattle.pc_search.specs.declared.extreme.Extreme.TheVariants.{Low, High}
-use Rattle.pc_search.specs.Ends.{signed, HoldsEnd}
+use Rattle.pc_branch_licences.specs.Licensed.{IsSpent, MayGive}
+use Rattle.pc_branch_licences.specs.Wanted.{nothing, EndsInNone}
+use Rattle.pc_agg_search.specs.declared.extreme.Extreme.{Extreme}
+use Rattle.pc_agg_search.specs.declared.extreme.Extreme.TheVariants.{Low, High}
+use Rattle.pc_agg_search.specs.Ends.{signed, HoldsEnd}
 use Rattle.pc_agg.proofs.Ending.{ShowsEnd, LicensedEnd, SearchedEnd}
 use Rattle.pc_agg.proofs.Ending as ending
-use Rattle.pc_ratio.specs.Highest.{IsTreeWithin}
-use Rattle.pc_ratio.specs.Highest as highest
+use Rattle.pc_avg_ratio.specs.Highest.{IsTreeWithin}
+use Rattle.pc_avg_ratio.specs.Highest as highest
 use Rattle.pc_avg.proofs.SideNumbers.{outermost_number}
 use Rattle.pc_avg.proofs.SidePrograms.{turned_ratio, seen_over}
 use Rattle.pc_avg.proofs.SideRatios.{same_turns, most_turns, shows_within}

@@ -10,13 +10,13 @@ use Rattle.pc_proof.specs.declared.answer.Mark.{Mark}
 use Rattle.pc_proof.specs.declared.answer.Mark.TheVariants as marks
 use Rattle.pc_proof.specs.declared.answer.Proof.TheVariants as proofs
 use Rattle.pc_proof.specs.Setting.{Setting}
-use Rattle.pc_search.specs.declared.extreme.Extreme.{Extreme}
-use Rattle.pc_search.specs.Ends.{signed}
-use Rattle.pc_ratio.specs.declared.highest.Highest.{Highest}
-use Rattle.pc_ratio.specs.declared.highest.Highest.TheVariants.{Reached, Above}
-use Rattle.pc_ratio.specs.Best.{HasNoRows, IsHighestOf}
-use Rattle.pc_ratio.specs.Fractional.{ratio_with}
-use Rattle.pc_ratio.specs.Highest.{IsHighest}
+use Rattle.pc_agg_search.specs.declared.extreme.Extreme.{Extreme}
+use Rattle.pc_agg_search.specs.Ends.{signed}
+use Rattle.pc_avg_ratio.specs.declared.highest.Highest.{Highest}
+use Rattle.pc_avg_ratio.specs.declared.highest.Highest.TheVariants.{Reached, Above}
+use Rattle.pc_avg_ratio.specs.Best.{HasNoRows, IsHighestOf}
+use Rattle.pc_avg_ratio.specs.Fractional.{ratio_with}
+use Rattle.pc_avg_ratio.specs.Highest.{IsHighest}
 use Rattle.pc_avg.specs.declared.sides.Side.{Side}
 use Rattle.pc_avg.specs.Sides.{IsSide}
 

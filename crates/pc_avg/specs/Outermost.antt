@@ -2,7 +2,7 @@
 use Rattle.std.specs.Prelude.{◌≡◌, ℕ, ◌<◌, ◌⊎◌, ℤ, pos, ◌≤ℤ◌, true, List, Option, Some, None, IfSome, slice_index_or}
 use Rattle.std.specs.Int.{int_max}
 use Rattle.pc_cells.specs.declared.cells.Cell.{Cell}
-use Rattle.pc_search.specs.Targets.{cell_at}
+use Rattle.pc_agg_search.specs.Targets.{cell_at}
 use Rattle.pc_agg.specs.Kept.{HasKey}
 
 abbrev pub greater : Option ℤ → ℤ → Option ℤ

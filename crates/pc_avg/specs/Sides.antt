@@ -4,12 +4,12 @@ use Rattle.std.specs.List.{AllZip}
 use Rattle.pc_model.specs.declared.query.Folded.{Folded}
 use Rattle.pc_model.specs.Cells.{Class}
 use Rattle.pc_proof.specs.Setting.{Setting, cells, on_chosen, program_for}
-use Rattle.pc_search.specs.declared.extreme.Extreme.{Extreme}
-use Rattle.pc_search.specs.declared.extreme.Extreme.TheVariants.{Low, High}
-use Rattle.pc_search.specs.Ends.{signed}
-use Rattle.pc_search.specs.Keys.{key_of, IsAtEnd}
-use Rattle.pc_search.specs.Wants.{most_chosen}
-use Rattle.pc_ratio.specs.Fractional.{IsFractional}
+use Rattle.pc_agg_search.specs.declared.extreme.Extreme.{Extreme}
+use Rattle.pc_agg_search.specs.declared.extreme.Extreme.TheVariants.{Low, High}
+use Rattle.pc_agg_search.specs.Ends.{signed}
+use Rattle.pc_agg_search.specs.Keys.{key_of, IsAtEnd}
+use Rattle.pc_agg_search.specs.Wants.{most_chosen}
+use Rattle.pc_avg_ratio.specs.Fractional.{IsFractional}
 use Rattle.pc_avg.specs.declared.sides.Side.{Side}
 
 -- the outermost number of the observed rows at an end, turned at a low end

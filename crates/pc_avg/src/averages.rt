@@ -1,19 +1,19 @@
 ghost use Rattle.std.specs.Prelude.{◌≡◌, ◌≤◌, ◌*◌, ◌^◌, nat_abs, All, IfOk};
 ghost use Rattle.pc_model.specs.declared.query.Agg.TheVariants as aggs;
-ghost use Rattle.pc_licence.specs.Pools.{AreLawful};
+ghost use Rattle.pc_branch_licences.specs.Pools.{AreLawful};
 ghost use Rattle.pc_agg.specs.Owed.{Owes, OwesSettled, answer_of};
-ghost use Rattle.pc_search.specs.Asked.{AreAsked, Asking, setting_for};
-ghost use Rattle.pc_search.specs.Settings.{unseen};
+ghost use Rattle.pc_agg_search.specs.Asked.{AreAsked, Asking, setting_for};
+ghost use Rattle.pc_agg_search.specs.Settings.{unseen};
 ghost use Rattle.pc_avg.specs.Averages.{both, has_ends, HasShortEnds};
 
 use crate::copies::{copied_lack, copied_relation};
 use crate::ends::search_end;
 use pc_agg::Settled;
+use pc_agg_search::Extreme;
 use pc_cells::Cells;
 use pc_model::{Constraint, Folded, Query, Schema};
 use pc_num::Memory;
 use pc_proof::{Answer, End, Lack, Relation};
-use pc_search::Extreme;
 use std::alloc::Global;
 
 /// The range of the average of a column over the rows that the query chooses, where those observed come to `seen`, from what

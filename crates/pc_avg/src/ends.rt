@@ -3,20 +3,20 @@ ghost use Rattle.pc_model.specs.Accepted.{AreConstraints, IsNumeric, IsColumnWhe
 ghost use Rattle.pc_model.specs.Membership.{AreDisjoint};
 ghost use Rattle.pc_model.specs.WellFormed.{IsWellFormed};
 ghost use Rattle.pc_num.specs.Signs.{Fits};
-ghost use Rattle.pc_licence.specs.Pools.{AreLawful};
-ghost use Rattle.pc_search.specs.Asked.{AreCells};
-ghost use Rattle.pc_search.specs.Ends.{signed};
-ghost use Rattle.pc_search.specs.Settings.{unseen};
+ghost use Rattle.pc_branch_licences.specs.Pools.{AreLawful};
+ghost use Rattle.pc_agg_search.specs.Asked.{AreCells};
+ghost use Rattle.pc_agg_search.specs.Ends.{signed};
+ghost use Rattle.pc_agg_search.specs.Settings.{unseen};
 ghost use Rattle.pc_avg.specs.Ends.{end_by_values, end_of, turned, CanTurn, IsEndIfAny, IsEndSurely};
 
 use crate::sides::side_of;
+use pc_agg_search::Extreme;
+use pc_avg_ratio::{Highest, greatest_ratio, highest_of};
 use pc_cells::Cells;
 use pc_list::Seq;
 use pc_model::{Constraint, Folded, Query, Row, Schema};
 use pc_num::{Frac, Memory};
 use pc_proof::{End, Mark, Proof};
-use pc_ratio::{Highest, greatest_ratio, highest_of};
-use pc_search::Extreme;
 use pc_witness::rebuild;
 use std::alloc::Global;
 

@@ -6,19 +6,19 @@ ghost use Rattle.pc_model.specs.Membership.{AreDisjoint};
 ghost use Rattle.pc_model.specs.WellFormed.{IsWellFormed};
 ghost use Rattle.pc_program.specs.Settled.{HasOneBits};
 ghost use Rattle.pc_proof.specs.Setting.{on_chosen, program_for};
-ghost use Rattle.pc_ratio.specs.Fractional.{IsFractional};
-ghost use Rattle.pc_search.specs.Asked.{AreCells};
-ghost use Rattle.pc_search.specs.Ends.{signed};
-ghost use Rattle.pc_search.specs.Keys.{key_of, IsAtEnd};
-ghost use Rattle.pc_search.specs.Settings.{unseen};
-ghost use Rattle.pc_search.specs.Wants.{most_chosen};
+ghost use Rattle.pc_avg_ratio.specs.Fractional.{IsFractional};
+ghost use Rattle.pc_agg_search.specs.Asked.{AreCells};
+ghost use Rattle.pc_agg_search.specs.Ends.{signed};
+ghost use Rattle.pc_agg_search.specs.Keys.{key_of, IsAtEnd};
+ghost use Rattle.pc_agg_search.specs.Settings.{unseen};
+ghost use Rattle.pc_agg_search.specs.Wants.{most_chosen};
 
+use pc_agg_search::{Extreme, chosen_program, gained_program};
+use pc_avg_ratio::Fractional;
 use pc_cells::Cells;
 use pc_list::Seq;
 use pc_model::{Constraint, Folded, Query, Row, Schema};
 use pc_num::Memory;
-use pc_ratio::Fractional;
-use pc_search::{Extreme, chosen_program, gained_program};
 use std::alloc::Global;
 
 /// The sum of the numbers of the chosen rows to how many they are, over the observed rows.

@@ -2,15 +2,15 @@ ghost use Rattle.std.specs.Prelude.{◌≡◌, ◌≤◌, ◌^◌, nat_abs, cond
 ghost use Rattle.pc_model.specs.Cells.{classes_of, leaves_in};
 ghost use Rattle.pc_model.specs.WellFormed.{IsWellFormed};
 ghost use Rattle.pc_proof.specs.Setting.{on_chosen};
-ghost use Rattle.pc_search.specs.Asked.{AreCells};
-ghost use Rattle.pc_search.specs.Keys.{key_of};
-ghost use Rattle.pc_search.specs.Settings.{unseen};
+ghost use Rattle.pc_agg_search.specs.Asked.{AreCells};
+ghost use Rattle.pc_agg_search.specs.Keys.{key_of};
+ghost use Rattle.pc_agg_search.specs.Settings.{unseen};
 ghost use Rattle.pc_avg.specs.Outermost.{greater, IsGreatestKey};
 ghost use Rattle.pc_avg.specs.Sides.{observed_key, IsOutermost};
 
+use pc_agg_search::Extreme;
 use pc_cells::{Cell, Cells};
 use pc_model::{Constraint, Folded, Query, Schema};
-use pc_search::Extreme;
 
 /// The greatest key of a chosen cell or of an observed row.
 pub(crate) fn outermost_of(

@@ -3,18 +3,18 @@ ghost use Rattle.pc_model.specs.Accepted.{AreConstraints, IsNumeric, IsColumnWhe
 ghost use Rattle.pc_model.specs.Membership.{AreDisjoint};
 ghost use Rattle.pc_model.specs.WellFormed.{IsWellFormed};
 ghost use Rattle.pc_program.specs.Settled.{HasOneBits};
-ghost use Rattle.pc_search.specs.Asked.{AreCells};
-ghost use Rattle.pc_search.specs.Settings.{unseen};
+ghost use Rattle.pc_agg_search.specs.Asked.{AreCells};
+ghost use Rattle.pc_agg_search.specs.Settings.{unseen};
 ghost use Rattle.pc_avg.specs.Sides.{IsSide};
 
 use crate::fractions::fraction_of;
 use crate::outermost::outermost_of;
+use pc_agg_search::{Extreme, Targets, find_keys};
+use pc_avg_ratio::Fractional;
 use pc_cells::Cells;
 use pc_list::Seq;
 use pc_model::{Constraint, Folded, Query, Row, Schema};
 use pc_num::Memory;
-use pc_ratio::Fractional;
-use pc_search::{Extreme, Targets, find_keys};
 use std::alloc::Global;
 
 /// What an end of an average is sought over. All numbers of a low end are turned, so that it is the greatest too.

@@ -4,7 +4,7 @@ use Rattle.std.specs.Prelude.{pos}
 use Rattle.std.proofs.lemmas.Bool.{cases_lt}
 use Rattle.std.proofs.lemmas.List.{get_or_past}
 use Rattle.pc_num.specs.declared.Frac.{Frac}
-use Rattle.pc_tableau.specs.Point.{no_count}
+use Rattle.pc_simplex_tableau.specs.Point.{no_count}
 use Rattle.pc_simplex.specs.Vertices.{count_at}
 use Rattle.pc_branch.specs.Licence.{IsWhole}
 

@@ -8,12 +8,12 @@ use Rattle.std.proofs.lemmas.List.{get_or_past}
 use Rattle.std.proofs.Math.Nat.{mul-le-mul}
 use Rattle.pc_num.specs.declared.Frac.{Frac}
 use Rattle.pc_model.specs.declared.tree.Mult.{Mult}
-use Rattle.pc_bound.specs.declared.program.Program.{Program}
-use Rattle.pc_bound.specs.Sums.{nat_at}
-use Rattle.pc_bound.specs.Allocation.{IsProgram, IsBox, cells_of}
-use Rattle.pc_bound.specs.Bound.{bound_of}
-use Rattle.pc_bound.specs.SplitTrees.{less_caps, more_floors}
-use Rattle.pc_tableau.specs.Point.{vertex, no_count, IsRelaxation}
+use Rattle.pc_program_bound.specs.declared.program.Program.{Program}
+use Rattle.pc_program_bound.specs.Sums.{nat_at}
+use Rattle.pc_program_bound.specs.Allocation.{IsProgram, IsBox, cells_of}
+use Rattle.pc_program_bound.specs.Bound.{bound_of}
+use Rattle.pc_program_bound.specs.SplitTrees.{less_caps, more_floors}
+use Rattle.pc_simplex_tableau.specs.Point.{vertex, no_count, IsRelaxation}
 use Rattle.pc_simplex.specs.Vertices.{count_at, IsVertex}
 use Rattle.pc_simplex.proofs.Vertices.{IsVertex-point}
 use Rattle.pc_branch.specs.Licence.{Splits, leaf, split, nodes_of, IsWhole, AreSplitNodes, fractional, too_wide, too_long, HasOpen, first_bound, IsLicence, choices}

@@ -1,10 +1,10 @@
 -- A search with one node in hand is divided once that node is split.
 use Rattle.std.proofs.Common.{◌≡◌, ◌<◌, ◌≤◌, ℕ, ◌+◌, [], ◌∷◌, length, Option, Result, Ok, Err, IfOk, refl, sym, ◌∙◌, arith}
 use Rattle.pc_num.specs.declared.memory.Memory.{Memory}
-use Rattle.pc_bound.specs.declared.program.Program.{Program}
-use Rattle.pc_bound.specs.Allocation.{IsProgram}
-use Rattle.pc_bound.specs.Bound.{HasFitWidth}
-use Rattle.pc_bound.specs.SplitTrees.{less_caps, more_floors}
+use Rattle.pc_program_bound.specs.declared.program.Program.{Program}
+use Rattle.pc_program_bound.specs.Allocation.{IsProgram}
+use Rattle.pc_program_bound.specs.Bound.{HasFitWidth}
+use Rattle.pc_program_bound.specs.SplitTrees.{less_caps, more_floors}
 use Rattle.pc_frontier.specs.Boxes.{divided}
 use Rattle.pc_frontier.proofs.Trees.{splits_divide}
 use Rattle.pc_frontier.proofs.Boxed.{trees_boxed}

@@ -1,9 +1,9 @@
 -- Another allocation in the place of what was found.
 use Rattle.std.proofs.Common.{ℕ, List, Option, Some, MatchOption}
 use Rattle.std.specs.Prelude.{ℤ, ◌≤ℤ◌}
-use Rattle.pc_bound.specs.declared.program.Program.{Program}
-use Rattle.pc_bound.specs.Allocation.{IsProgram, IsAllocation, worth}
-use Rattle.pc_bound.specs.Bound.{HasFitWidth}
+use Rattle.pc_program_bound.specs.declared.program.Program.{Program}
+use Rattle.pc_program_bound.specs.Allocation.{IsProgram, IsAllocation, worth}
+use Rattle.pc_program_bound.specs.Bound.{HasFitWidth}
 use Rattle.pc_frontier.specs.Frontier.{Seen, node_at}
 use Rattle.pc_branch.specs.Licence.{no_multipliers}
 use Rattle.pc_branch.specs.declared.visited.Visited.{Visited}

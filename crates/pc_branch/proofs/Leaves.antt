@@ -4,11 +4,11 @@ use Rattle.std.specs.Prelude.{ℤ, pos, ◌≤ℤ◌}
 use Rattle.std.proofs.lemmas.Int.{ints}
 use Rattle.std.proofs.lemmas.List.{length-replicate}
 use Rattle.pc_model.specs.declared.tree.Mult.{Mult}
-use Rattle.pc_bound.specs.declared.program.Program.{Program}
-use Rattle.pc_bound.specs.Sums.{nat_at}
-use Rattle.pc_bound.specs.Allocation.{IsBox, IsProgram, constraints_of}
-use Rattle.pc_bound.specs.Bound.{bound_of, IsMultiplier, HasFitWidth}
-use Rattle.pc_bound.specs.SplitTrees.{less_caps, more_floors}
+use Rattle.pc_program_bound.specs.declared.program.Program.{Program}
+use Rattle.pc_program_bound.specs.Sums.{nat_at}
+use Rattle.pc_program_bound.specs.Allocation.{IsBox, IsProgram, constraints_of}
+use Rattle.pc_program_bound.specs.Bound.{bound_of, IsMultiplier, HasFitWidth}
+use Rattle.pc_program_bound.specs.SplitTrees.{less_caps, more_floors}
 use Rattle.pc_simplex.proofs.Vertices.{IsVertex-point}
 use Rattle.pc_frontier.specs.declared.node.State.{State}
 use Rattle.pc_frontier.specs.declared.node.State.TheVariants as states

@@ -3,11 +3,11 @@ use Rattle.std.proofs.Common.{◌≡◌, ℕ, ◌+◌, ◌<◌, List, Option, So
 use Rattle.std.specs.Prelude.{ℤ, ◌≤ℤ◌, ◌<ℤ◌}
 use Rattle.pc_num.specs.declared.Frac.{Frac}
 use Rattle.pc_model.specs.declared.tree.Mult.{Mult}
-use Rattle.pc_bound.specs.declared.program.Program.{Program}
-use Rattle.pc_bound.specs.Allocation.{IsBox, IsProgram, IsAllocation, worth}
-use Rattle.pc_bound.specs.Bound.{bound_of, HasFitWidth}
-use Rattle.pc_bound.specs.SplitTrees.{less_caps, more_floors}
-use Rattle.pc_tableau.specs.Point.{Relaxation, vertex, void, wide, stalled, IsRelaxation}
+use Rattle.pc_program_bound.specs.declared.program.Program.{Program}
+use Rattle.pc_program_bound.specs.Allocation.{IsBox, IsProgram, IsAllocation, worth}
+use Rattle.pc_program_bound.specs.Bound.{bound_of, HasFitWidth}
+use Rattle.pc_program_bound.specs.SplitTrees.{less_caps, more_floors}
+use Rattle.pc_simplex_tableau.specs.Point.{Relaxation, vertex, void, wide, stalled, IsRelaxation}
 use Rattle.pc_simplex.proofs.Vertices.{one_relaxation}
 use Rattle.pc_frontier.specs.Frontier.{Seen}
 use Rattle.pc_frontier.specs.Boxes.{Grown, leaf, split, IsLeaf, HasLeaf}

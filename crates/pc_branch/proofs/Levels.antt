@@ -3,11 +3,11 @@ use Rattle.std.proofs.Common.{◌≡◌, ℕ, List, Option, Some, None, refl, sy
 use Rattle.std.specs.Prelude.{ℤ, ◌≤ℤ◌}
 use Rattle.std.proofs.lemmas.Int.{ints, clamps}
 use Rattle.pc_model.specs.declared.tree.Mult.{Mult}
-use Rattle.pc_bound.specs.declared.program.Program.{Program}
-use Rattle.pc_bound.specs.Allocation.{IsProgram, IsAllocation, worth}
-use Rattle.pc_bound.specs.Bound.{bound_of, HasFitWidth}
-use Rattle.pc_bound.specs.SplitTrees.{less_caps, more_floors, greater, bound_by, IsWithin}
-use Rattle.pc_bound.proofs.TreeBounds.{tree-bounds}
+use Rattle.pc_program_bound.specs.declared.program.Program.{Program}
+use Rattle.pc_program_bound.specs.Allocation.{IsProgram, IsAllocation, worth}
+use Rattle.pc_program_bound.specs.Bound.{bound_of, HasFitWidth}
+use Rattle.pc_program_bound.specs.SplitTrees.{less_caps, more_floors, greater, bound_by, IsWithin}
+use Rattle.pc_program_bound.proofs.TreeBounds.{tree-bounds}
 use Rattle.pc_frontier.specs.Frontier.{Seen}
 use Rattle.pc_frontier.specs.Boxes.{Grown, leaf, split, IsLeaf}
 use Rattle.pc_branch.specs.Licence.{no_multipliers}

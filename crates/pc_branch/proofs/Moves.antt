@@ -5,9 +5,9 @@ use Rattle.std.specs.Bool.{⊤}
 use Rattle.std.specs.Int.{int_max}
 use Rattle.std.proofs.lemmas.Int.{ints, clamps, by_lt_z}
 use Rattle.std.proofs.lemmas.List.{length-set}
-use Rattle.pc_bound.specs.declared.program.Program.{Program}
-use Rattle.pc_bound.specs.Allocation.{worth}
-use Rattle.pc_bound.specs.SplitTrees.{IsWithin}
+use Rattle.pc_program_bound.specs.declared.program.Program.{Program}
+use Rattle.pc_program_bound.specs.Allocation.{worth}
+use Rattle.pc_program_bound.specs.SplitTrees.{IsWithin}
 use Rattle.pc_frontier.specs.declared.node.State.TheVariants as states
 use Rattle.pc_frontier.specs.declared.node.Node.{Node}
 use Rattle.pc_frontier.specs.Rings.{In}

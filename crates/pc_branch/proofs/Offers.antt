@@ -5,11 +5,11 @@ use Rattle.std.proofs.lemmas.Int.{ints, clamps}
 use Rattle.std.proofs.lemmas.Bool.{cond_both, false≢true}
 use Rattle.pc_num.specs.declared.Frac.{Frac}
 use Rattle.pc_model.specs.declared.tree.Mult.{Mult}
-use Rattle.pc_bound.specs.declared.program.Program.{Program}
-use Rattle.pc_bound.specs.Allocation.{IsAllocation, IsBox, worth}
-use Rattle.pc_bound.specs.Bound.{bound_of}
-use Rattle.pc_bound.specs.SplitTrees.{IsWithin}
-use Rattle.pc_tableau.specs.Point.{vertex, IsRelaxation}
+use Rattle.pc_program_bound.specs.declared.program.Program.{Program}
+use Rattle.pc_program_bound.specs.Allocation.{IsAllocation, IsBox, worth}
+use Rattle.pc_program_bound.specs.Bound.{bound_of}
+use Rattle.pc_program_bound.specs.SplitTrees.{IsWithin}
+use Rattle.pc_simplex_tableau.specs.Point.{vertex, IsRelaxation}
 use Rattle.pc_frontier.specs.declared.node.State.{State}
 use Rattle.pc_frontier.specs.declared.node.State.TheVariants as states
 use Rattle.pc_frontier.specs.declared.node.Node.{Node}

@@ -5,11 +5,11 @@ use Rattle.std.proofs.lemmas.Int.{ints}
 use Rattle.pc_model.specs.declared.tree.Mult.{Mult}
 use Rattle.pc_model.specs.declared.tree.TreeNode.{TreeNode}
 use Rattle.pc_model.specs.declared.tree.TreeNode.TheVariants as nodes
-use Rattle.pc_bound.specs.declared.program.Program.{Program}
-use Rattle.pc_bound.specs.Allocation.{IsAllocation, worth}
-use Rattle.pc_bound.specs.Bound.{IsMultiplier, IsVoid, bound_of}
-use Rattle.pc_bound.specs.SplitTrees.{IsInPreorder, tree_of}
-use Rattle.pc_bound.proofs.Duality.{worth-le-bound, void-none}
+use Rattle.pc_program_bound.specs.declared.program.Program.{Program}
+use Rattle.pc_program_bound.specs.Allocation.{IsAllocation, worth}
+use Rattle.pc_program_bound.specs.Bound.{IsMultiplier, IsVoid, bound_of}
+use Rattle.pc_program_bound.specs.SplitTrees.{IsInPreorder, tree_of}
+use Rattle.pc_program_bound.proofs.Duality.{worth-le-bound, void-none}
 use Rattle.pc_simplex.specs.Vertices.{IsFitMult}
 use Rattle.pc_branch.specs.Outcome.{IsBest, IsNothing}
 

@@ -6,11 +6,11 @@ use Rattle.std.proofs.lemmas.Int.{ints, clamps}
 use Rattle.std.proofs.lemmas.Bool.{cond_both}
 use Rattle.pc_model.specs.declared.tree.Mult.{Mult}
 use Rattle.pc_model.specs.declared.tree.Tree.{Tree}
-use Rattle.pc_bound.specs.declared.program.Program.{Program}
-use Rattle.pc_bound.specs.Allocation.{IsProgram, worth}
-use Rattle.pc_bound.specs.Bound.{HasFitWidth}
-use Rattle.pc_bound.specs.SplitTrees.{SplitTree, IsInPreorder, IsWithin, tree_of, nodes_from, greater, less_caps, more_floors}
-use Rattle.pc_bound.proofs.TreeNodes.{tree_of-nodes}
+use Rattle.pc_program_bound.specs.declared.program.Program.{Program}
+use Rattle.pc_program_bound.specs.Allocation.{IsProgram, worth}
+use Rattle.pc_program_bound.specs.Bound.{HasFitWidth}
+use Rattle.pc_program_bound.specs.SplitTrees.{SplitTree, IsInPreorder, IsWithin, tree_of, nodes_from, greater, less_caps, more_floors}
+use Rattle.pc_program_bound.proofs.TreeNodes.{tree_of-nodes}
 use Rattle.pc_frontier.specs.Frontier.{Seen}
 use Rattle.pc_frontier.specs.Boxes.{Grown, leaf, split, IsTree, IsLeaf}
 use Rattle.pc_branch.specs.Licence.{no_multipliers, first_bound}

@@ -5,11 +5,11 @@ use Rattle.std.proofs.lemmas.Int.{ints}
 use Rattle.std.proofs.lemmas.List.{get_or_default}
 use Rattle.std.proofs.lemmas.List.Elements.{All-from_get_or}
 use Rattle.pc_model.specs.declared.tree.Mult.{Mult}
-use Rattle.pc_bound.specs.declared.program.Program.{Program}
-use Rattle.pc_bound.specs.Sums.{nat_at, int_at}
-use Rattle.pc_bound.specs.Allocation.{cells_of, IsBox, IsProgram}
-use Rattle.pc_bound.specs.Bound.{IsFit, IsMultiplier, HasFitWidth, bound_of}
-use Rattle.pc_bound.specs.SplitTrees.{less_caps, more_floors}
+use Rattle.pc_program_bound.specs.declared.program.Program.{Program}
+use Rattle.pc_program_bound.specs.Sums.{nat_at, int_at}
+use Rattle.pc_program_bound.specs.Allocation.{cells_of, IsBox, IsProgram}
+use Rattle.pc_program_bound.specs.Bound.{IsFit, IsMultiplier, HasFitWidth, bound_of}
+use Rattle.pc_program_bound.specs.SplitTrees.{less_caps, more_floors}
 use Rattle.pc_simplex.specs.Vertices.{IsFitMult}
 use Rattle.pc_simplex.proofs.Vertices.{IsVertex-point}
 use Rattle.pc_frontier.specs.declared.node.Node.{Node}

@@ -10,16 +10,16 @@ use Rattle.std.proofs.Math.Nat.{mul-le-mul_right}
 use Rattle.pc_num.specs.declared.Frac.{Frac}
 use Rattle.pc_num.proofs.Rounding.{is_whole_part}
 use Rattle.pc_model.specs.declared.tree.Mult.{Mult}
-use Rattle.pc_bound.specs.declared.program.Program.{Program}
-use Rattle.pc_bound.specs.Sums.{nat_at}
-use Rattle.pc_bound.specs.Allocation.{IsProgram, IsBox, IsRelaxed, cells_of, worth}
-use Rattle.pc_bound.specs.Bound.{IsMultiplier, rest_of, cell_share, raw_bound, bound_of}
-use Rattle.pc_bound.specs.SplitTrees.{less_caps, more_floors}
-use Rattle.pc_bound.proofs.Ring.{mul_mono, mul_anti, le-div_euclid}
-use Rattle.pc_bound.proofs.SumBelow.{sum_below_mono}
-use Rattle.pc_bound.proofs.Duality.{duality}
-use Rattle.pc_tableau.specs.Point.{vertex, IsRelaxation}
-use Rattle.pc_tableau.proofs.Products.{le_cancel, mul_swap}
+use Rattle.pc_program_bound.specs.declared.program.Program.{Program}
+use Rattle.pc_program_bound.specs.Sums.{nat_at}
+use Rattle.pc_program_bound.specs.Allocation.{IsProgram, IsBox, IsRelaxed, cells_of, worth}
+use Rattle.pc_program_bound.specs.Bound.{IsMultiplier, rest_of, cell_share, raw_bound, bound_of}
+use Rattle.pc_program_bound.specs.SplitTrees.{less_caps, more_floors}
+use Rattle.pc_program_bound.proofs.Ring.{mul_mono, mul_anti, le-div_euclid}
+use Rattle.pc_program_bound.proofs.SumBelow.{sum_below_mono}
+use Rattle.pc_program_bound.proofs.Duality.{duality}
+use Rattle.pc_simplex_tableau.specs.Point.{vertex, IsRelaxation}
+use Rattle.pc_simplex_tableau.proofs.Products.{le_cancel, mul_swap}
 use Rattle.pc_simplex.specs.Vertices.{IsVertex}
 use Rattle.pc_simplex.proofs.Vertices.{IsVertex-point}
 

@@ -4,9 +4,9 @@ use Rattle.std.specs.Prelude.{ℤ, ◌≤ℤ◌, ◌<ℤ◌, int_lt, int_le, Mat
 use Rattle.std.specs.Bool.{⊤}
 use Rattle.std.proofs.lemmas.Int.{ints, clamps}
 use Rattle.std.proofs.lemmas.List.{get_or-set_same, length-set}
-use Rattle.pc_bound.specs.declared.program.Program.{Program}
-use Rattle.pc_bound.specs.Allocation.{worth}
-use Rattle.pc_bound.specs.SplitTrees.{greater, IsWithin}
+use Rattle.pc_program_bound.specs.declared.program.Program.{Program}
+use Rattle.pc_program_bound.specs.Allocation.{worth}
+use Rattle.pc_program_bound.specs.SplitTrees.{greater, IsWithin}
 use Rattle.pc_frontier.specs.declared.node.State.{State}
 use Rattle.pc_frontier.specs.declared.node.State.TheVariants as states
 use Rattle.pc_frontier.specs.declared.node.Node.{Node}

@@ -12,14 +12,14 @@ use Rattle.pc_num.specs.declared.Frac.{Frac}
 use Rattle.pc_num.proofs.Rounding.{is_whole_part}
 use Rattle.pc_model.specs.declared.tree.Mult.{Mult}
 use Rattle.pc_model.specs.Places.{has_bit}
-use Rattle.pc_bound.specs.declared.program.Program.{Program}
-use Rattle.pc_bound.specs.Sums.{nat_at, int_at}
-use Rattle.pc_bound.specs.Allocation.{cells_of, count_for, total, worth, IsAllocation}
-use Rattle.pc_bound.specs.Bound.{raw_bound, bound_of}
-use Rattle.pc_bound.proofs.Ring.{mul_mono, mul-pos, le-div_euclid}
-use Rattle.pc_bound.proofs.SumBelow.{sum_below-same, sum_below-scale}
-use Rattle.pc_tableau.specs.Point.{no_count}
-use Rattle.pc_tableau.proofs.Products.{le_cancel, cancel, mul_swap}
+use Rattle.pc_program_bound.specs.declared.program.Program.{Program}
+use Rattle.pc_program_bound.specs.Sums.{nat_at, int_at}
+use Rattle.pc_program_bound.specs.Allocation.{cells_of, count_for, total, worth, IsAllocation}
+use Rattle.pc_program_bound.specs.Bound.{raw_bound, bound_of}
+use Rattle.pc_program_bound.proofs.Ring.{mul_mono, mul-pos, le-div_euclid}
+use Rattle.pc_program_bound.proofs.SumBelow.{sum_below-same, sum_below-scale}
+use Rattle.pc_simplex_tableau.specs.Point.{no_count}
+use Rattle.pc_simplex_tableau.proofs.Products.{le_cancel, cancel, mul_swap}
 use Rattle.pc_simplex.specs.Vertices.{count_at, IsVertex}
 use Rattle.pc_branch.specs.Licence.{IsWhole, IsSplitOf}
 use Rattle.pc_branch.specs.Ends.{whole_counts}

@@ -4,8 +4,8 @@ use Rattle.std.proofs.lemmas.List.{length-append, append-nil, nil_from_length}
 use Rattle.pc_model.specs.declared.tree.Mult.{Mult}
 use Rattle.pc_model.specs.declared.tree.TreeNode.{TreeNode}
 use Rattle.pc_model.specs.declared.tree.TreeNode.TheVariants as shown
-use Rattle.pc_bound.specs.SplitTrees.{SplitTree, nodes_from}
-use Rattle.pc_bound.specs.SplitTrees as trees
+use Rattle.pc_program_bound.specs.SplitTrees.{SplitTree, nodes_from}
+use Rattle.pc_program_bound.specs.SplitTrees as trees
 use Rattle.pc_frontier.specs.declared.node.State.{State}
 use Rattle.pc_frontier.specs.declared.node.State.TheVariants as states
 use Rattle.pc_frontier.specs.declared.node.Node.{Node}

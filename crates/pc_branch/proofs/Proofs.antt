@@ -2,10 +2,10 @@
 use Rattle.std.proofs.Common.{◌≡◌, ℕ, List, All, length, Option, MatchOption, refl, sym, subst, ◌∙◌, arith}
 use Rattle.std.specs.Prelude.{ℤ, ◌≤ℤ◌}
 use Rattle.pc_model.specs.declared.tree.Mult.{Mult}
-use Rattle.pc_bound.specs.declared.program.Program.{Program}
-use Rattle.pc_bound.specs.Allocation.{IsBox, IsProgram}
-use Rattle.pc_bound.specs.Bound.{IsMultiplier, HasFitWidth}
-use Rattle.pc_bound.specs.SplitTrees.{less_caps, more_floors, Proves}
+use Rattle.pc_program_bound.specs.declared.program.Program.{Program}
+use Rattle.pc_program_bound.specs.Allocation.{IsBox, IsProgram}
+use Rattle.pc_program_bound.specs.Bound.{IsMultiplier, HasFitWidth}
+use Rattle.pc_program_bound.specs.SplitTrees.{less_caps, more_floors, Proves}
 use Rattle.pc_simplex.specs.Vertices.{IsFitMult}
 use Rattle.pc_simplex.proofs.Vertices.{IsVertex-point, IsVoid-mult}
 use Rattle.pc_frontier.specs.declared.node.Node.{Node}

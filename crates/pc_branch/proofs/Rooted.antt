@@ -2,10 +2,10 @@
 use Rattle.std.proofs.Common.{◌≡◌, ◌≤◌, ℕ, List, [], ◌∷◌, None, refl, sym, ap, ◌∙◌, subst, arith, rules, inl}
 use Rattle.std.specs.Prelude.{ℤ}
 use Rattle.std.proofs.lemmas.Int.{ints}
-use Rattle.pc_bound.specs.declared.program.Program.{Program}
+use Rattle.pc_program_bound.specs.declared.program.Program.{Program}
 use Rattle.pc_model.specs.declared.tree.Mult.{Mult}
-use Rattle.pc_bound.specs.Allocation.{IsProgram}
-use Rattle.pc_bound.specs.Bound.{bound_of}
+use Rattle.pc_program_bound.specs.Allocation.{IsProgram}
+use Rattle.pc_program_bound.specs.Bound.{bound_of}
 use Rattle.pc_frontier.specs.Frontier.{Seen, none_yet, with_root, node_at}
 use Rattle.pc_frontier.specs.Boxes.{leaf, IsTree, Box, AreFitting}
 use Rattle.pc_branch.specs.Licence.{no_multipliers, first_bound}

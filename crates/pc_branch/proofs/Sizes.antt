@@ -9,15 +9,15 @@ use Rattle.pc_num.specs.declared.Frac.{Frac}
 use Rattle.pc_num.proofs.Rounding.{is_whole_part}
 use Rattle.pc_model.specs.declared.tree.Mult.{Mult}
 use Rattle.pc_model.specs.Places.{has_bit}
-use Rattle.pc_bound.specs.declared.program.Program.{Program}
-use Rattle.pc_bound.specs.Sums.{sum_below, nat_at, int_at}
-use Rattle.pc_bound.specs.Allocation.{cells_of, constraints_of, worth, IsProgram, IsBox, IsRelaxed}
-use Rattle.pc_bound.specs.Bound.{part_of, rest_of, constraint_share, cell_share, raw_bound, bound_of}
-use Rattle.pc_bound.specs.SplitTrees.{less_caps, more_floors}
-use Rattle.pc_bound.proofs.Ring.{mul_mono, mul-pos, le-div_euclid}
-use Rattle.pc_bound.proofs.SumBelow.{sum_below-zero, sum_below-suc, sum_below-scale, sum_below-none, none_chosen}
-use Rattle.pc_tableau.specs.Point.{vertex, IsRelaxation}
-use Rattle.pc_tableau.proofs.Products.{zero-mul, one-mul, mul-neg, neg-mul, mul_swap, le_cancel}
+use Rattle.pc_program_bound.specs.declared.program.Program.{Program}
+use Rattle.pc_program_bound.specs.Sums.{sum_below, nat_at, int_at}
+use Rattle.pc_program_bound.specs.Allocation.{cells_of, constraints_of, worth, IsProgram, IsBox, IsRelaxed}
+use Rattle.pc_program_bound.specs.Bound.{part_of, rest_of, constraint_share, cell_share, raw_bound, bound_of}
+use Rattle.pc_program_bound.specs.SplitTrees.{less_caps, more_floors}
+use Rattle.pc_program_bound.proofs.Ring.{mul_mono, mul-pos, le-div_euclid}
+use Rattle.pc_program_bound.proofs.SumBelow.{sum_below-zero, sum_below-suc, sum_below-scale, sum_below-none, none_chosen}
+use Rattle.pc_simplex_tableau.specs.Point.{vertex, IsRelaxation}
+use Rattle.pc_simplex_tableau.proofs.Products.{zero-mul, one-mul, mul-neg, neg-mul, mul_swap, le_cancel}
 use Rattle.pc_simplex.specs.Vertices.{IsVertex}
 use Rattle.pc_simplex.proofs.Vertices.{IsVertex-point}
 use Rattle.pc_branch.specs.Licence.{Splits, leaf, split, nodes_of, AreSplitNodes, fractional, too_wide, too_long, HasOpen, no_multipliers, first_bound, IsLicence}

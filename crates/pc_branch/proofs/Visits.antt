@@ -5,11 +5,11 @@ use Rattle.std.specs.Int.{int_div_euclid}
 use Rattle.std.proofs.lemmas.Int.{ints}
 use Rattle.pc_num.specs.declared.Frac.{Frac}
 use Rattle.pc_model.specs.declared.tree.Mult.{Mult}
-use Rattle.pc_bound.specs.declared.program.Program.{Program}
-use Rattle.pc_bound.specs.Sums.{nat_at}
-use Rattle.pc_bound.specs.Allocation.{cells_of, IsProgram, IsBox}
-use Rattle.pc_bound.specs.Bound.{bound_of}
-use Rattle.pc_bound.proofs.Ring.{le-div_euclid}
+use Rattle.pc_program_bound.specs.declared.program.Program.{Program}
+use Rattle.pc_program_bound.specs.Sums.{nat_at}
+use Rattle.pc_program_bound.specs.Allocation.{cells_of, IsProgram, IsBox}
+use Rattle.pc_program_bound.specs.Bound.{bound_of}
+use Rattle.pc_program_bound.proofs.Ring.{le-div_euclid}
 use Rattle.pc_simplex.specs.Vertices.{count_at, IsVertex}
 use Rattle.pc_branch.specs.Licence.{IsWhole}
 use Rattle.pc_branch.specs.Ends.{whole_counts}

@@ -3,11 +3,11 @@ use Rattle.std.proofs.Common.{◌≡◌, ℕ, zero, suc, ◌^◌, ◌<◌, ◌�
 use Rattle.std.specs.Prelude.{ℤ, pos, nat_abs, ◌*ℤ◌, ◌≤ℤ◌}
 use Rattle.std.proofs.lemmas.Int.{ints}
 use Rattle.pc_model.specs.Places.{has_bit}
-use Rattle.pc_bound.specs.declared.program.Program.{Program}
-use Rattle.pc_bound.specs.Sums.{sum_below, nat_at, int_at}
-use Rattle.pc_bound.specs.Allocation.{cells_of, constraints_of, IsProgram}
-use Rattle.pc_bound.specs.Bound.{IsFit, part_of, rest_of, constraint_size, cell_size, given_up_to, constraint_sizes, cell_sizes, IsFitRest, HasFitWidth}
-use Rattle.pc_bound.proofs.SumBelow.{sum_below-zero, sum_below-suc, sum_below-same, sum_below-none, none_chosen}
+use Rattle.pc_program_bound.specs.declared.program.Program.{Program}
+use Rattle.pc_program_bound.specs.Sums.{sum_below, nat_at, int_at}
+use Rattle.pc_program_bound.specs.Allocation.{cells_of, constraints_of, IsProgram}
+use Rattle.pc_program_bound.specs.Bound.{IsFit, part_of, rest_of, constraint_size, cell_size, given_up_to, constraint_sizes, cell_sizes, IsFitRest, HasFitWidth}
+use Rattle.pc_program_bound.proofs.SumBelow.{sum_below-zero, sum_below-suc, sum_below-same, sum_below-none, none_chosen}
 use Rattle.pc_branch.specs.Licence.{no_multipliers}
 use Rattle.pc_branch.specs.Ends.{HasSmallGains}
 

@@ -1,9 +1,9 @@
 -- What a search that has ended leaves, and what a program's numbers must keep.
 use Rattle.std.specs.Prelude.{◌≡◌, ◌<◌, ◌^◌, ℕ, ℤ, pos, nat_abs, ◌*ℤ◌, ◌≤ℤ◌, List, map, ◌⊎◌}
 use Rattle.pc_num.specs.declared.Frac.{Frac}
-use Rattle.pc_bound.specs.declared.program.Program.{Program}
-use Rattle.pc_bound.specs.Sums.{sum_below, nat_at, int_at}
-use Rattle.pc_bound.specs.Allocation.{cells_of}
+use Rattle.pc_program_bound.specs.declared.program.Program.{Program}
+use Rattle.pc_program_bound.specs.Sums.{sum_below, nat_at, int_at}
+use Rattle.pc_program_bound.specs.Allocation.{cells_of}
 use Rattle.pc_frontier.specs.Frontier.{Seen}
 use Rattle.pc_frontier.specs.Boxes.{Grown, leaf, split, IsLeaf}
 use Rattle.pc_branch.specs.declared.visited.Visited.{Visited}

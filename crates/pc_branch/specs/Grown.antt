@@ -2,13 +2,13 @@
 use Rattle.std.specs.Prelude.{◌≡◌, ◌<◌, ◌≤◌, ℕ, ℤ, pos, List, [], slice_index_or, All, Option, Some, None, ⊤}
 use Rattle.pc_num.specs.declared.Frac.{Frac}
 use Rattle.pc_model.specs.declared.tree.Mult.{Mult}
-use Rattle.pc_bound.specs.declared.program.Program.{Program}
-use Rattle.pc_bound.specs.Sums.{nat_at}
-use Rattle.pc_bound.specs.Allocation.{cells_of}
-use Rattle.pc_bound.specs.Bound.{bound_of}
-use Rattle.pc_bound.specs.SplitTrees.{SplitTree, less_caps, more_floors}
-use Rattle.pc_bound.specs.SplitTrees as trees
-use Rattle.pc_tableau.specs.Point.{Relaxation, vertex, void, IsRelaxation}
+use Rattle.pc_program_bound.specs.declared.program.Program.{Program}
+use Rattle.pc_program_bound.specs.Sums.{nat_at}
+use Rattle.pc_program_bound.specs.Allocation.{cells_of}
+use Rattle.pc_program_bound.specs.Bound.{bound_of}
+use Rattle.pc_program_bound.specs.SplitTrees.{SplitTree, less_caps, more_floors}
+use Rattle.pc_program_bound.specs.SplitTrees as trees
+use Rattle.pc_simplex_tableau.specs.Point.{Relaxation, vertex, void, IsRelaxation}
 use Rattle.pc_simplex.specs.Vertices.{IsFitMult}
 use Rattle.pc_frontier.specs.Boxes.{Grown, leaf, split}
 use Rattle.pc_branch.specs.Licence.{IsStuck, IsWhole, IsSplitOf}

@@ -3,13 +3,13 @@ use Rattle.std.specs.Prelude.{◌≡◌, ◌<◌, ◌≤◌, ℕ, ◌+◌, ◌*�
 use Rattle.std.specs.Int.{int_div_euclid}
 use Rattle.pc_num.specs.declared.Frac.{Frac}
 use Rattle.pc_model.specs.declared.tree.Mult.{Mult}
-use Rattle.pc_bound.specs.declared.program.Program.{Program}
-use Rattle.pc_bound.specs.Sums.{nat_at}
-use Rattle.pc_bound.specs.Allocation.{cells_of, constraints_of, worth}
-use Rattle.pc_bound.specs.Bound.{bound_of}
-use Rattle.pc_bound.specs.SplitTrees.{less_caps, more_floors}
-use Rattle.pc_tableau.specs.declared.step.Step.{Step}
-use Rattle.pc_tableau.specs.Point.{Relaxation, vertex, void, wide, stalled, IsRelaxation}
+use Rattle.pc_program_bound.specs.declared.program.Program.{Program}
+use Rattle.pc_program_bound.specs.Sums.{nat_at}
+use Rattle.pc_program_bound.specs.Allocation.{cells_of, constraints_of, worth}
+use Rattle.pc_program_bound.specs.Bound.{bound_of}
+use Rattle.pc_program_bound.specs.SplitTrees.{less_caps, more_floors}
+use Rattle.pc_simplex_tableau.specs.declared.step.Step.{Step}
+use Rattle.pc_simplex_tableau.specs.Point.{Relaxation, vertex, void, wide, stalled, IsRelaxation}
 use Rattle.pc_simplex.specs.Vertices.{count_at}
 
 -- a tree of splits, with nothing at its leaves

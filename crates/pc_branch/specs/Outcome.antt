@@ -1,13 +1,13 @@
 -- What a search answers.
 use Rattle.std.specs.Prelude.{◌≡◌, ℕ, ℤ, ◌≤ℤ◌, ◌<ℤ◌, List, Option, Some, None, MatchOption, All, ⊤}
-use Rattle.pc_bound.specs.declared.program.Program.{Program}
-use Rattle.pc_bound.specs.Allocation.{IsAllocation, worth}
+use Rattle.pc_program_bound.specs.declared.program.Program.{Program}
+use Rattle.pc_program_bound.specs.Allocation.{IsAllocation, worth}
 use Rattle.pc_num.specs.declared.Frac.{Frac}
 use Rattle.pc_model.specs.declared.tree.Mult.{Mult}
-use Rattle.pc_tableau.specs.Point.{Relaxation, vertex, IsRelaxation}
+use Rattle.pc_simplex_tableau.specs.Point.{Relaxation, vertex, IsRelaxation}
 use Rattle.pc_simplex.specs.Vertices.{IsFitMult}
-use Rattle.pc_bound.specs.SplitTrees.{SplitTree, bound, void, less_caps, more_floors, bound_by, Proves, IsInPreorder, tree_of}
-use Rattle.pc_bound.specs.SplitTrees as trees
+use Rattle.pc_program_bound.specs.SplitTrees.{SplitTree, bound, void, less_caps, more_floors, bound_by, Proves, IsInPreorder, tree_of}
+use Rattle.pc_program_bound.specs.SplitTrees as trees
 use Rattle.pc_branch.specs.Licence.{Splits, leaf, split, IsStuck, no_multipliers, IsSearchTree, IsLicence, HoldsWholePoints}
 use Rattle.pc_branch.specs.declared.outcome.Outcome.{Outcome}
 use Rattle.pc_branch.specs.declared.outcome.Outcome.TheVariants.{Best, Nothing, Spent}

@@ -1,8 +1,8 @@
 -- What the search keeps from one split to the next.
 use Rattle.std.specs.Prelude.{◌≡◌, ◌<◌, ℕ, ◌+◌, ℤ, ◌≤ℤ◌, List, length, Option, Some, None, MatchOption, ⊤}
-use Rattle.pc_bound.specs.declared.program.Program.{Program}
-use Rattle.pc_bound.specs.Allocation.{worth, IsAllocation}
-use Rattle.pc_bound.specs.SplitTrees.{greater, IsWithin}
+use Rattle.pc_program_bound.specs.declared.program.Program.{Program}
+use Rattle.pc_program_bound.specs.Allocation.{worth, IsAllocation}
+use Rattle.pc_program_bound.specs.SplitTrees.{greater, IsWithin}
 use Rattle.pc_frontier.specs.declared.node.State.{State}
 use Rattle.pc_frontier.specs.declared.node.State.TheVariants as states
 use Rattle.pc_frontier.specs.declared.node.Node.{Node}

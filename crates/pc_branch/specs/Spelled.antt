@@ -3,9 +3,9 @@ use Rattle.std.specs.Prelude.{◌≡◌, ℕ, ◌+◌, ◌≤◌, List, [], ◌�
 use Rattle.pc_model.specs.declared.tree.Mult.{Mult}
 use Rattle.pc_model.specs.declared.tree.TreeNode.{TreeNode}
 use Rattle.pc_model.specs.declared.tree.TreeNode.TheVariants as shown
-use Rattle.pc_bound.specs.Sums.{nat_at}
-use Rattle.pc_bound.specs.SplitTrees.{nodes_from}
-use Rattle.pc_bound.specs.SplitTrees as trees
+use Rattle.pc_program_bound.specs.Sums.{nat_at}
+use Rattle.pc_program_bound.specs.SplitTrees.{nodes_from}
+use Rattle.pc_program_bound.specs.SplitTrees as trees
 use Rattle.pc_frontier.specs.declared.node.Node.{Node}
 use Rattle.pc_frontier.specs.Boxes.{Grown, root_of, size_of, AreGrown}
 use Rattle.pc_branch.specs.declared.visited.Known.{Known}

@@ -1,9 +1,9 @@
 -- What each step of a search makes of what the search keeps.
 use Rattle.std.specs.Prelude.{◌≡◌, ℕ, ◌+◌, ℤ, ◌<ℤ◌, int_le, int_lt, Bool, true, false, cond, not, ◌&&◌, ◌||◌, List, [], ◌∷◌, length, Option, Some, None, MatchOption, ⊤}
 use Rattle.std.specs.Int.{int_max}
-use Rattle.pc_bound.specs.declared.program.Program.{Program}
-use Rattle.pc_bound.specs.Allocation.{worth}
-use Rattle.pc_bound.specs.SplitTrees.{IsWithin}
+use Rattle.pc_program_bound.specs.declared.program.Program.{Program}
+use Rattle.pc_program_bound.specs.Allocation.{worth}
+use Rattle.pc_program_bound.specs.SplitTrees.{IsWithin}
 use Rattle.pc_frontier.specs.Frontier.{Seen, bound_at, held, closed, pruned, taken, best_of, IsInHand}
 use Rattle.pc_frontier.specs.Boxes.{IsLeaf}
 use Rattle.pc_branch.specs.declared.visited.Known.{Known}

@@ -4,9 +4,9 @@ use Rattle.std.specs.Prelude.{pos}
 use Rattle.std.specs.Int.{int_div_euclid}
 use Rattle.pc_num.specs.declared.Frac.{Frac}
 use Rattle.pc_model.specs.declared.tree.Mult.{Mult}
-use Rattle.pc_bound.specs.declared.program.Program.{Program}
-use Rattle.pc_bound.specs.Allocation.{IsAllocation, worth, cells_of}
-use Rattle.pc_bound.specs.SplitTrees.{less_caps, more_floors}
+use Rattle.pc_program_bound.specs.declared.program.Program.{Program}
+use Rattle.pc_program_bound.specs.Allocation.{IsAllocation, worth, cells_of}
+use Rattle.pc_program_bound.specs.SplitTrees.{less_caps, more_floors}
 use Rattle.pc_simplex.specs.Vertices.{count_at}
 use Rattle.pc_frontier.specs.Frontier.{Seen, with_root, with_split}
 use Rattle.pc_frontier.specs.Boxes.{Box, box_at, number_at}

@@ -1,7 +1,7 @@
 ghost use Rattle.std.specs.Prelude.{◌≡◌, ℕ, ℤ, ◌<ℤ◌, ◌≤ℤ◌, List, Option, Some, None, MatchOption, ⊤};
-ghost use Rattle.pc_bound.specs.declared.program.Program.{Program};
-ghost use Rattle.pc_bound.specs.Allocation.{IsProgram, IsAllocation, worth};
-ghost use Rattle.pc_bound.specs.Bound.{HasFitWidth};
+ghost use Rattle.pc_program_bound.specs.declared.program.Program.{Program};
+ghost use Rattle.pc_program_bound.specs.Allocation.{IsProgram, IsAllocation, worth};
+ghost use Rattle.pc_program_bound.specs.Bound.{HasFitWidth};
 ghost use Rattle.pc_frontier.specs.Frontier.{Seen};
 ghost use Rattle.pc_frontier.specs.Boxes.{IsLeaf};
 ghost use Rattle.pc_branch.specs.declared.visited.Visited.{Visited};

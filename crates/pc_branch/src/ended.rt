@@ -1,6 +1,6 @@
 ghost use Rattle.std.specs.Prelude.{◌≡◌, ◌≤◌, ◌<◌, IfOk, MatchOption, ⊤};
-ghost use Rattle.pc_bound.specs.Allocation.{IsProgram};
-ghost use Rattle.pc_bound.specs.Bound.{HasFitWidth};
+ghost use Rattle.pc_program_bound.specs.Allocation.{IsProgram};
+ghost use Rattle.pc_program_bound.specs.Bound.{HasFitWidth};
 ghost use Rattle.pc_branch.specs.Licence.{no_multipliers};
 ghost use Rattle.pc_branch.specs.Outcome.{IsOutcome};
 ghost use Rattle.pc_branch.specs.Steps.{budget_of, counts_found, IsAt, outcome_of};
@@ -8,10 +8,10 @@ ghost use Rattle.pc_branch.specs.Steps.{budget_of, counts_found, IsAt, outcome_o
 use crate::outcome::Outcome;
 use crate::search::{Found, Hand, Search, is_worth};
 use crate::tree::tree_of;
-use pc_bound::Program;
 use pc_list::Seq;
 use pc_model::Tree;
 use pc_num::Memory;
+use pc_program_bound::Program;
 use std::alloc::Global;
 
 /// What a search has come to that is over, or has no room to split a node.

@@ -1,14 +1,14 @@
 ghost use Rattle.std.specs.Prelude.{◌≡◌, ◌≤◌, ◌∷◌, [], IfOk};
-ghost use Rattle.pc_bound.specs.Allocation.{IsProgram};
+ghost use Rattle.pc_program_bound.specs.Allocation.{IsProgram};
 ghost use Rattle.pc_program.specs.Settled.{HasOneBits};
 ghost use Rattle.pc_branch.specs.Outcome.{IsOutcome, IsDecided};
 
 use crate::outcome::Outcome;
-use pc_bound::Program;
 use pc_list::Seq;
 use pc_model::{Tree, TreeNode};
 use pc_num::Memory;
 use pc_program::{Solved, greedy};
+use pc_program_bound::Program;
 use std::alloc::Global;
 
 /// The answer for constraints that share no cell, with a tree of one leaf, whatever the number of nodes.

@@ -1,12 +1,12 @@
 ghost use Rattle.std.specs.Prelude.{◌≡◌, ◌≤◌, ◌<◌, ◌*◌, ◌^◌, ℕ, ℤ, pos, neg_ℤ, ◌≤ℤ◌, ◌<ℤ◌, List, Option, Some, None, MatchOption, ⊤};
 ghost use Rattle.pc_num.specs.declared.Frac.{Frac};
 ghost use Rattle.pc_model.specs.declared.tree.Mult.{Mult};
-ghost use Rattle.pc_bound.specs.declared.program.Program.{Program};
-ghost use Rattle.pc_bound.specs.Sums.{nat_at};
-ghost use Rattle.pc_bound.specs.Allocation.{IsProgram, IsBox, IsAllocation, cells_of, worth};
-ghost use Rattle.pc_bound.specs.Bound.{IsMultiplier, HasFitWidth, bound_of};
-ghost use Rattle.pc_bound.specs.SplitTrees.{less_caps, more_floors};
-ghost use Rattle.pc_tableau.specs.Point.{vertex, IsRelaxation};
+ghost use Rattle.pc_program_bound.specs.declared.program.Program.{Program};
+ghost use Rattle.pc_program_bound.specs.Sums.{nat_at};
+ghost use Rattle.pc_program_bound.specs.Allocation.{IsProgram, IsBox, IsAllocation, cells_of, worth};
+ghost use Rattle.pc_program_bound.specs.Bound.{IsMultiplier, HasFitWidth, bound_of};
+ghost use Rattle.pc_program_bound.specs.SplitTrees.{less_caps, more_floors};
+ghost use Rattle.pc_simplex_tableau.specs.Point.{vertex, IsRelaxation};
 ghost use Rattle.pc_simplex.specs.Vertices.{IsVertex};
 ghost use Rattle.pc_branch.specs.Licence.{Splits, IsWhole, IsSplitOf, IsLicence, HasOpen, no_multipliers, first_bound, choices};
 ghost use Rattle.pc_branch.specs.Ends.{HasSmallGains, whole_counts};

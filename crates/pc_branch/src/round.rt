@@ -1,8 +1,8 @@
 ghost use Rattle.std.specs.Prelude.{◌≡◌, ◌<◌, ◌≤◌, ◌+◌, length, IfOk};
-ghost use Rattle.pc_bound.specs.Allocation.{IsProgram, IsBox, cells_of};
-ghost use Rattle.pc_bound.specs.Bound.{IsFit, HasFitWidth};
-ghost use Rattle.pc_bound.specs.SplitTrees.{less_caps, more_floors};
-ghost use Rattle.pc_bound.specs.Sums.{nat_at};
+ghost use Rattle.pc_program_bound.specs.Allocation.{IsProgram, IsBox, cells_of};
+ghost use Rattle.pc_program_bound.specs.Bound.{IsFit, HasFitWidth};
+ghost use Rattle.pc_program_bound.specs.SplitTrees.{less_caps, more_floors};
+ghost use Rattle.pc_program_bound.specs.Sums.{nat_at};
 ghost use Rattle.std.specs.Prelude.{All};
 ghost use Rattle.pc_simplex.specs.Vertices.{IsFitMult};
 ghost use Rattle.pc_frontier.specs.Frontier.{IsInHand};
@@ -16,11 +16,11 @@ ghost use Rattle.pc_branch.specs.Visits.{HasCounts, ArePartsVisited, with_parts}
 use crate::search::{Hand, Search};
 use crate::visit::{Visit, visit_box};
 use crate::visited::{Known, Visited};
-use pc_bound::Program;
 use pc_frontier::Frontier;
 use pc_list::Seq;
 use pc_model::Mult;
 use pc_num::Memory;
+use pc_program_bound::Program;
 use std::alloc::Global;
 
 /// The least and the greatest count of each cell.

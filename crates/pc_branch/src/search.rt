@@ -1,5 +1,5 @@
 ghost use Rattle.std.specs.Prelude.{◌≡◌, ◌<◌, ◌+◌, ℤ, ◌∷◌, [], length};
-ghost use Rattle.pc_bound.specs.declared.program.Program.{Program};
+ghost use Rattle.pc_program_bound.specs.declared.program.Program.{Program};
 ghost use Rattle.pc_frontier.specs.Frontier.{IsInHand, IsKept};
 ghost use Rattle.pc_branch.specs.Grown.{visited_at};
 ghost use Rattle.pc_branch.specs.Steps.{budget_of, is_parted, is_above, kept_hand, unless_over, IsSearch, IsAt, IsDivided, considered, settled, pruned_by, with_taken, next_hand, is_worth, raised, value_found};

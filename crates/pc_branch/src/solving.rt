@@ -1,6 +1,6 @@
 ghost use Rattle.std.specs.Prelude.{◌≡◌, ◌≤◌, ◌<◌, ℕ, All, IfOk, MatchOption, ⊤};
-ghost use Rattle.pc_bound.specs.Allocation.{IsProgram};
-ghost use Rattle.pc_bound.specs.Bound.{IsFit, HasFitWidth};
+ghost use Rattle.pc_program_bound.specs.Allocation.{IsProgram};
+ghost use Rattle.pc_program_bound.specs.Bound.{IsFit, HasFitWidth};
 ghost use Rattle.pc_program.specs.Settled.{HasOneBits};
 ghost use Rattle.pc_branch.specs.Licence.{no_multipliers};
 ghost use Rattle.pc_branch.specs.Outcome.{IsOutcome, IsDecided};
@@ -11,9 +11,9 @@ use crate::greedily::greedily;
 use crate::outcome::Outcome;
 use crate::search::{Hand, Search};
 use crate::start::start;
-use pc_bound::Program;
 use pc_num::Memory;
 use pc_program::has_one_bits;
+use pc_program_bound::Program;
 use std::alloc::Global;
 
 /// The greatest worth of a program, by a tree of at most so many nodes. Where no two constraints share a cell and no cell

@@ -1,6 +1,6 @@
 ghost use Rattle.std.specs.Prelude.{◌≡◌, ◌↔◌, ◌≤◌, ◌<◌, ◌≤ℤ◌, pos, length, [], All, IfOk, IsTrue};
-ghost use Rattle.pc_bound.specs.Allocation.{IsProgram, constraints_of};
-ghost use Rattle.pc_bound.specs.Bound.{IsFit, HasFitWidth};
+ghost use Rattle.pc_program_bound.specs.Allocation.{IsProgram, constraints_of};
+ghost use Rattle.pc_program_bound.specs.Bound.{IsFit, HasFitWidth};
 ghost use Rattle.pc_simplex.specs.Vertices.{IsFitMult};
 ghost use Rattle.pc_branch.specs.Licence.{no_multipliers};
 ghost use Rattle.pc_branch.specs.Steps.{budget_of, IsAt};
@@ -8,11 +8,11 @@ ghost use Rattle.pc_branch.specs.Visits.{rooted};
 
 use crate::search::{Hand, Search};
 use crate::visit::{Visit, bound_of, visit_box};
-use pc_bound::{Program, dual_bound};
 use pc_frontier::Frontier;
 use pc_list::Seq;
 use pc_model::Mult;
 use pc_num::Memory;
+use pc_program_bound::{Program, dual_bound};
 use std::alloc::Global;
 
 /// A search that has visited the start box, with the node to split next.

@@ -7,9 +7,9 @@ mod stuck;
 mod worked;
 
 use crate::{Outcome, has_fit_gains, solve};
-use pc_bound::{Program, is_program, lawful};
 use pc_list::Seq;
 use pc_num::Memory;
+use pc_program_bound::{Program, is_program, lawful};
 use std::alloc::Global;
 use std::process::Abort;
 

@@ -1,7 +1,7 @@
 ghost use Rattle.std.specs.Prelude.{◌≡◌, ◌<◌, ◌≤◌, ◌+◌, List, ◌++◌, length, IfOk};
 ghost use Rattle.pc_model.specs.declared.tree.TreeNode.{TreeNode};
-ghost use Rattle.pc_bound.specs.Sums.{nat_at};
-ghost use Rattle.pc_bound.specs.SplitTrees.{nodes_from};
+ghost use Rattle.pc_program_bound.specs.Sums.{nat_at};
+ghost use Rattle.pc_program_bound.specs.SplitTrees.{nodes_from};
 ghost use Rattle.pc_frontier.specs.Boxes.{Grown, root_of, size_of, IsTree, AreGrown};
 ghost use Rattle.pc_branch.specs.Grown.{proof_of};
 ghost use Rattle.pc_branch.specs.Ends.{AreSplitsKnown};

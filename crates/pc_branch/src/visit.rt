@@ -1,19 +1,19 @@
 ghost use Rattle.std.specs.Prelude.{◌≡◌, ◌≤ℤ◌, ◌<◌, ℤ, pos, length, All, MatchOption, IfOk};
 ghost use Rattle.pc_model.specs.declared.tree.Mult.{Mult};
 ghost use Rattle.std.specs.Int.{int_div_euclid};
-ghost use Rattle.pc_bound.specs.Allocation.{IsProgram, IsBox};
-ghost use Rattle.pc_bound.specs.Bound.{IsFit, IsMultiplier, bound_of};
-ghost use Rattle.pc_tableau.specs.Point.{vertex, IsRelaxation};
+ghost use Rattle.pc_program_bound.specs.Allocation.{IsProgram, IsBox};
+ghost use Rattle.pc_program_bound.specs.Bound.{IsFit, IsMultiplier, bound_of};
+ghost use Rattle.pc_simplex_tableau.specs.Point.{vertex, IsRelaxation};
 ghost use Rattle.pc_simplex.specs.Vertices.{IsVertex, IsFitMult, count_at};
 ghost use Rattle.pc_branch.specs.Grown.{IsVisited};
 ghost use Rattle.pc_branch.specs.Visits.{HasCounts, IsPartingVisit};
 
 use crate::point::{first_broken, rounded, whole_counts};
 use crate::visited::{Known, Visited};
-use pc_bound::{Program, dual_bound};
 use pc_list::Seq;
 use pc_model::Mult;
 use pc_num::{Frac, Memory};
+use pc_program_bound::{Program, dual_bound};
 use pc_simplex::{Relaxed, relax};
 use std::alloc::Global;
 

@@ -15,12 +15,12 @@ use Rattle.pc_model.specs.CutTrees.{shape_of, side_at}
 use Rattle.pc_model.specs.Cells.{Class, IsRowOf, HasRowOf, IsSettledTree, classes_of, boxes_of, leaves_in, IsInSome, IsSpanned}
 use Rattle.pc_box.specs.Boxes.{IsBox}
 use Rattle.pc_box.proofs.Schemas.{IsBox-from_schema}
-use Rattle.pc_class.proofs.Cells.{boxes_of-some, boxes_of-few, boxes_of-all}
-use Rattle.pc_class.proofs.Spans.{spanned_leaf}
-use Rattle.pc_class.proofs.SettledTrees.{classes_of_tree, rows_of_tree}
-use Rattle.pc_class.proofs.TreesLeaves.{one_leaf}
+use Rattle.pc_cells_laws.proofs.Cells.{boxes_of-some, boxes_of-few, boxes_of-all}
+use Rattle.pc_cells_laws.proofs.Spans.{spanned_leaf}
+use Rattle.pc_cells_laws.proofs.SettledTrees.{classes_of_tree, rows_of_tree}
+use Rattle.pc_cells_laws.proofs.TreesLeaves.{one_leaf}
 use Rattle.pc_model.proofs.WholeDomain.{in_whole}
-use Rattle.pc_class.proofs.TreesDomain.{domain_regions}
+use Rattle.pc_cells_laws.proofs.TreesDomain.{domain_regions}
 use Rattle.pc_cells.specs.declared.cells.Cell.{Cell}
 use Rattle.pc_cells.specs.Found.{class_of_cell, cell_of, cells_of, IsFilled, HasNumbers}
 

@@ -6,7 +6,7 @@ use Rattle.std.proofs.lemmas.List.{get_or_default, take_all}
 use Rattle.std.proofs.lemmas.List.Elements.{All-nil, All-more, All-weaker}
 use Rattle.pc_model.specs.declared.region.Region.{Region}
 use Rattle.pc_model.specs.Cells.{low_at, high_at}
-use Rattle.pc_class.proofs.Leasts.{least_is, greatest_is}
+use Rattle.pc_cells_laws.proofs.Leasts.{least_is, greatest_is}
 use Rattle.pc_cells.specs.declared.ends.End.{End}
 use Rattle.pc_cells.specs.Ends.{end_at, is_past, last_end}
 use Rattle.pc_cells.specs.Found.{leaf_at}

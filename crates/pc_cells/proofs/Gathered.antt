@@ -10,8 +10,8 @@ use Rattle.pc_model.specs.declared.tree.Leaf.{Leaf}
 use Rattle.pc_model.specs.declared.tree.LeafMark.TheVariants as marks
 use Rattle.pc_model.specs.Cells.{Class, is_class, is_mark_of, is_leaf_of, classes_of, boxes_of}
 use Rattle.pc_model.proofs.Lists.{AllPairs-head, AllPairs-tail}
-use Rattle.pc_class.proofs.Classes.{is_class-same, is_class-itself, is_class-turned}
-use Rattle.pc_class.proofs.Cells.{classes_of-listed, classes-append, classes-append_barren, boxes-append_same, boxes-append_other, classes_of-differ}
+use Rattle.pc_cells_laws.proofs.Classes.{is_class-same, is_class-itself, is_class-turned}
+use Rattle.pc_cells_laws.proofs.Cells.{classes_of-listed, classes-append, classes-append_barren, boxes-append_same, boxes-append_other, classes_of-differ}
 use Rattle.pc_cells.specs.declared.cells.Cell.{Cell}
 use Rattle.pc_cells.specs.contracts.gather.ClassKeyPartialEq.TheImpl as key_eq
 use Rattle.pc_cells.specs.declared.gather.ClassKey.{ClassKey}

@@ -15,7 +15,7 @@ use Rattle.pc_model.proofs.Between.{le_from_test, between_from}
 use Rattle.pc_box.specs.Boxes.{are_like, IsBox}
 use Rattle.pc_cells.specs.declared.cells.Cell.{Cell}
 use Rattle.pc_cells.specs.Found.{IsFilled, leaves_at, leaf_at, HoldsNumber, HasNumbers}
-use Rattle.pc_class.proofs.Spans.{spanned_inside, above_least, below_greatest}
+use Rattle.pc_cells_laws.proofs.Spans.{spanned_inside, above_least, below_greatest}
 
 -- ---- one side
 

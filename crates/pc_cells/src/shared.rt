@@ -11,17 +11,17 @@ ghost use Rattle.pc_model.specs.Membership.{in_domain, has};
 ghost use Rattle.pc_model.specs.Regions.{is_region_of};
 ghost use Rattle.pc_model.specs.WellFormed.{IsWellFormed};
 ghost use Rattle.pc_model.specs.Cells.{Class, IsRowOf, HasRowOf, IsSettledTree, leaves_in, IsInSome};
-ghost use Rattle.pc_tree.specs.Linked.{IsTree, IsDividedFor, HasKept, HasNeededCuts, IsFrugal};
-ghost use Rattle.pc_tree.specs.Walking.{HasCutsAt};
+ghost use Rattle.pc_cells_tree.specs.Linked.{IsTree, IsDividedFor, HasKept, HasNeededCuts, IsFrugal};
+ghost use Rattle.pc_cells_tree.specs.Walking.{HasCutsAt};
 ghost use Rattle.pc_cells.specs.declared.cells.Cell.{Cell};
 ghost use Rattle.pc_cells.specs.Found.{class_of_cell, cells_of, IsFilled, HasNumbers};
 
 use crate::cells::Cells;
 use crate::gather::gather;
+use pc_cells_tree::{Growth, Refinement, marked, refined};
 use pc_list::Seq;
 use pc_model::{Constraint, CutNode, CutTree, LeafMark, Region, Schema};
 use pc_num::Memory;
-use pc_tree::{Growth, Refinement, marked, refined};
 use std::alloc::Global;
 
 /// A tree of cuts for many regions: it is linked by the numbers of its nodes and grows only at its end, and its

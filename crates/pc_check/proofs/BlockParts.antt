@@ -2,7 +2,7 @@
 use Rattle.std.proofs.Common.{◌≡◌, ℕ, ◌+◌, List, ◌++◌, length, All, Option, Some, None, refl, sym, ap, arith}
 use Rattle.std.proofs.lemmas.List.Elements.{All-nil}
 use Rattle.pc_model.specs.CutTrees.{shape_of, IsInPreorder}
-use Rattle.pc_class.proofs.Trees.{length-nodes}
+use Rattle.pc_cells_laws.proofs.Trees.{length-nodes}
 use Rattle.pc_proof.specs.declared.answer.Answer.{Answer}
 use Rattle.pc_proof.specs.declared.document.Block.{Block}
 use Rattle.pc_proof.specs.declared.document.BlockTree.{BlockTree}
@@ -13,7 +13,7 @@ use Rattle.pc_proof.specs.Counts.{tree_count, block_count}
 use Rattle.pc_proof.specs.Demands.{Placed, Holds, TreeLines, Judges, allowed, name_demands, front_lines, cells_demands, tree_lines, relation_line, block_demands, next_line}
 use Rattle.pc_proof.specs.Documents.{lines_of}
 use Rattle.pc_proof.proofs.Parts.{one-holds}
-use Rattle.pc_judge.proofs.Verdicts.{judges-front, judges-back}
+use Rattle.pc_check_rules.proofs.Verdicts.{judges-front, judges-back}
 use Rattle.pc_check.specs.declared.verdict.Verdict.{Verdict}
 use Rattle.pc_check.specs.declared.verdict.Verdict.TheVariants as verdicts
 use Rattle.pc_check.specs.Blocks.{HasNodes}

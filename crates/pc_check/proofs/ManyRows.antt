@@ -12,7 +12,7 @@ use Rattle.pc_model.specs.declared.constraint.Constraint.{Constraint}
 use Rattle.pc_model.specs.Membership.{is_under}
 use Rattle.pc_model.specs.Possible.{IsPossible, is_covered, count_of}
 use Rattle.pc_model.specs.Runs.{rows_of}
-use Rattle.pc_judge.specs.Scene.{AreLimited}
+use Rattle.pc_check_rules.specs.Scene.{AreLimited}
 
 -- ---- rows under constraints
 

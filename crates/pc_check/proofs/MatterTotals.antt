@@ -14,7 +14,7 @@ use Rattle.pc_model.specs.Possible.{IsPossible}
 use Rattle.pc_proof.specs.Observed.{ComesTo}
 use Rattle.pc_proof.specs.Setting.{Setting}
 use Rattle.pc_proof.specs.Table.{greater_of, lesser_of}
-use Rattle.pc_judge.specs.Scene.{IsJudged}
+use Rattle.pc_check_rules.specs.Scene.{IsJudged}
 use Rattle.pc_check.specs.declared.matter.Matter.{Matter}
 use Rattle.pc_check.specs.Totals.{question_with}
 use Rattle.pc_check.specs.Verdicts.{IsMatterOf, asked_of}

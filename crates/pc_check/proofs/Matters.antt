@@ -23,8 +23,8 @@ use Rattle.pc_proof.specs.Setting.{narrowed}
 use Rattle.pc_proof.specs.Unbroken.{AllowsName}
 use Rattle.pc_proof.proofs.Observing.{comes}
 use Rattle.pc_proof.proofs.SeenSums.{seen_small}
-use Rattle.pc_judge.specs.Cells.{cells_from}
-use Rattle.pc_judge.specs.Scene.{AreLimited, IsCounted, HasMeasure}
+use Rattle.pc_check_rules.specs.Cells.{cells_from}
+use Rattle.pc_check_rules.specs.Scene.{AreLimited, IsCounted, HasMeasure}
 use Rattle.pc_check.specs.declared.matter.Matter.{Matter}
 use Rattle.pc_check.specs.Blocks.{setting_in}
 use Rattle.pc_check.specs.Verdicts.{IsMatterOf}

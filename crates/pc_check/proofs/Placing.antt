@@ -5,10 +5,10 @@ use Rattle.std.proofs.lemmas.List.{append_assoc}
 use Rattle.pc_proof.specs.Setting.{Setting}
 use Rattle.pc_proof.specs.Demands.{Demand, Placed, Meets}
 use Rattle.pc_proof.proofs.Parts.{one-holds}
-use Rattle.pc_judge.specs.declared.finding.ProofFinding.{ProofFinding}
-use Rattle.pc_judge.specs.declared.finding.ProofFinding.TheVariants as found
-use Rattle.pc_judge.specs.Findings.{IsShown}
-use Rattle.pc_judge.proofs.Verdicts.{judges-here, judges-front, judges-back}
+use Rattle.pc_check_rules.specs.declared.finding.ProofFinding.{ProofFinding}
+use Rattle.pc_check_rules.specs.declared.finding.ProofFinding.TheVariants as found
+use Rattle.pc_check_rules.specs.Findings.{IsShown}
+use Rattle.pc_check_rules.proofs.Verdicts.{judges-here, judges-front, judges-back}
 use Rattle.pc_check.specs.declared.verdict.Verdict.{Verdict}
 use Rattle.pc_check.specs.declared.verdict.Verdict.TheVariants.{Yes, No}
 use Rattle.pc_check.specs.Statements.{placed, statement_verdict}

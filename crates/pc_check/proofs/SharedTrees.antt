@@ -11,9 +11,9 @@ use Rattle.pc_model.specs.CutTrees.{CutShape, leaf, inner, size_of, shape_of, fi
 use Rattle.pc_model.specs.Regions.{whole_region}
 use Rattle.pc_proof.specs.Setting.{Setting}
 use Rattle.pc_proof.specs.Demands.{Placed, Holds, IsFirstBroken, at_line, cut_demands, proper, same}
-use Rattle.pc_judge.specs.declared.cuts.CutFinding.TheVariants as cuts
-use Rattle.pc_judge.specs.Cuts.{IsCutFinding}
-use Rattle.pc_check.specs.Blocks.{IsAreaOf, IsTreeFinding}
+use Rattle.pc_check_rules.specs.declared.cuts.CutFinding.TheVariants as cuts
+use Rattle.pc_check_rules.specs.Cuts.{IsCutFinding}
+use Rattle.pc_check.specs.Blocks.{IsSettingOf, IsTreeFinding}
 
 -- from whichever line the tree is counted
 lines_alike : (line j k : ℕ) (box : Region) (t : CutShape) → map (at_line line) (cut_demands j box t) ≡ map (at_line line) (cut_demands k box t)
@@ -42,17 +42,17 @@ module _ (schema : Schema) (constraints : List Constraint) (region : Region) (li
   abbrev shared : Schema → List CutNode → List Placed
   shared of_schema nodes = map (at_line line) (cut_demands (line + 1) (whole_region of_schema) (shape_of nodes))
 
-  as_shared : (P : List Placed → Type 0) (s : Setting) → IsAreaOf schema constraints region list s
+  as_shared : (P : List Placed → Type 0) (s : Setting) → IsSettingOf schema constraints region list s
       → P (map (at_line line) (cut_demands 0 (whole_region schema) (shape_of list))) → P (shared s.question.schema s.nodes)
-  as_shared P s area found =
-      subst (λ (x : Schema). P (shared x s.nodes)) (sym area.schema_is)
-      (subst (λ (nodes : List CutNode). P (shared schema nodes)) (sym area.nodes_are)
+  as_shared P s given found =
+      subst (λ (x : Schema). P (shared x s.nodes)) (sym given.schema_is)
+      (subst (λ (nodes : List CutNode). P (shared schema nodes)) (sym given.nodes_are)
       (subst P (lines_alike line 0 (line + 1) (whole_region schema) (shape_of list)) found))
 
   pub same_broken : (at rule : ℕ) → IsCutFinding 0 schema constraints region list (cuts.Broken at rule) → IsTreeFinding same line schema constraints region list (cuts.Broken line rule)
-  same_broken at rule finding s area =
-      as_shared (IsFirstBroken s line rule) s area (moved_broken s line at rule (cut_demands 0 (whole_region schema) (shape_of list)) (finding s area.asked))
+  same_broken at rule finding s given =
+      as_shared (IsFirstBroken s line rule) s given (moved_broken s line at rule (cut_demands 0 (whole_region schema) (shape_of list)) (finding s given.asked))
 
   pub same_settled : (leaves : List Leaf) → IsCutFinding 0 schema constraints region list (cuts.Settled leaves) → IsTreeFinding same line schema constraints region list (cuts.Settled leaves)
   same_settled leaves finding =
-      (λ s area. as_shared (All (Holds s)) s area (moved_whole s line (cut_demands 0 (whole_region schema) (shape_of list)) (finding.0 s area.asked)), finding.1)
+      (λ s given. as_shared (All (Holds s)) s given (moved_whole s line (cut_demands 0 (whole_region schema) (shape_of list)) (finding.0 s given.asked)), finding.1)

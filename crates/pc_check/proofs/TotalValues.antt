@@ -11,8 +11,8 @@ use Rattle.pc_model.specs.Aggregate.{whole, asked, int_sum, value_of}
 use Rattle.pc_model.specs.Right.{Question, value_for}
 use Rattle.pc_proof.specs.Observed.{ComesTo}
 use Rattle.pc_proof.specs.Setting.{Setting, seen, seen_numbers}
-use Rattle.pc_judge.specs.declared.scene.Scene.{Scene}
-use Rattle.pc_judge.specs.Scene.{HasMeasure, IsSceneOf}
+use Rattle.pc_check_rules.specs.declared.scene.Scene.{Scene}
+use Rattle.pc_check_rules.specs.Scene.{HasMeasure, IsSceneOf}
 use Rattle.pc_check.specs.Totals.{average_of, total_value, question_with}
 
 -- what is known where there is a column

@@ -12,9 +12,9 @@ use Rattle.pc_proof.specs.declared.document.BlockTree.TheVariants as trees
 use Rattle.pc_proof.specs.Setting.{Setting}
 use Rattle.pc_proof.specs.Demands.{Placed, TreeLines, Judges, block_demands, cells_demands, treeless_demands}
 use Rattle.pc_proof.specs.Documents.{Premises, lines_of, setting_of}
-use Rattle.pc_judge.specs.Cuts.{IsAsked}
-use Rattle.pc_judge.specs.declared.cuts.CutFinding.{CutFinding}
-use Rattle.pc_judge.specs.declared.cuts.CutFinding.TheVariants as cuts
+use Rattle.pc_check_rules.specs.Cuts.{IsAsked}
+use Rattle.pc_check_rules.specs.declared.cuts.CutFinding.{CutFinding}
+use Rattle.pc_check_rules.specs.declared.cuts.CutFinding.TheVariants as cuts
 use Rattle.pc_check.specs.declared.verdict.Verdict.{Verdict}
 use Rattle.pc_check.specs.Verdicts.{Finds, premises_of}
 
@@ -40,7 +40,7 @@ FindsIn case line block (Some nodes) verdict = Finds (setting_of case block node
 -- ---- the lines of its tree
 
 -- a setting of this schema and tree, whose question has these constraints and this region
-pub record IsAreaOf (schema : Schema) (constraints : List Constraint) (region : Region) (list : List CutNode) (s : Setting) : Type 0 where
+pub record IsSettingOf (schema : Schema) (constraints : List Constraint) (region : Region) (list : List CutNode) (s : Setting) : Type 0 where
   pub schema_is : s.question.schema ≡ schema
   pub asked : IsAsked constraints region s
   pub nodes_are : s.nodes ≡ list
@@ -48,6 +48,6 @@ pub record IsAreaOf (schema : Schema) (constraints : List Constraint) (region : 
 -- the verdict on the lines of the tree, the first of which says whose tree it is, and the leaves where none is broken
 abbrev pub IsTreeFinding : TreeLines → ℕ → Schema → List Constraint → Region → List CutNode → CutFinding → Type 0
 IsTreeFinding kind line schema constraints region list (cuts.Broken at rule) =
-    (s : Setting) → IsAreaOf schema constraints region list s → Judges s (cells_demands kind s line) (Some (at, rule))
+    (s : Setting) → IsSettingOf schema constraints region list s → Judges s (cells_demands kind s line) (Some (at, rule))
 IsTreeFinding kind line schema constraints region list (cuts.Settled leaves) =
-    ((s : Setting) → IsAreaOf schema constraints region list s → Judges s (cells_demands kind s line) None) × (leaves ≡ leaves_in schema list)
+    ((s : Setting) → IsSettingOf schema constraints region list s → Judges s (cells_demands kind s line) None) × (leaves ≡ leaves_in schema list)

@@ -1,8 +1,8 @@
 -- The verdict on a statement that stands in one line, with its proof behind it.
 use Rattle.std.specs.Prelude.{ℕ, Bool, cond, ◌&&◌}
 use Rattle.pc_proof.specs.Demands.{Demand, Placed}
-use Rattle.pc_judge.specs.declared.finding.ProofFinding.{ProofFinding}
-use Rattle.pc_judge.specs.declared.finding.ProofFinding.TheVariants as found
+use Rattle.pc_check_rules.specs.declared.finding.ProofFinding.{ProofFinding}
+use Rattle.pc_check_rules.specs.declared.finding.ProofFinding.TheVariants as found
 use Rattle.pc_check.specs.declared.verdict.Verdict.{Verdict}
 use Rattle.pc_check.specs.declared.verdict.Verdict.TheVariants as verdicts
 

@@ -14,7 +14,7 @@ use Rattle.pc_proof.specs.Documents.{Premises, AreUnbroken, IsFirstBrokenIn}
 use Rattle.pc_check.specs.declared.verdict.Verdict.{Verdict}
 use Rattle.pc_check.specs.declared.verdict.Verdict.TheVariants as verdicts
 use Rattle.pc_check.specs.declared.matter.Matter.{Matter}
-use Rattle.pc_judge.specs.Scene.{IsSceneOf}
+use Rattle.pc_check_rules.specs.Scene.{IsSceneOf}
 
 -- ---- a document
 

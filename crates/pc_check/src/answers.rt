@@ -2,7 +2,7 @@ ghost use Rattle.std.specs.Prelude.{◌+◌, ◌++◌, ◌<◌, ◌^◌, IfOk};
 ghost use Rattle.pc_proof.specs.Demands.{ends_demands, ends_lines, lack_demands, lack_lines};
 ghost use Rattle.pc_proof.specs.Form.{IsFormedAnswer};
 ghost use Rattle.pc_proof.specs.Setting.{Setting};
-ghost use Rattle.pc_judge.specs.Scene.{IsJudged};
+ghost use Rattle.pc_check_rules.specs.Scene.{IsJudged};
 ghost use Rattle.pc_check.specs.Verdicts.{Finds, IsMatterOf, answer_count, answer_demands};
 
 use crate::ends::judge_ends;

@@ -15,12 +15,12 @@ ghost use Rattle.pc_check.specs.Blocks.{HasNodes, demands_on, setting_in};
 ghost use Rattle.pc_check.specs.Verdicts.{Finds, answer_count, answer_demands};
 
 use crate::answers::judge_answer;
-use crate::area::judge_tree;
+use crate::block_tree::judge_tree;
 use crate::line_counts::{front_lines, tree_count};
 use crate::matter::Matter;
 use crate::observed::seen_in;
 use crate::verdict::Verdict;
-use pc_judge::{CutFinding, Scene, cells_of};
+use pc_check_rules::{CutFinding, Scene, cells_of};
 use pc_model::{Constraint, CutNode, Leaf, Query, Region, Schema};
 use pc_num::Memory;
 use pc_proof::{Block, narrowed};

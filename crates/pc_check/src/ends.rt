@@ -3,7 +3,7 @@ ghost use Rattle.pc_proof.specs.Demands.{ends_demands, ends_lines, high_by, high
 ghost use Rattle.pc_proof.specs.Form.{AreFormedEnds, IsFormedEnd};
 ghost use Rattle.pc_proof.specs.Setting.{Setting};
 ghost use Rattle.pc_proof.specs.Unbroken.{MayShow};
-ghost use Rattle.pc_judge.specs.Scene.{IsJudged};
+ghost use Rattle.pc_check_rules.specs.Scene.{IsJudged};
 ghost use Rattle.pc_check.specs.Statements.{placed};
 ghost use Rattle.pc_check.specs.Verdicts.{Finds, IsMatterOf};
 
@@ -12,7 +12,7 @@ use crate::matter::Matter;
 use crate::runs::judge_mark;
 use crate::statements::statement_verdict;
 use crate::verdict::Verdict;
-use pc_judge::{judge_high, judge_low};
+use pc_check_rules::{judge_high, judge_low};
 use pc_num::Memory;
 use pc_proof::{End, Mark, Proof};
 use std::alloc::Global;

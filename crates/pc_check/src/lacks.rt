@@ -3,7 +3,7 @@ ghost use Rattle.pc_proof.specs.Demands.{always_by, always_lines, always_trees, 
 ghost use Rattle.pc_proof.specs.Form.{IsFormedAlways, IsFormedLack, IsFormedNever};
 ghost use Rattle.pc_proof.specs.Setting.{Setting};
 ghost use Rattle.pc_proof.specs.declared.answer.Lack.TheVariants.{Sometimes};
-ghost use Rattle.pc_judge.specs.Scene.{IsJudged};
+ghost use Rattle.pc_check_rules.specs.Scene.{IsJudged};
 ghost use Rattle.pc_check.specs.Statements.{placed};
 ghost use Rattle.pc_check.specs.Verdicts.{Finds, IsMatterOf};
 
@@ -11,7 +11,7 @@ use crate::matter::Matter;
 use crate::runs::{judge_with, judge_without};
 use crate::statements::statement_verdict;
 use crate::verdict::Verdict;
-use pc_judge::{judge_always, judge_never};
+use pc_check_rules::{judge_always, judge_never};
 use pc_model::Run;
 use pc_num::Memory;
 use pc_proof::{AlwaysBy, Lack, NeverBy};

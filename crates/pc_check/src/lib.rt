@@ -2,8 +2,8 @@
 #![tactic(auto)]
 
 mod answers;
-mod area;
 mod block;
+mod block_tree;
 mod document;
 mod ends;
 mod lacks;

@@ -1,4 +1,4 @@
-use pc_judge::Scene;
+use pc_check_rules::Scene;
 use pc_model::{Query, Schema};
 
 /// What the statements of a block are about: its query without a group, over the part of its region that the block's

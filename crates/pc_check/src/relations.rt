@@ -5,7 +5,7 @@ ghost use Rattle.pc_proof.specs.Setting.{Setting};
 ghost use Rattle.pc_proof.specs.Unbroken.{MayStand, plain_mark};
 ghost use Rattle.pc_model.specs.Right.{is_outer};
 ghost use Rattle.pc_proof.specs.declared.answer.Relation.TheVariants as relations;
-ghost use Rattle.pc_judge.specs.Scene.{IsJudged};
+ghost use Rattle.pc_check_rules.specs.Scene.{IsJudged};
 ghost use Rattle.pc_check.specs.Statements.{placed};
 ghost use Rattle.pc_check.specs.Verdicts.{Finds, IsMatterOf};
 
@@ -13,7 +13,7 @@ use crate::matter::Matter;
 use crate::runs::judge_possible;
 use crate::statements::statement_verdict;
 use crate::verdict::Verdict;
-use pc_judge::judge_why;
+use pc_check_rules::judge_why;
 use pc_num::Memory;
 use pc_proof::{End, Mark, Relation, Why};
 use std::alloc::Global;

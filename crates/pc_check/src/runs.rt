@@ -8,7 +8,7 @@ ghost use Rattle.pc_proof.specs.Form.{IsFormedValue};
 ghost use Rattle.pc_proof.specs.Setting.{Setting};
 ghost use Rattle.pc_proof.specs.Table.{ratio_of};
 ghost use Rattle.pc_proof.specs.declared.answer.Mark.TheVariants.{Exact};
-ghost use Rattle.pc_judge.specs.Scene.{IsJudged};
+ghost use Rattle.pc_check_rules.specs.Scene.{IsJudged};
 ghost use Rattle.pc_check.specs.Statements.{placed};
 ghost use Rattle.pc_check.specs.Verdicts.{Finds, IsMatterOf};
 

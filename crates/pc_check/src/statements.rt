@@ -3,7 +3,7 @@ ghost use Rattle.pc_check.specs.declared.verdict.Verdict.TheVariants.{No, Yes};
 ghost use Rattle.pc_check.specs.Statements.{statement_verdict};
 
 use crate::verdict::Verdict;
-use pc_judge::ProofFinding;
+use pc_check_rules::ProofFinding;
 
 /// The verdict on a statement and its proof: `other` is what else the statement needs, `line` that of the statement, and
 /// `rule` the one that it stands under.

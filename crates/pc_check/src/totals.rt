@@ -7,7 +7,7 @@ ghost use Rattle.pc_proof.specs.Form.{IsFormedRatio, IsFormedValue, IsFormedWhol
 ghost use Rattle.pc_proof.specs.Observed.{ComesTo};
 ghost use Rattle.pc_proof.specs.Setting.{Setting};
 ghost use Rattle.pc_proof.specs.Table.{greater_of, lesser_of, ratio_of};
-ghost use Rattle.pc_judge.specs.Scene.{IsJudged};
+ghost use Rattle.pc_check_rules.specs.Scene.{IsJudged};
 ghost use Rattle.pc_check.specs.Totals.{average_of, question_with, total_value};
 ghost use Rattle.pc_check.specs.Verdicts.{IsMatterOf};
 

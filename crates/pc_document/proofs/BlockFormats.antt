@@ -25,21 +25,21 @@ use Rattle.pc_proof.specs.declared.answer.Mark.TheVariants as marks
 use Rattle.pc_proof.specs.declared.answer.End.{End}
 use Rattle.pc_proof.specs.Unbroken.{plain_lack}
 use Rattle.pc_proof.specs.Form.{IsFormedTree, AreFormedRuns, IsFormedValue, IsFormedProof, IsFormedNever, IsFormedAlways, IsFormedLack, IsFormedMark, IsFormedEnd, AreFormedEnds, IsFormedAnswer}
-use Rattle.pc_format.specs.Lines.{feeds_in}
-use Rattle.pc_format.specs.Formats.{Lines, Found, IsFormat, IsLine, Ends, any, found_in, first_line, read_as, read_joined}
-use Rattle.pc_format.proofs.OneLine.{line_format, none_format}
-use Rattle.pc_format.proofs.Joined.{joined_format}
-use Rattle.pc_format.proofs.As.{as_format}
-use Rattle.pc_format.proofs.Spelled.{one_of_line}
-use Rattle.pc_lines.specs.declared.tags.Side.{Side}
-use Rattle.pc_lines.specs.declared.tags.Side.TheVariants.{Low as low, High as high}
-use Rattle.pc_lines.specs.declared.tags.EndLine.{EndLine}
-use Rattle.pc_lines.specs.ValueLines.{end_text}
-use Rattle.pc_lines.specs.TokenLines.{begins_run}
+use Rattle.pc_document_format.specs.Lines.{feeds_in}
+use Rattle.pc_document_format.specs.Formats.{Lines, Found, IsFormat, IsLine, Ends, any, found_in, first_line, read_as, read_joined}
+use Rattle.pc_document_format.proofs.OneLine.{line_format, none_format}
+use Rattle.pc_document_format.proofs.Joined.{joined_format}
+use Rattle.pc_document_format.proofs.As.{as_format}
+use Rattle.pc_document_format.proofs.Spelled.{one_of_line}
+use Rattle.pc_document_lines.specs.declared.tags.Side.{Side}
+use Rattle.pc_document_lines.specs.declared.tags.Side.TheVariants.{Low as low, High as high}
+use Rattle.pc_document_lines.specs.declared.tags.EndLine.{EndLine}
+use Rattle.pc_document_lines.specs.ValueLines.{end_text}
+use Rattle.pc_document_lines.specs.TokenLines.{begins_run}
 use Rattle.pc_document.specs.DocumentLines.{tree_lines, runs_lines, proof_lines, crossing_lines, never_lines, always_lines, lack_lines, mark_lines, end_lines, ends_lines, after_lines, answer_lines}
 use Rattle.pc_document.specs.declared.tags.After.{After}
 use Rattle.pc_document.specs.Parts.{ends_block, has_no_ends, IsSpokenLack, IsLackUnless, AreEndsUnless, nothing_after, IsAfter}
-use Rattle.pc_lines.specs.Kinds.{AreLines}
+use Rattle.pc_document_lines.specs.Kinds.{AreLines}
 use Rattle.pc_document.specs.declared.tags.NeverLine.{NeverLine}
 use Rattle.pc_document.specs.declared.tags.NeverLine.TheVariants.{Rows as by_rows, Tree as by_tree}
 use Rattle.pc_document.specs.declared.tags.AlwaysLine.{AlwaysLine}

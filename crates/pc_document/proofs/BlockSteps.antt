@@ -8,14 +8,14 @@ use Rattle.pc_proof.specs.Form.{IsFormedBlock}
 use Rattle.pc_document.specs.declared.halt.Halt.{Halt}
 use Rattle.pc_document.specs.declared.halt.Halt.TheVariants as halts
 use Rattle.pc_document.specs.Places.{HaltsAs, lines_at}
-use Rattle.pc_format.specs.Formats.{Lines, Found, after_items, read_many}
-use Rattle.pc_format.proofs.Loops.{many_none, many_over, many_refused, value_more}
-use Rattle.pc_lines.specs.TokenLines.{begins_query}
+use Rattle.pc_document_format.specs.Formats.{Lines, Found, after_items, read_many}
+use Rattle.pc_document_format.proofs.Loops.{many_none, many_over, many_refused, value_more}
+use Rattle.pc_document_lines.specs.TokenLines.{begins_query}
 use Rattle.pc_document.specs.DocumentLines.{block_lines}
 use Rattle.pc_document.specs.Reading.{read_block}
-use Rattle.pc_lines.proofs.AllLines.{all_lines}
+use Rattle.pc_document_lines.proofs.AllLines.{all_lines}
 use Rattle.pc_document.proofs.DocumentFormat.{block_format}
-use Rattle.pc_lines.proofs.QueriesBack.{query_begins}
+use Rattle.pc_document_lines.proofs.QueriesBack.{query_begins}
 
 pub block_more : (schema : Schema) (before : List Block) (lines : Lines) (line : List ℕ) (rest left : Lines) (block : Block) → IsWellFormed schema → lines ≡ line ∷ rest → begins_query line ≡ true → read_block schema lines ≡ Ok (block, left)
     → after_items before (read_many begins_query (read_block schema) lines) ≡ after_items (before ++ block ∷ []) (read_many begins_query (read_block schema) left)

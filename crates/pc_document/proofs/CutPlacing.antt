@@ -2,7 +2,7 @@
 use Rattle.std.proofs.Common.{◌≡◌, ℕ, ◌+◌, ◌<◌, List, [], ◌∷◌, ◌++◌, length, map, get_or, sym, ◌∙◌, subst, arith, append_assoc}
 use Rattle.std.proofs.lemmas.List.{append-nil, length-append, length-map}
 use Rattle.pc_model.specs.declared.tree.CutNode.{CutNode}
-use Rattle.pc_lines.specs.TokenLines.{is_inner}
+use Rattle.pc_document_lines.specs.TokenLines.{is_inner}
 use Rattle.pc_document.specs.Spans.{ArePast, span, placed_cut, placed_cuts_from}
 use Rattle.pc_document.proofs.PlacingSteps.{second_is}
 

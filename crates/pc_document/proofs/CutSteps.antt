@@ -5,13 +5,13 @@ use Rattle.pc_model.specs.declared.tree.LeafMark.TheVariants.{Barren}
 use Rattle.pc_model.specs.declared.tree.CutNode.{CutNode}
 use Rattle.pc_model.specs.declared.tree.CutNode.TheVariants as nodes
 use Rattle.pc_model.specs.WellFormed.{IsWellFormed}
-use Rattle.pc_format.specs.Formats.{AreTrees, Lines, after_items, read_line, read_nodes}
-use Rattle.pc_format.proofs.Loops.{nodes_done, nodes_refused, nodes_more}
-use Rattle.pc_format.proofs.Nodes.{nodes_format}
+use Rattle.pc_document_format.specs.Formats.{AreTrees, Lines, after_items, read_line, read_nodes}
+use Rattle.pc_document_format.proofs.Loops.{nodes_done, nodes_refused, nodes_more}
+use Rattle.pc_document_format.proofs.Nodes.{nodes_format}
 use Rattle.pc_document.specs.declared.halt.Halt.{Halt}
 use Rattle.pc_document.specs.Places.{Reads, lines_at}
-use Rattle.pc_lines.specs.TokenLines.{IsBareCut, is_inner, read_cut_node}
-use Rattle.pc_lines.proofs.CutsBack.{cut_line}
+use Rattle.pc_document_lines.specs.TokenLines.{IsBareCut, is_inner, read_cut_node}
+use Rattle.pc_document_lines.proofs.CutsBack.{cut_line}
 
 -- a node more
 pub cut_more : (schema : Schema) (before : List CutNode) (owed : ℕ) (lines rest : Lines) (node : CutNode) → 0 < owed → read_line (read_cut_node schema) lines ≡ Ok (node, rest)

@@ -11,12 +11,12 @@ use Rattle.pc_model.specs.declared.tree.CutNode.{CutNode}
 use Rattle.pc_model.specs.declared.tree.CutNode.TheVariants as nodes
 use Rattle.pc_model.specs.declared.tree.CutTree.{CutTree}
 use Rattle.pc_model.specs.CutTrees.{CutShape, leaf, inner, size_of, nodes_from, joined, shapes_of, first_of_shapes, shape_of}
-use Rattle.pc_class.proofs.Trees.{shape_of-nodes}
-use Rattle.pc_format.specs.Formats.{IsFormat, IsLine, AreTrees, any, nodes_text}
-use Rattle.pc_format.proofs.Nodes.{nodes_format}
-use Rattle.pc_format.proofs.As.{as_format}
+use Rattle.pc_cells_laws.proofs.Trees.{shape_of-nodes}
+use Rattle.pc_document_format.specs.Formats.{IsFormat, IsLine, AreTrees, any, nodes_text}
+use Rattle.pc_document_format.proofs.Nodes.{nodes_format}
+use Rattle.pc_document_format.proofs.As.{as_format}
 use Rattle.pc_proof.specs.Form.{IsFormedCutNode, IsFormedCutTree}
-use Rattle.pc_lines.specs.TokenLines.{IsBareCut, cut_node_text, read_cut_node, bare_cut, is_inner}
+use Rattle.pc_document_lines.specs.TokenLines.{IsBareCut, cut_node_text, read_cut_node, bare_cut, is_inner}
 use Rattle.pc_document.specs.DocumentLines.{cut_tree_lines}
 use Rattle.pc_document.specs.Reading.{placed_cuts, read_cuts}
 use Rattle.pc_document.proofs.TreeFormat.{text-map, unmapped, with_good, all_good}

@@ -12,18 +12,18 @@ use Rattle.pc_proof.specs.declared.document.BlockTree.{BlockTree}
 use Rattle.pc_proof.specs.declared.document.BlockTree.TheVariants as trees
 use Rattle.pc_proof.specs.declared.document.Document.{Document}
 use Rattle.pc_proof.specs.Form.{IsFormedCutTree, IsFormedBlockTree, IsFormedAnswer, IsGroupName, IsFormedBlock, IsInForm}
-use Rattle.pc_format.specs.Lines.{feeds_in}
-use Rattle.pc_format.specs.Formats.{Lines, IsFormat, IsLine, any, found_in, items_text}
-use Rattle.pc_format.proofs.OneLine.{line_format, none_format}
-use Rattle.pc_format.proofs.Joined.{joined_format}
-use Rattle.pc_format.proofs.Many.{many_format}
-use Rattle.pc_format.proofs.Spelled.{one_of_line}
-use Rattle.pc_format.proofs.Whole.{reads_back, tells}
-use Rattle.pc_lines.specs.TokenLines.{begins_query}
+use Rattle.pc_document_format.specs.Lines.{feeds_in}
+use Rattle.pc_document_format.specs.Formats.{Lines, IsFormat, IsLine, any, found_in, items_text}
+use Rattle.pc_document_format.proofs.OneLine.{line_format, none_format}
+use Rattle.pc_document_format.proofs.Joined.{joined_format}
+use Rattle.pc_document_format.proofs.Many.{many_format}
+use Rattle.pc_document_format.proofs.Spelled.{one_of_line}
+use Rattle.pc_document_format.proofs.Whole.{reads_back, tells}
+use Rattle.pc_document_lines.specs.TokenLines.{begins_query}
 use Rattle.pc_document.specs.DocumentLines.{name_lines, cut_tree_lines, block_tree_lines, answer_lines, block_lines, document_lines}
 use Rattle.pc_document.specs.Parts.{IsName}
 use Rattle.pc_document.specs.Told.{IsDocumentText, Told}
-use Rattle.pc_lines.specs.Kinds.{AreLines}
+use Rattle.pc_document_lines.specs.Kinds.{AreLines}
 use Rattle.pc_document.specs.declared.tags.TreeLine.{TreeLine}
 use Rattle.pc_document.specs.declared.tags.TreeLine.TheVariants.{Own as own, Same as same}
 use Rattle.pc_document.specs.Reading.{word, read_name, tree_text, read_tree_line, tagged_tree, read_block_tree, read_body, read_named, read_block, read_blocks, read_document, document_of}

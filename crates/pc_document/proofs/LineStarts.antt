@@ -1,6 +1,6 @@
 -- Where a line begins.
 use Rattle.std.proofs.Common.{ℕ, ◌+◌, List, refl, sym, ◌∙◌, arith}
-use Rattle.pc_format.specs.Lines.{IsLineEnd}
+use Rattle.pc_document_format.specs.Lines.{IsLineEnd}
 use Rattle.pc_document.specs.Places.{IsLineStart}
 
 pub starts_after : (bytes : List ℕ) (at end : ℕ) → IsLineStart bytes at → IsLineEnd bytes at end → IsLineStart bytes (end + 1)

@@ -1,10 +1,10 @@
 -- The nodes of a search tree, line by line.
 use Rattle.std.proofs.Common.{◌≡◌, ℕ, ◌+◌, ◌-◌, ◌<◌, ◌≤◌, List, [], ◌∷◌, ◌++◌, Ok, Err, if◌then◌else◌}
 use Rattle.pc_model.specs.declared.tree.TreeNode.{TreeNode}
-use Rattle.pc_format.specs.Formats.{Lines, AreTrees, after_items, read_line, read_nodes}
-use Rattle.pc_format.proofs.Loops.{nodes_done, nodes_refused, nodes_more}
-use Rattle.pc_lines.specs.NodeLines.{IsBareNode, is_split, read_node}
-use Rattle.pc_lines.proofs.NodesBack.{node_line}
+use Rattle.pc_document_format.specs.Formats.{Lines, AreTrees, after_items, read_line, read_nodes}
+use Rattle.pc_document_format.proofs.Loops.{nodes_done, nodes_refused, nodes_more}
+use Rattle.pc_document_lines.specs.NodeLines.{IsBareNode, is_split, read_node}
+use Rattle.pc_document_lines.proofs.NodesBack.{node_line}
 use Rattle.pc_document.proofs.TreeFormat.{tree_nodes}
 
 pub split_more : (before : List TreeNode) (owed : ℕ) (lines rest : Lines) (node : TreeNode) → 0 < owed → read_line read_node lines ≡ Ok (node, rest)

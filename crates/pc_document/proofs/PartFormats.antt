@@ -16,21 +16,21 @@ use Rattle.pc_proof.specs.declared.answer.Why.TheVariants as whys
 use Rattle.pc_proof.specs.declared.answer.Relation.{Relation}
 use Rattle.pc_proof.specs.declared.answer.Relation.TheVariants as relations
 use Rattle.pc_proof.specs.Form.{IsFormedTree, AreFormedRuns, IsFormedProof, IsFormedBounded, IsFormedWhy, IsFormedRelation}
-use Rattle.pc_format.specs.Lines.{feeds_in}
-use Rattle.pc_format.specs.Formats.{Lines, Found, IsFormat, IsLine, Ends, any, found_in, first_line, read_line, read_as, read_joined}
-use Rattle.pc_format.proofs.OneLine.{line_format, none_format}
-use Rattle.pc_format.proofs.Joined.{joined_format}
-use Rattle.pc_format.proofs.As.{as_format}
-use Rattle.pc_format.proofs.Many.{many_format}
-use Rattle.pc_format.proofs.Spelled.{one_of_line}
-use Rattle.pc_lines.specs.declared.tags.Side.{Side}
-use Rattle.pc_lines.specs.declared.tags.Side.TheVariants.{Low as low, High as high}
-use Rattle.pc_lines.specs.declared.tags.ProofLine.{ProofLine}
-use Rattle.pc_lines.specs.declared.tags.ProofLine.TheVariants.{Rows as rows, Tree as tree, At as at, Values as values}
-use Rattle.pc_lines.specs.ValueLines.{IsProofLine, proof_text}
-use Rattle.pc_lines.specs.TokenLines.{begins_run}
+use Rattle.pc_document_format.specs.Lines.{feeds_in}
+use Rattle.pc_document_format.specs.Formats.{Lines, Found, IsFormat, IsLine, Ends, any, found_in, first_line, read_line, read_as, read_joined}
+use Rattle.pc_document_format.proofs.OneLine.{line_format, none_format}
+use Rattle.pc_document_format.proofs.Joined.{joined_format}
+use Rattle.pc_document_format.proofs.As.{as_format}
+use Rattle.pc_document_format.proofs.Many.{many_format}
+use Rattle.pc_document_format.proofs.Spelled.{one_of_line}
+use Rattle.pc_document_lines.specs.declared.tags.Side.{Side}
+use Rattle.pc_document_lines.specs.declared.tags.Side.TheVariants.{Low as low, High as high}
+use Rattle.pc_document_lines.specs.declared.tags.ProofLine.{ProofLine}
+use Rattle.pc_document_lines.specs.declared.tags.ProofLine.TheVariants.{Rows as rows, Tree as tree, At as at, Values as values}
+use Rattle.pc_document_lines.specs.ValueLines.{IsProofLine, proof_text}
+use Rattle.pc_document_lines.specs.TokenLines.{begins_run}
 use Rattle.pc_document.specs.DocumentLines.{tree_lines, runs_lines, proof_lines, bounded_lines, crossing_lines, why_lines, relation_lines}
-use Rattle.pc_lines.specs.Kinds.{AreLines}
+use Rattle.pc_document_lines.specs.Kinds.{AreLines}
 use Rattle.pc_document.specs.declared.tags.WhyLine.{WhyLine}
 use Rattle.pc_document.specs.declared.tags.WhyLine.TheVariants.{Void as by_void, Cross as by_cross, Ends as by_ends}
 use Rattle.pc_document.specs.declared.tags.RelationLine.{RelationLine}

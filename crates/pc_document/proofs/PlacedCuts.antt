@@ -6,8 +6,8 @@ use Rattle.pc_model.specs.declared.tree.Cut.{Cut}
 use Rattle.pc_model.specs.declared.tree.CutNode.{CutNode}
 use Rattle.pc_model.specs.declared.tree.CutNode.TheVariants as nodes
 use Rattle.pc_model.specs.CutTrees.{CutShape, leaf, inner, size_of, nodes_from, joined, shapes_of, first_of_shapes, shape_of}
-use Rattle.pc_lines.specs.TokenLines.{is_inner, IsBareCut}
-use Rattle.pc_format.specs.Formats.{AreTrees}
+use Rattle.pc_document_lines.specs.TokenLines.{is_inner, IsBareCut}
+use Rattle.pc_document_format.specs.Formats.{AreTrees}
 use Rattle.pc_document.specs.Spans.{Trees, span, placed_cut, placed_cuts_from}
 
 -- the nodes of trees one after another, and how many the first so many have

@@ -3,9 +3,9 @@ use Rattle.std.proofs.Common.{◌≡◌, ℕ, zero, suc, ◌+◌, true, false, L
 use Rattle.std.proofs.lemmas.List.{append-nil}
 use Rattle.pc_model.specs.declared.tree.TreeNode.{TreeNode}
 use Rattle.pc_model.specs.declared.tree.TreeNode.TheVariants as nodes
-use Rattle.pc_bound.specs.SplitTrees.{SplitTree, bound, void, split, size_of, nodes_from, joined, trees_of, first_of_trees, tree_of}
-use Rattle.pc_lines.specs.NodeLines.{is_split, IsBareNode}
-use Rattle.pc_format.specs.Formats.{AreTrees}
+use Rattle.pc_program_bound.specs.SplitTrees.{SplitTree, bound, void, split, size_of, nodes_from, joined, trees_of, first_of_trees, tree_of}
+use Rattle.pc_document_lines.specs.NodeLines.{is_split, IsBareNode}
+use Rattle.pc_document_format.specs.Formats.{AreTrees}
 use Rattle.pc_document.specs.Spans.{Trees, span, placed_node, placed_from}
 
 -- the nodes of trees one after another, and how many the first so many have

@@ -2,7 +2,7 @@
 use Rattle.std.proofs.Common.{◌≡◌, ℕ, ◌+◌, ◌<◌, Bool, List, [], ◌∷◌, ◌++◌, length, map, drop, get_or, refl, sym, ap, ◌∙◌, subst, arith, append_assoc}
 use Rattle.std.proofs.lemmas.List.{append-nil, length-append, length-map, drop_at, get_or_past, get_or_default}
 use Rattle.pc_model.specs.declared.tree.TreeNode.{TreeNode}
-use Rattle.pc_lines.specs.NodeLines.{is_split}
+use Rattle.pc_document_lines.specs.NodeLines.{is_split}
 use Rattle.pc_document.specs.Spans.{ArePast, span, placed_node, placed_from}
 
 no_node : span 1 [] ≡ 0

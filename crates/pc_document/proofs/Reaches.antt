@@ -4,7 +4,7 @@ use Rattle.std.specs.Prelude.{◌==◌, ◌≢◌, ◌⊎◌, slice_set}
 use Rattle.std.proofs.lemmas.List.{drop_more, drop-drop, length-drop, length-set, get_or-set_other}
 use Rattle.std.proofs.lemmas.Grind.{get_or-set_at}
 use Rattle.std.proofs.lemmas.Bool.Decides.{eqb_tells}
-use Rattle.pc_format.specs.Formats.{AreTrees}
+use Rattle.pc_document_format.specs.Formats.{AreTrees}
 use Rattle.pc_document.specs.Spans.{Trees, owed, span, ArePast}
 
 no_span : (flags : List Bool) → span 0 flags ≡ 0

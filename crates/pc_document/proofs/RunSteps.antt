@@ -2,9 +2,9 @@
 use Rattle.std.proofs.Common.{◌≡◌, ℕ, true, false, List, [], ◌∷◌, ◌++◌, Some, None, Ok, Err}
 use Rattle.pc_model.specs.declared.schema.Schema.{Schema}
 use Rattle.pc_model.specs.declared.row.Run.{Run}
-use Rattle.pc_format.specs.Formats.{Lines, after_items, read_line}
-use Rattle.pc_format.proofs.Loops.{many_none, many_over, line_more, line_refused}
-use Rattle.pc_lines.specs.TokenLines.{read_run, begins_run}
+use Rattle.pc_document_format.specs.Formats.{Lines, after_items, read_line}
+use Rattle.pc_document_format.proofs.Loops.{many_none, many_over, line_more, line_refused}
+use Rattle.pc_document_lines.specs.TokenLines.{read_run, begins_run}
 use Rattle.pc_document.specs.Reading.{read_runs}
 
 -- a line of a run

@@ -3,14 +3,14 @@ use Rattle.std.proofs.Common.{◌≡◌, ℕ, ◌+◌, ◌<◌, ◌≤◌, List,
 use Rattle.pc_model.specs.declared.schema.Schema.{Schema}
 use Rattle.pc_model.specs.WellFormed.{IsWellFormed}
 use Rattle.pc_proof.specs.declared.document.Document.{Document}
-use Rattle.pc_format.specs.Lines.{feeds_in}
-use Rattle.pc_format.proofs.ByPlace.{refused_at, whole_at, more_at}
+use Rattle.pc_document_format.specs.Lines.{feeds_in}
+use Rattle.pc_document_format.proofs.ByPlace.{refused_at, whole_at, more_at}
 use Rattle.pc_document.specs.declared.document.NoDocument.{NoDocument}
 use Rattle.pc_document.specs.declared.document.NoDocument.TheVariants as refusals
 use Rattle.pc_document.specs.Places.{IsLineStart, lines_at}
 use Rattle.pc_document.specs.Reading.{read_document, document_of}
 use Rattle.pc_document.specs.Told.{Gives, Told, ToldAs}
-use Rattle.pc_lines.proofs.AllLines.{all_lines}
+use Rattle.pc_document_lines.proofs.AllLines.{all_lines}
 use Rattle.pc_document.proofs.DocumentFormat.{reading_told}
 
 pub ends_refused : (schema : Schema) (bytes : List ℕ) (at : ℕ) → read_document schema (lines_at bytes 0) ≡ Err (lines_at bytes at) → document_of schema bytes ≡ Err (feeds_in (take at bytes) + 1)

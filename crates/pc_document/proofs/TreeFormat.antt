@@ -8,13 +8,13 @@ use Rattle.pc_num.specs.Signs.{Fits}
 use Rattle.pc_model.specs.declared.tree.TreeNode.{TreeNode}
 use Rattle.pc_model.specs.declared.tree.TreeNode.TheVariants as nodes
 use Rattle.pc_model.specs.declared.tree.Tree.{Tree}
-use Rattle.pc_bound.specs.SplitTrees.{SplitTree, bound, void, split, size_of, nodes_from, joined, trees_of, first_of_trees, tree_of}
-use Rattle.pc_bound.proofs.TreeNodes.{tree_of-nodes}
-use Rattle.pc_format.specs.Formats.{IsFormat, IsLine, AreTrees, any, nodes_text, owed_after, read_nodes}
-use Rattle.pc_format.proofs.Nodes.{nodes_format}
-use Rattle.pc_format.proofs.As.{as_format}
+use Rattle.pc_program_bound.specs.SplitTrees.{SplitTree, bound, void, split, size_of, nodes_from, joined, trees_of, first_of_trees, tree_of}
+use Rattle.pc_program_bound.proofs.TreeNodes.{tree_of-nodes}
+use Rattle.pc_document_format.specs.Formats.{IsFormat, IsLine, AreTrees, any, nodes_text, owed_after, read_nodes}
+use Rattle.pc_document_format.proofs.Nodes.{nodes_format}
+use Rattle.pc_document_format.proofs.As.{as_format}
 use Rattle.pc_proof.specs.Form.{IsFormedNode, IsFormedTree}
-use Rattle.pc_lines.specs.NodeLines.{IsBareNode, node_text, read_node, bare, is_split}
+use Rattle.pc_document_lines.specs.NodeLines.{IsBareNode, node_text, read_node, bare, is_split}
 use Rattle.pc_document.specs.DocumentLines.{tree_lines}
 use Rattle.pc_document.specs.Reading.{placed, read_tree}
 

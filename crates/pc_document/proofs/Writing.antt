@@ -1,16 +1,16 @@
 -- Lines written one after another.
 use Rattle.std.proofs.Common.{◌≡◌, ℕ, ◌+◌, ◌<◌, ◌≤◌, List, [], ◌∷◌, ◌++◌, length, drop, get_or, refl, sym, ap, ◌∙◌, append_assoc}
 use Rattle.std.proofs.lemmas.List.{append-nil, drop_more, drop_all}
-use Rattle.pc_format.specs.Lines.{lines_text}
-use Rattle.pc_format.specs.Formats.{Lines, nodes_text, items_text}
+use Rattle.pc_document_format.specs.Lines.{lines_text}
+use Rattle.pc_document_format.specs.Formats.{Lines, nodes_text, items_text}
 use Rattle.pc_model.specs.declared.tree.TreeNode.{TreeNode}
 use Rattle.pc_model.specs.declared.schema.Schema.{Schema}
 use Rattle.pc_model.specs.declared.row.Run.{Run}
 use Rattle.pc_report.specs.RunLines.{run_line, run_lines}
-use Rattle.pc_lines.specs.NodeLines.{bare, node_text}
-use Rattle.pc_lines.specs.TokenLines.{run_text}
+use Rattle.pc_document_lines.specs.NodeLines.{bare, node_text}
+use Rattle.pc_document_lines.specs.TokenLines.{run_text}
 use Rattle.pc_document.specs.DocumentLines.{runs_lines}
-use Rattle.pc_format.proofs.LinesOf.{text_joined}
+use Rattle.pc_document_format.proofs.LinesOf.{text_joined}
 
 no_lines : lines_text [] ≡ []
 unfolding lines_text

@@ -26,14 +26,14 @@ use Rattle.pc_proof.specs.declared.document.BlockTree.{BlockTree}
 use Rattle.pc_proof.specs.declared.document.BlockTree.TheVariants as trees
 use Rattle.pc_proof.specs.declared.document.Block.{Block}
 use Rattle.pc_proof.specs.declared.document.Document.{Document}
-use Rattle.pc_format.specs.Lines.{lines_text}
-use Rattle.pc_format.specs.Formats.{Lines, nodes_text, items_text}
-use Rattle.pc_lines.specs.NodeLines.{node_text, bare}
-use Rattle.pc_lines.specs.declared.tags.Side.{Side}
-use Rattle.pc_lines.specs.declared.tags.Side.TheVariants.{Low as low, High as high}
-use Rattle.pc_lines.specs.declared.tags.ProofLine.TheVariants.{Rows as rows, Tree as tree, At as at, Values as values}
-use Rattle.pc_lines.specs.ValueLines.{end_text, outer_text, proof_text}
-use Rattle.pc_lines.specs.TokenLines.{run_text, cut_node_text, bare_cut, group_text, query_line_text}
+use Rattle.pc_document_format.specs.Lines.{lines_text}
+use Rattle.pc_document_format.specs.Formats.{Lines, nodes_text, items_text}
+use Rattle.pc_document_lines.specs.NodeLines.{node_text, bare}
+use Rattle.pc_document_lines.specs.declared.tags.Side.{Side}
+use Rattle.pc_document_lines.specs.declared.tags.Side.TheVariants.{Low as low, High as high}
+use Rattle.pc_document_lines.specs.declared.tags.ProofLine.TheVariants.{Rows as rows, Tree as tree, At as at, Values as values}
+use Rattle.pc_document_lines.specs.ValueLines.{end_text, outer_text, proof_text}
+use Rattle.pc_document_lines.specs.TokenLines.{run_text, cut_node_text, bare_cut, group_text, query_line_text}
 use Rattle.pc_document.specs.declared.tags.After.{After}
 
 abbrev pub tree_lines : Tree → Lines

@@ -1,7 +1,7 @@
 -- What a reader of lines tells by its place in the bytes, against a definition over lines.
 use Rattle.std.specs.Prelude.{◌≡◌, ℕ, ◌≤◌, ⊤, List, [], drop, length, Result, Ok, Err}
-use Rattle.pc_format.specs.Lines.{whole_lines, rest_after}
-use Rattle.pc_format.specs.Formats.{Lines, Found}
+use Rattle.pc_document_format.specs.Lines.{whole_lines, rest_after}
+use Rattle.pc_document_format.specs.Formats.{Lines, Found}
 use Rattle.pc_document.specs.Reading.{Word, word}
 use Rattle.pc_document.specs.declared.halt.Halt.{Halt}
 use Rattle.pc_document.specs.declared.halt.Halt.TheVariants as halts

@@ -11,7 +11,7 @@ use Rattle.pc_model.specs.declared.tree.CutTree.{CutTree}
 use Rattle.pc_model.specs.CutTrees.{shape_of}
 use Rattle.pc_model.specs.CutTrees as cuts
 use Rattle.pc_model.specs.Right.{always_has_value}
-use Rattle.pc_bound.specs.SplitTrees.{nodes_from, tree_of}
+use Rattle.pc_program_bound.specs.SplitTrees.{nodes_from, tree_of}
 use Rattle.pc_proof.specs.declared.answer.Proof.{Proof}
 use Rattle.pc_proof.specs.declared.answer.Proof.TheVariants as proofs
 use Rattle.pc_proof.specs.declared.answer.Bounded.{Bounded}
@@ -32,13 +32,13 @@ use Rattle.pc_proof.specs.declared.document.BlockTree.{BlockTree}
 use Rattle.pc_proof.specs.declared.document.BlockTree.TheVariants as trees
 use Rattle.pc_proof.specs.declared.document.Block.{Block}
 use Rattle.pc_proof.specs.declared.document.Document.{Document}
-use Rattle.pc_format.specs.Formats.{Lines, Found, found_in, read_none, read_line, read_as, read_many, read_nodes, read_joined, read_bytes}
-use Rattle.pc_lines.specs.NodeLines.{is_split, read_node}
-use Rattle.pc_lines.specs.declared.tags.Side.{Side}
-use Rattle.pc_lines.specs.declared.tags.Side.TheVariants.{Low as low, High as high}
-use Rattle.pc_lines.specs.declared.tags.EndLine.{EndLine}
-use Rattle.pc_lines.specs.declared.tags.ProofLine.{ProofLine}
-use Rattle.pc_lines.specs.declared.tags.ProofLine.TheVariants.{Rows as rows, Tree as tree, At as at, Values as values}
+use Rattle.pc_document_format.specs.Formats.{Lines, Found, found_in, read_none, read_line, read_as, read_many, read_nodes, read_joined, read_bytes}
+use Rattle.pc_document_lines.specs.NodeLines.{is_split, read_node}
+use Rattle.pc_document_lines.specs.declared.tags.Side.{Side}
+use Rattle.pc_document_lines.specs.declared.tags.Side.TheVariants.{Low as low, High as high}
+use Rattle.pc_document_lines.specs.declared.tags.EndLine.{EndLine}
+use Rattle.pc_document_lines.specs.declared.tags.ProofLine.{ProofLine}
+use Rattle.pc_document_lines.specs.declared.tags.ProofLine.TheVariants.{Rows as rows, Tree as tree, At as at, Values as values}
 use Rattle.pc_document.specs.declared.tags.WhyLine.{WhyLine}
 use Rattle.pc_document.specs.declared.tags.WhyLine.TheVariants.{Void as by_void, Cross as by_cross, Ends as by_ends}
 use Rattle.pc_document.specs.declared.tags.RelationLine.{RelationLine}
@@ -51,8 +51,8 @@ use Rattle.pc_document.specs.declared.tags.LackLine.{LackLine}
 use Rattle.pc_document.specs.declared.tags.LackLine.TheVariants.{Never as is_never, Sometimes as is_sometimes, Always as is_ever, Undecided as is_open}
 use Rattle.pc_document.specs.declared.tags.TreeLine.{TreeLine}
 use Rattle.pc_document.specs.declared.tags.TreeLine.TheVariants.{Own as own, Same as same}
-use Rattle.pc_lines.specs.ValueLines.{read_end_line, read_outer_line, read_proof_line}
-use Rattle.pc_lines.specs.TokenLines.{read_run, begins_run, is_inner, read_cut_node, read_group, read_query_line, begins_query}
+use Rattle.pc_document_lines.specs.ValueLines.{read_end_line, read_outer_line, read_proof_line}
+use Rattle.pc_document_lines.specs.TokenLines.{read_run, begins_run, is_inner, read_cut_node, read_group, read_query_line, begins_query}
 use Rattle.pc_document.specs.declared.tags.After.{After}
 use Rattle.pc_document.specs.Parts.{ends_block, has_no_ends, nothing_after}
 

@@ -4,9 +4,9 @@ use Rattle.pc_model.specs.declared.tree.TreeNode.{TreeNode}
 use Rattle.pc_model.specs.declared.tree.TreeNode.TheVariants as nodes
 use Rattle.pc_model.specs.declared.tree.CutNode.{CutNode}
 use Rattle.pc_model.specs.declared.tree.CutNode.TheVariants as cut_nodes
-use Rattle.pc_format.specs.Formats.{AreTrees}
-use Rattle.pc_lines.specs.NodeLines.{is_split}
-use Rattle.pc_lines.specs.TokenLines.{is_inner}
+use Rattle.pc_document_format.specs.Formats.{AreTrees}
+use Rattle.pc_document_lines.specs.NodeLines.{is_split}
+use Rattle.pc_document_lines.specs.TokenLines.{is_inner}
 
 -- how many trees are owed after a node, of so many and its own
 abbrev pub owed : Bool → ℕ → ℕ

@@ -3,7 +3,7 @@ use Rattle.std.specs.Prelude.{ℕ, List, Result, Ok, Err, ◌≡◌, ⊤}
 use Rattle.pc_model.specs.declared.schema.Schema.{Schema}
 use Rattle.pc_proof.specs.declared.document.Document.{Document}
 use Rattle.pc_proof.specs.Form.{IsInForm}
-use Rattle.pc_format.specs.Formats.{IsTextOf, IsFirstFault, Tells}
+use Rattle.pc_document_format.specs.Formats.{IsTextOf, IsFirstFault, Tells}
 use Rattle.pc_document.specs.declared.document.NoDocument.{NoDocument}
 use Rattle.pc_document.specs.declared.document.NoDocument.TheVariants as refusals
 use Rattle.pc_document.specs.DocumentLines.{document_lines}

@@ -1,10 +1,10 @@
 ghost use Rattle.std.specs.Prelude.{IfOk};
 ghost use Rattle.pc_model.specs.WellFormed.{IsWellFormed};
 ghost use Rattle.pc_model.specs.Accepted.{IsQuery};
-ghost use Rattle.pc_format.specs.Formats.{read_line};
+ghost use Rattle.pc_document_format.specs.Formats.{read_line};
 ghost use Rattle.pc_document.specs.Places.{IsLineStart, Reads, lines_at};
 ghost use Rattle.pc_document.specs.Reading.{read_block, read_block_tree, read_body, read_name, read_named, read_tree_line, tagged_tree};
-ghost use Rattle.pc_lines.specs.TokenLines.{read_group, read_query_line};
+ghost use Rattle.pc_document_lines.specs.TokenLines.{read_group, read_query_line};
 
 use crate::answer::answer_at;
 use crate::cuts::cuts_at;
@@ -12,7 +12,7 @@ use crate::halt::Halt;
 use crate::places::first_line_at;
 use crate::tags::TreeLine;
 use crate::words::read_tree_line;
-use pc_lines::{read_group, read_query_line};
+use pc_document_lines::{read_group, read_query_line};
 use pc_model::{Query, Schema};
 use pc_proof::{Block, BlockTree};
 use std::alloc::Global;

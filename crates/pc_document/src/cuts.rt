@@ -1,14 +1,14 @@
 ghost use Rattle.std.specs.Prelude.{◌≡◌, ◌<◌, ◌+◌, ◌-◌, ◌^◌, IfOk, if◌then◌else◌};
 ghost use Rattle.pc_model.specs.WellFormed.{IsWellFormed};
-ghost use Rattle.pc_format.specs.Formats.{AreTrees, read_line, read_nodes};
+ghost use Rattle.pc_document_format.specs.Formats.{AreTrees, read_line, read_nodes};
 ghost use Rattle.pc_document.specs.Places.{IsLineStart, Reads, lines_at};
 ghost use Rattle.pc_document.specs.Reading.{read_cuts};
-ghost use Rattle.pc_lines.specs.TokenLines.{IsBareCut, is_inner, read_cut_node};
+ghost use Rattle.pc_document_lines.specs.TokenLines.{IsBareCut, is_inner, read_cut_node};
 
 use crate::halt::Halt;
 use crate::placed_cuts::placed_cuts;
 use crate::places::first_line_at;
-use pc_lines::read_cut_node;
+use pc_document_lines::read_cut_node;
 use pc_list::Seq;
 use pc_model::{CutNode, CutTree, Schema};
 use std::alloc::Global;

@@ -1,17 +1,17 @@
 ghost use Rattle.std.specs.Prelude.{◌≡◌, Ok};
 ghost use Rattle.pc_model.specs.declared.schema.Schema.{Schema};
 ghost use Rattle.pc_model.specs.WellFormed.{IsWellFormed};
-ghost use Rattle.pc_format.specs.Formats.{read_line, read_many};
+ghost use Rattle.pc_document_format.specs.Formats.{read_line, read_many};
 ghost use Rattle.pc_document.specs.Places.{IsLineStart, Reads, ReadsWord, lines_at};
 ghost use Rattle.pc_document.specs.Reading.{document_of, read_block, read_document, read_word};
 ghost use Rattle.pc_document.specs.Told.{Gives, ToldAs};
-ghost use Rattle.pc_lines.specs.TokenLines.{begins_query};
+ghost use Rattle.pc_document_lines.specs.TokenLines.{begins_query};
 
 use crate::block::block_at;
 use crate::halt::Halt;
 use crate::places::{first_line_at, line_at};
 use crate::words::is_text;
-use pc_format::line_of;
+use pc_document_format::line_of;
 use pc_list::Seq;
 use pc_model::Schema;
 use pc_proof::{Block, Document};
@@ -79,7 +79,7 @@ fn document_at(alloc: Global, schema: &Schema, bytes: &[u8]) -> Result<(Document
 }
 
 /// The place after a line that is this text.
-#[tactic(auto, unfolding(pc_format::specs::Formats::found_in))]
+#[tactic(auto, unfolding(pc_document_format::specs::Formats::found_in))]
 fn word_at(text: &str, bytes: &[u8], at: usize) -> Result<usize, Halt>
     requires start { IsLineStart bytes.now at }
     ensures { ReadsWord bytes.now result (read_line (read_word text.now) (lines_at bytes.now at)) }

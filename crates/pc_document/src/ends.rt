@@ -1,16 +1,16 @@
 ghost use Rattle.std.specs.Prelude.{◌≡◌, true, false};
 ghost use Rattle.pc_model.specs.WellFormed.{IsWellFormed};
 ghost use Rattle.pc_model.specs.Accepted.{IsQuery};
-ghost use Rattle.pc_format.specs.Formats.{read_line};
+ghost use Rattle.pc_document_format.specs.Formats.{read_line};
 ghost use Rattle.pc_document.specs.Places.{IsLineStart, Reads, lines_at};
 ghost use Rattle.pc_document.specs.Reading.{read_end, read_ends, end_after, tagged_end};
-ghost use Rattle.pc_lines.specs.ValueLines.{read_end_line};
+ghost use Rattle.pc_document_lines.specs.ValueLines.{read_end_line};
 
 use crate::halt::Halt;
 use crate::places::first_line_at;
 use crate::proof::proof_at;
 use crate::runs::runs_at;
-use pc_lines::{EndLine, Side, read_end_line};
+use pc_document_lines::{EndLine, Side, read_end_line};
 use pc_model::{Query, Schema};
 use pc_proof::{End, Mark};
 use std::alloc::Global;

@@ -1,6 +1,6 @@
 ghost use Rattle.pc_model.specs.WellFormed.{IsWellFormed};
 ghost use Rattle.pc_model.specs.Accepted.{IsQuery};
-ghost use Rattle.pc_format.specs.Formats.{read_line};
+ghost use Rattle.pc_document_format.specs.Formats.{read_line};
 ghost use Rattle.pc_document.specs.Places.{IsLineStart, Reads, lines_at};
 ghost use Rattle.pc_document.specs.Reading.{read_never, read_always, read_some, read_lack, read_never_line, read_always_line, read_lack_line, read_word, tagged_never, tagged_always, tagged_lack};
 
@@ -77,7 +77,7 @@ fn tagged_lack_at(
 }
 
 /// The runs of rows with a value, after the line that announces them.
-#[tactic(auto, unfolding(crate::specs::Reading::read_some, pc_format::specs::Formats::found_in))]
+#[tactic(auto, unfolding(crate::specs::Reading::read_some, pc_document_format::specs::Formats::found_in))]
 fn some_at(
     alloc: Global,
     schema: &Schema,

@@ -1,9 +1,9 @@
 ghost use Rattle.pc_model.specs.WellFormed.{HaveFewNames, IsWellFormed};
 
-use pc_lang::read_query;
-use pc_lines::{
+use pc_document_lines::{
     EndLine, ProofLine, Side, likely_number, put_node, read_end_line, read_node, read_proof_line,
 };
+use pc_lang::read_query;
 use pc_model::{Refusal, Schema};
 use pc_num::{Frac, Memory};
 use pc_schema::read_schema;

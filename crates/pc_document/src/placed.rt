@@ -1,7 +1,7 @@
 ghost use Rattle.std.specs.Prelude.{◌≡◌, ◌+◌, ◌<◌, get_or, map, length, IfOk};
 ghost use Rattle.pc_model.specs.declared.tree.TreeNode.{TreeNode};
-ghost use Rattle.pc_format.specs.Formats.{AreTrees};
-ghost use Rattle.pc_lines.specs.NodeLines.{IsBareNode, is_split};
+ghost use Rattle.pc_document_format.specs.Formats.{AreTrees};
+ghost use Rattle.pc_document_lines.specs.NodeLines.{IsBareNode, is_split};
 ghost use Rattle.pc_document.specs.Reading.{placed};
 ghost use Rattle.pc_document.specs.Spans.{ArePast, placed_from, placed_node};
 

@@ -1,8 +1,8 @@
 ghost use Rattle.std.specs.Prelude.{◌≡◌, ◌+◌, ◌<◌, get_or, map, length, IfOk};
 ghost use Rattle.pc_model.specs.declared.schema.Schema.{Schema};
 ghost use Rattle.pc_model.specs.declared.tree.CutNode.{CutNode};
-ghost use Rattle.pc_format.specs.Formats.{AreTrees};
-ghost use Rattle.pc_lines.specs.TokenLines.{IsBareCut, is_inner};
+ghost use Rattle.pc_document_format.specs.Formats.{AreTrees};
+ghost use Rattle.pc_document_lines.specs.TokenLines.{IsBareCut, is_inner};
 ghost use Rattle.pc_document.specs.Reading.{placed_cuts};
 ghost use Rattle.pc_document.specs.Spans.{ArePast, placed_cuts_from, placed_cut};
 

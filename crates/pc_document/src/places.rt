@@ -3,7 +3,7 @@ ghost use Rattle.pc_document.specs.declared.halt.Halt.TheVariants as halts;
 ghost use Rattle.pc_document.specs.Places.{IsLineStart, lines_at};
 
 use crate::halt::Halt;
-use pc_format::line_end;
+use pc_document_format::line_end;
 
 /// The line that begins at a place, and the place after it; none where no line ends after the place.
 #[tactic(auto, using(crate::proofs::LineStarts::starts_after))]

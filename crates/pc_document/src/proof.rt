@@ -1,15 +1,15 @@
 ghost use Rattle.std.specs.Prelude.{◌≡◌};
 ghost use Rattle.pc_model.specs.WellFormed.{IsWellFormed};
 ghost use Rattle.pc_model.specs.Accepted.{IsQuery};
-ghost use Rattle.pc_format.specs.Formats.{read_line};
+ghost use Rattle.pc_document_format.specs.Formats.{read_line};
 ghost use Rattle.pc_document.specs.Places.{IsLineStart, Reads, lines_at};
 ghost use Rattle.pc_document.specs.Reading.{read_proof, read_bounded, read_crossing, tagged_proof};
-ghost use Rattle.pc_lines.specs.ValueLines.{read_proof_line, read_outer_line};
+ghost use Rattle.pc_document_lines.specs.ValueLines.{read_proof_line, read_outer_line};
 
 use crate::halt::Halt;
 use crate::places::first_line_at;
 use crate::tree::tree_at;
-use pc_lines::{ProofLine, Side, read_outer_line, read_proof_line};
+use pc_document_lines::{ProofLine, Side, read_outer_line, read_proof_line};
 use pc_model::{Query, Schema};
 use pc_num::Frac;
 use pc_proof::{Bounded, Proof};

@@ -1,12 +1,12 @@
 ghost use Rattle.std.specs.Prelude.{◌≡◌, ◌++◌, ◌∷◌, [], codes, true, false, OnOk};
 ghost use Rattle.pc_model.specs.WellFormed.{IsWellFormed};
-ghost use Rattle.pc_format.specs.Lines.{lines_text};
+ghost use Rattle.pc_document_format.specs.Lines.{lines_text};
 ghost use Rattle.pc_proof.specs.Form.{IsFormedAlways, IsFormedAnswer, IsFormedBounded, IsFormedEnd, IsFormedLack, IsFormedRelation, IsFormedWhy, AreFormedEnds};
 ghost use Rattle.pc_document.specs.DocumentLines.{always_lines, answer_lines, crossing_lines, end_lines, ends_lines, lack_lines, never_lines, proof_lines, relation_lines, runs_lines, tree_lines, why_lines};
-ghost use Rattle.pc_lines.specs.ValueLines.{end_text};
+ghost use Rattle.pc_document_lines.specs.ValueLines.{end_text};
 
 use crate::put_proof::{put_crossing, put_end, put_line, put_proof, put_tree};
-use pc_lines::{EndLine, Side};
+use pc_document_lines::{EndLine, Side};
 use pc_model::{Query, Run, Schema, Tree};
 use pc_num::Memory;
 use pc_proof::{AlwaysBy, Answer, Bounded, End, Lack, Mark, NeverBy, Relation, Why};

@@ -1,6 +1,6 @@
 ghost use Rattle.pc_model.specs.WellFormed.{IsWellFormed};
 ghost use Rattle.pc_model.specs.Accepted.{IsQuery};
-ghost use Rattle.pc_format.specs.Formats.{read_line};
+ghost use Rattle.pc_document_format.specs.Formats.{read_line};
 ghost use Rattle.pc_document.specs.Places.{IsLineStart, Reads, lines_at};
 ghost use Rattle.pc_document.specs.Reading.{read_why, read_relation, read_why_line, read_relation_line, tagged_why, tagged_relation};
 

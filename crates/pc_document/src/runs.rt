@@ -5,7 +5,7 @@ ghost use Rattle.pc_document.specs.Reading.{read_runs};
 
 use crate::halt::Halt;
 use crate::places::line_at;
-use pc_lines::{begins_run, read_run};
+use pc_document_lines::{begins_run, read_run};
 use pc_list::Seq;
 use pc_model::{Run, Schema};
 use std::alloc::Global;

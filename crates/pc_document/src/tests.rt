@@ -1,7 +1,7 @@
 ghost use Rattle.pc_model.specs.WellFormed.{IsWellFormed};
 
 use crate::{NoDocument, put_document, read_document};
-use pc_format::line_of;
+use pc_document_format::line_of;
 use pc_model::Schema;
 use pc_schema::read_schema;
 use std::alloc::Global;

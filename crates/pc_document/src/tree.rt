@@ -1,13 +1,13 @@
 ghost use Rattle.std.specs.Prelude.{◌≡◌, ◌<◌, ◌+◌, ◌-◌, ◌^◌, IfOk, if◌then◌else◌};
-ghost use Rattle.pc_format.specs.Formats.{read_line, read_nodes};
-ghost use Rattle.pc_lines.specs.NodeLines.{is_split, read_node};
+ghost use Rattle.pc_document_format.specs.Formats.{read_line, read_nodes};
+ghost use Rattle.pc_document_lines.specs.NodeLines.{is_split, read_node};
 ghost use Rattle.pc_document.specs.Places.{IsLineStart, Reads, lines_at};
 ghost use Rattle.pc_document.specs.Reading.{read_tree};
 
 use crate::halt::Halt;
 use crate::placed::placed;
 use crate::places::first_line_at;
-use pc_lines::read_node;
+use pc_document_lines::read_node;
 use pc_list::Seq;
 use pc_model::{Tree, TreeNode};
 use std::alloc::Global;

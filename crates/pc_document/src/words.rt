@@ -10,7 +10,7 @@ pub(crate) fn is_text(text: &str, line: &[u8]) -> bool
     text.as_bytes() == line
 }
 
-#[tactic(auto, unfolding(pc_format::specs::Formats::found_in))]
+#[tactic(auto, unfolding(pc_document_format::specs::Formats::found_in))]
 pub(crate) fn read_why_line(line: &[u8]) -> Option<WhyLine>
     ensures { result ≡ read_why_line line.now }
 {
@@ -26,7 +26,7 @@ pub(crate) fn read_why_line(line: &[u8]) -> Option<WhyLine>
     None
 }
 
-#[tactic(auto, unfolding(pc_format::specs::Formats::found_in))]
+#[tactic(auto, unfolding(pc_document_format::specs::Formats::found_in))]
 pub(crate) fn read_relation_line(line: &[u8]) -> Option<RelationLine>
     ensures { result ≡ read_relation_line line.now }
 {
@@ -42,7 +42,7 @@ pub(crate) fn read_relation_line(line: &[u8]) -> Option<RelationLine>
     None
 }
 
-#[tactic(auto, unfolding(pc_format::specs::Formats::found_in))]
+#[tactic(auto, unfolding(pc_document_format::specs::Formats::found_in))]
 pub(crate) fn read_never_line(line: &[u8]) -> Option<NeverLine>
     ensures { result ≡ read_never_line line.now }
 {
@@ -55,7 +55,7 @@ pub(crate) fn read_never_line(line: &[u8]) -> Option<NeverLine>
     None
 }
 
-#[tactic(auto, unfolding(pc_format::specs::Formats::found_in))]
+#[tactic(auto, unfolding(pc_document_format::specs::Formats::found_in))]
 pub(crate) fn read_always_line(line: &[u8]) -> Option<AlwaysLine>
     ensures { result ≡ read_always_line line.now }
 {
@@ -68,7 +68,7 @@ pub(crate) fn read_always_line(line: &[u8]) -> Option<AlwaysLine>
     None
 }
 
-#[tactic(auto, unfolding(pc_format::specs::Formats::found_in))]
+#[tactic(auto, unfolding(pc_document_format::specs::Formats::found_in))]
 pub(crate) fn read_lack_line(line: &[u8]) -> Option<LackLine>
     ensures { result ≡ read_lack_line line.now }
 {
@@ -87,7 +87,7 @@ pub(crate) fn read_lack_line(line: &[u8]) -> Option<LackLine>
     None
 }
 
-#[tactic(auto, unfolding(pc_format::specs::Formats::found_in))]
+#[tactic(auto, unfolding(pc_document_format::specs::Formats::found_in))]
 pub(crate) fn read_tree_line(line: &[u8]) -> Option<TreeLine>
     ensures { result ≡ read_tree_line line.now }
 {

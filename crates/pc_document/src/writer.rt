@@ -2,15 +2,15 @@ ghost use Rattle.std.specs.Prelude.{◌≡◌, ◌++◌, ◌∷◌, [], codes, A
 ghost use Rattle.pc_model.specs.WellFormed.{IsWellFormed};
 ghost use Rattle.pc_model.specs.Accepted.{IsQuery};
 ghost use Rattle.pc_model.specs.declared.tree.CutNode.{CutNode};
-ghost use Rattle.pc_format.specs.Lines.{lines_text};
-ghost use Rattle.pc_format.specs.Formats.{items_text, nodes_text};
+ghost use Rattle.pc_document_format.specs.Lines.{lines_text};
+ghost use Rattle.pc_document_format.specs.Formats.{items_text, nodes_text};
 ghost use Rattle.pc_proof.specs.Form.{IsFormedBlock, IsInForm};
 ghost use Rattle.pc_document.specs.DocumentLines.{block_lines, block_tree_lines, document_lines, document_text, name_lines};
-ghost use Rattle.pc_lines.specs.TokenLines.{bare_cut, cut_node_text, group_text, query_line_text};
+ghost use Rattle.pc_document_lines.specs.TokenLines.{bare_cut, cut_node_text, group_text, query_line_text};
 
 use crate::put_answer::{put_answer, put_nothing};
 use crate::put_proof::put_line;
-use pc_lines::{put_cut_node, put_group, put_query_line};
+use pc_document_lines::{put_cut_node, put_group, put_query_line};
 use pc_model::{CutNode, Query, Schema};
 use pc_num::Memory;
 use pc_proof::{Block, BlockTree, Document};

@@ -23,7 +23,7 @@ use Rattle.pc_model.specs.Membership.{holds, allows, in_domain}
 use Rattle.pc_model.specs.Regions.{is_side_of, is_region_of}
 use Rattle.pc_model.specs.WellFormed.{IsWellFormed}
 use Rattle.pc_model.proofs.Regions.{side_inside}
-use Rattle.pc_tree.specs.Walking.{HasCutsAt}
+use Rattle.pc_cells_tree.specs.Walking.{HasCutsAt}
 use Rattle.pc_proof.specs.declared.answer.Answer.{Answer}
 use Rattle.pc_proof.specs.declared.document.Block.{Block}
 use Rattle.pc_proof.specs.declared.document.BlockTree.{BlockTree}
@@ -32,7 +32,7 @@ use Rattle.pc_proof.specs.Documents.{nodes_after}
 use Rattle.pc_proof.specs.Form.{IsFormedAnswer, IsFormedBlock, IsFormedBlockTree, IsFormedCutTree, IsGroupName, IsNameOf}
 use Rattle.pc_proof.specs.Setting.{region_of}
 use Rattle.pc_proof.specs.Unbroken.{AllowsName, HasForm, IsUnbroken}
-use Rattle.pc_search.specs.Settings.{question_in, setting_in}
+use Rattle.pc_agg_search.specs.Settings.{question_in, setting_in}
 use Rattle.pc_group.specs.Answers.{AnswersWanted}
 use Rattle.pc_group.specs.Trees.{Told, AreOfTree, HasOwnCuts, HasOwnShape, told, told_after, told_with}
 use Rattle.pc_group.specs.Wanted.{Wanted}

@@ -37,10 +37,10 @@ use Rattle.pc_box.specs.Cuts.{is_first, divides_side, divides_found}
 use Rattle.pc_box.proofs.CutRows.{first_rows, second_rows, first_alike, second_alike}
 use Rattle.pc_box.proofs.Proper.{Divides-from_proper}
 use Rattle.pc_box.proofs.Schemas.{IsBox-from_schema, is_region-from_inside}
-use Rattle.pc_tree.specs.Decisions.{IsCutFor, IsNeeded}
-use Rattle.pc_tree.specs.Linked.{IsTree, IsDone, HasKept, HasNeededCuts, box_at, node_at, is_leaf_node}
-use Rattle.pc_tree.specs.Stances.{side_cut, IsAlong, IsCutThrough}
-use Rattle.pc_tree.specs.Walking.{HasCutsAt}
+use Rattle.pc_cells_tree.specs.Decisions.{IsCutFor, IsNeeded}
+use Rattle.pc_cells_tree.specs.Linked.{IsTree, IsDone, HasKept, HasNeededCuts, box_at, node_at, is_leaf_node}
+use Rattle.pc_cells_tree.specs.Stances.{side_cut, IsAlong, IsCutThrough}
+use Rattle.pc_cells_tree.specs.Walking.{HasCutsAt}
 use Rattle.pc_proof.specs.Form.{IsFormedCut, IsFormedCutOf, IsFormedMarkOf, IsFormedCutNode, IsFormedCutTree}
 use Rattle.pc_group.specs.Trees.{HasBitsOf, HasOwnBits, HasOwnShape, IsOwnNode, HasOwnCuts}
 

@@ -6,8 +6,8 @@ use Rattle.pc_model.specs.declared.constraint.Constraint.{Constraint}
 use Rattle.pc_model.specs.declared.region.Region.{Region}
 use Rattle.pc_model.specs.declared.tree.CutNode.{CutNode}
 use Rattle.pc_model.specs.declared.tree.CutNode.TheVariants as forms
-use Rattle.pc_tree.specs.Linked.{IsTree, IsDividedFor, IsDone, HasKept, box_at, node_at}
-use Rattle.pc_tree.proofs.TreeLaws.{refined_stays_divided}
+use Rattle.pc_cells_tree.specs.Linked.{IsTree, IsDividedFor, IsDone, HasKept, box_at, node_at}
+use Rattle.pc_cells_tree.proofs.TreeLaws.{refined_stays_divided}
 use Rattle.pc_group.specs.Trees.{IsInnerNode, KeepsInner}
 
 inner_done : (constraints : List Constraint) (chosen box : Region) (node : CutNode) → IsInnerNode node → IsDone constraints chosen box node

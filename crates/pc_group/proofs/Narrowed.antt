@@ -5,7 +5,7 @@ use Rattle.pc_model.specs.declared.query.Query.{Query}
 use Rattle.pc_model.specs.Accepted.{IsQuery}
 use Rattle.pc_proof.specs.Unbroken.{AllowsName}
 use Rattle.pc_proof.proofs.NameParts.{narrowed_is_region}
-use Rattle.pc_search.specs.Asked.{query_for}
+use Rattle.pc_agg_search.specs.Asked.{query_for}
 
 pub query_for_is : (schema : Schema) (query : Query) (name : Option ℕ) → AllowsName query.chosen query.group name → IsQuery schema query → IsQuery schema (query_for query name)
 query_for_is schema query name allowed well = record {

@@ -18,8 +18,8 @@ use Rattle.pc_proof.specs.Documents.{nodes_after}
 use Rattle.pc_proof.specs.Setting.{Setting}
 use Rattle.pc_proof.specs.Unbroken.{AllowsName, IsWellPosed}
 use Rattle.pc_proof.proofs.Sound.{right_from_unbroken}
-use Rattle.pc_search.specs.Asked.{AreAsked, AreCells, Asking, query_for, setting_for}
-use Rattle.pc_search.specs.Settings.{question_in, setting_in}
+use Rattle.pc_agg_search.specs.Asked.{AreAsked, AreCells, Asking, query_for, setting_for}
+use Rattle.pc_agg_search.specs.Settings.{question_in, setting_in}
 use Rattle.pc_agg.specs.Owed.{Owes}
 use Rattle.pc_agg.proofs.Asking.{fold_asks}
 use Rattle.pc_avg.specs.Averages.{HasShortEnds}

@@ -11,7 +11,7 @@ use Rattle.pc_model.specs.declared.query.Query.{Query}
 use Rattle.pc_model.specs.declared.tree.CutNode.{CutNode}
 use Rattle.pc_model.specs.Accepted.{IsQuery}
 use Rattle.pc_model.specs.Regions.{is_region_of}
-use Rattle.pc_tree.specs.Linked.{IsDividedFor}
+use Rattle.pc_cells_tree.specs.Linked.{IsDividedFor}
 use Rattle.pc_proof.specs.Unbroken.{AllowsName}
 use Rattle.pc_proof.proofs.NameParts.{narrowed_is_region}
 use Rattle.pc_group.specs.Trees.{AreDividedFor}

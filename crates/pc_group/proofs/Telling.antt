@@ -5,8 +5,8 @@ use Rattle.std.proofs.lemmas.List.Elements.{All-nil, All-push}
 use Rattle.std.proofs.lemmas.Slice.Zip.{all_zipped_more}
 use Rattle.pc_model.specs.declared.tree.CutNode.{CutNode}
 use Rattle.pc_model.specs.CutTrees.{shape_of}
-use Rattle.pc_tree.specs.Walking.{HasCutsAt, bare}
-use Rattle.pc_tree.proofs.BareTrees.{same_bare}
+use Rattle.pc_cells_tree.specs.Walking.{HasCutsAt, bare}
+use Rattle.pc_cells_tree.proofs.BareTrees.{same_bare}
 use Rattle.pc_proof.specs.declared.answer.Answer.{Answer}
 use Rattle.pc_proof.specs.declared.document.Block.{Block}
 use Rattle.pc_proof.specs.declared.document.BlockTree.{BlockTree}

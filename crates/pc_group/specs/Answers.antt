@@ -12,9 +12,9 @@ use Rattle.pc_model.specs.Right.{Question, IsRight}
 use Rattle.pc_proof.specs.Setting.{Setting}
 use Rattle.pc_proof.specs.Unbroken.{HasForm, IsUnbroken, IsSharp, plain_answer}
 use Rattle.pc_proof.specs.Form.{IsFormedBlock}
-use Rattle.pc_licence.specs.Licensed.{IsLicensed, IsSettledLack}
-use Rattle.pc_licence.specs.Searched.{AreSearched}
-use Rattle.pc_search.specs.Settings.{question_in, setting_in}
+use Rattle.pc_branch_licences.specs.Licensed.{IsLicensed, IsSettledLack}
+use Rattle.pc_branch_licences.specs.Searched.{AreSearched}
+use Rattle.pc_agg_search.specs.Settings.{question_in, setting_in}
 use Rattle.pc_avg.specs.Averages.{HasShortEnds}
 use Rattle.pc_group.specs.Trees.{Told, HasOwnShape}
 use Rattle.pc_group.specs.Wanted.{Wanted}

@@ -10,8 +10,8 @@ use Rattle.pc_model.specs.declared.tree.Cut.TheVariants.{At, Among}
 use Rattle.pc_model.specs.declared.tree.CutNode.{CutNode}
 use Rattle.pc_model.specs.declared.tree.CutNode.TheVariants as forms
 use Rattle.pc_model.specs.CutTrees.{CutShape, leaf, inner, column_of, shape_of}
-use Rattle.pc_tree.specs.Linked.{IsDividedFor, node_at}
-use Rattle.pc_tree.specs.Walking.{HasCutsAt}
+use Rattle.pc_cells_tree.specs.Linked.{IsDividedFor, node_at}
+use Rattle.pc_cells_tree.specs.Walking.{HasCutsAt}
 use Rattle.pc_proof.specs.declared.document.Block.{Block}
 use Rattle.pc_proof.specs.declared.document.BlockTree.{BlockTree}
 use Rattle.pc_proof.specs.declared.document.BlockTree.TheVariants as trees

@@ -1,5 +1,5 @@
 ghost use Rattle.std.specs.Prelude.{◌≡◌, ◌<◌, IfOk, IfSome};
-ghost use Rattle.pc_search.specs.Asked.{query_for};
+ghost use Rattle.pc_agg_search.specs.Asked.{query_for};
 
 use pc_model::Query;
 use pc_num::Memory;

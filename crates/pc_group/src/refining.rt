@@ -4,7 +4,7 @@ ghost use Rattle.pc_model.specs.Accepted.{constraint_limit};
 ghost use Rattle.pc_model.specs.Boxes.{IsServable};
 ghost use Rattle.pc_model.specs.Regions.{is_region_of};
 ghost use Rattle.pc_model.specs.WellFormed.{IsWellFormed};
-ghost use Rattle.pc_tree.specs.Linked.{IsTree, IsDividedFor};
+ghost use Rattle.pc_cells_tree.specs.Linked.{IsTree, IsDividedFor};
 ghost use Rattle.pc_group.specs.Trees.{HasOwnCuts, KeepsInner};
 
 use pc_cells::Shared;

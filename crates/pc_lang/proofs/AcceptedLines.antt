@@ -10,7 +10,7 @@ use Rattle.std.proofs.lemmas.Slice.Eq.{bytes_eq-Decides}
 use Rattle.std.proofs.lemmas.Bool.Decides.{nat_tests}
 use Rattle.pc_model.specs.declared.fault.Reason.{Reason}
 use Rattle.pc_model.specs.declared.fault.Reason.TheVariants as reasons
-use Rattle.pc_model.specs.declared.fault.Stop.{Stop}
+use Rattle.pc_model.specs.declared.fault.ReadStop.{ReadStop}
 use Rattle.pc_model.specs.declared.schema.Schema.{Schema}
 use Rattle.pc_model.specs.declared.region.Region.{Region}
 use Rattle.pc_model.specs.declared.constraint.Constraint.{Constraint}
@@ -21,7 +21,7 @@ use Rattle.pc_model.specs.Refusals.{◌>>=◌, Answers}
 use Rattle.pc_model.specs.Texts.{is_name, IsName}
 use Rattle.pc_model.specs.WellFormed.{IsWellFormed}
 use Rattle.pc_model.proofs.Names.{name_is}
-use Rattle.pc_syntax.specs.declared.syntax.Line.{Line}
+use Rattle.pc_lang_grammar.specs.declared.syntax.Line.{Line}
 use Rattle.pc_lang.specs.Meaning.{constraint_of, count_of, at_most_limit, has_name, in_order, new_constraint}
 use Rattle.pc_lang.specs.Parts.{region_of}
 use Rattle.pc_lang.proofs.Bound.{bound, passed, granted}
@@ -91,6 +91,6 @@ is_accepted schema before line c formed e are named =
       own_names = all_pairs_push (λ (a b : Constraint). a.name ≢ b.name) before c are.own_names (λ k d inside same. unnamed before line.name fresh.0 k d inside (same ∙ fits.named));
     }
 
-pub line_is_accepted : (schema : Schema) (before : List Constraint) (line : Line) (result : Result Constraint Stop) → IsWellFormed schema → Answers result (constraint_of schema before line) → IfOk result (λ c. AreConstraints schema before → is_name line.name ≡ true → AreConstraints schema (before ++ c ∷ []))
+pub line_is_accepted : (schema : Schema) (before : List Constraint) (line : Line) (result : Result Constraint ReadStop) → IsWellFormed schema → Answers result (constraint_of schema before line) → IfOk result (λ c. AreConstraints schema before → is_name line.name ≡ true → AreConstraints schema (before ++ c ∷ []))
 line_is_accepted schema before line (Ok c) formed e = λ are named. is_accepted schema before line c formed e are named
 line_is_accepted schema before line (Err stop) formed e = tt

@@ -3,7 +3,7 @@ use Rattle.std.proofs.Common.{◌≡◌, ℕ, suc, ◌+◌, Bool, true, false, t
 use Rattle.std.specs.Prelude.{slice_get, IsSomeAnd, IfSome}
 use Rattle.pc_model.specs.declared.fault.Reason.{Reason}
 use Rattle.pc_model.specs.declared.fault.Reason.TheVariants as reasons
-use Rattle.pc_model.specs.declared.fault.Stop.{Stop}
+use Rattle.pc_model.specs.declared.fault.ReadStop.{ReadStop}
 use Rattle.pc_model.specs.declared.schema.Kind.{Kind}
 use Rattle.pc_model.specs.declared.schema.Kind.TheVariants.{Int, Dec, Cat}
 use Rattle.pc_model.specs.declared.schema.Column.{Column}
@@ -16,10 +16,10 @@ use Rattle.pc_model.specs.Accepted.{HasNames, IsColumnWhere, IsNumeric, IsQuery,
 use Rattle.pc_model.specs.Refusals.{◌>>=◌, Answers}
 use Rattle.pc_model.specs.Regions.{is_region_of, whole_region}
 use Rattle.pc_model.specs.WellFormed.{IsWellFormed}
-use Rattle.pc_syntax.specs.declared.syntax.Part.{Part}
-use Rattle.pc_syntax.specs.declared.syntax.Measure.{Measure}
-use Rattle.pc_syntax.specs.declared.syntax.Measure.TheVariants as measures
-use Rattle.pc_syntax.specs.declared.syntax.Question.{Question}
+use Rattle.pc_lang_grammar.specs.declared.syntax.Part.{Part}
+use Rattle.pc_lang_grammar.specs.declared.syntax.Measure.{Measure}
+use Rattle.pc_lang_grammar.specs.declared.syntax.Measure.TheVariants as measures
+use Rattle.pc_lang_grammar.specs.declared.syntax.Question.{Question}
 use Rattle.pc_lang.specs.Meaning.{chosen_of, grouping_of, has_names, is_numeric, measured, names_place, numeric_place, of_column, place_from, query, query_of, some_place}
 use Rattle.pc_lang.proofs.Bound.{bound, granted}
 use Rattle.pc_model.proofs.WholeDomain.{whole_is_region}
@@ -115,6 +115,6 @@ is_query schema question found formed e =
       grouped = is_group schema question.group group.value group.is;
     })
 
-pub question_is_query : (schema : Schema) (question : Question) (result : Result Query Stop) → IsWellFormed schema → Answers result (query_of schema question) → IfOk result (IsQuery schema)
+pub question_is_query : (schema : Schema) (question : Question) (result : Result Query ReadStop) → IsWellFormed schema → Answers result (query_of schema question) → IfOk result (IsQuery schema)
 question_is_query schema question (Ok query) formed e = is_query schema question query formed e
 question_is_query schema question (Err stop) formed e = tt

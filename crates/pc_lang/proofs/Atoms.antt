@@ -3,7 +3,7 @@ use Rattle.std.proofs.Common.{◌≡◌, ℕ, ◌+◌, ◌<◌, ◌≤◌, List,
 use Rattle.pc_model.specs.declared.schema.Column.{Column}
 use Rattle.pc_model.specs.declared.region.Side.{Side}
 use Rattle.pc_model.proofs.Pieces.{pieces_step, pieces_past, pieces_spent}
-use Rattle.pc_syntax.specs.declared.syntax.Atom.{Atom}
+use Rattle.pc_lang_grammar.specs.declared.syntax.Atom.{Atom}
 use Rattle.pc_lang.specs.Canonical.{atoms_for, side_atoms}
 
 next_atom : (column : Column) (columns : List Column) (side : Side) (sides : List Side) → atoms_for (column ∷ columns) (side ∷ sides) ≡ side_atoms column side ++ atoms_for columns sides

@@ -16,11 +16,11 @@ use Rattle.pc_model.specs.Places.{is_place_of}
 use Rattle.pc_model.specs.Regions.{whole_side}
 use Rattle.pc_model.specs.Texts.{file_limit}
 use Rattle.pc_model.specs.WellFormed.{IsColumn, IsKind, IsWellFormed}
-use Rattle.pc_token.specs.declared.token.Symbol.TheVariants as symbols
-use Rattle.pc_token.specs.declared.token.Token.TheVariants as tokens
-use Rattle.pc_token.specs.Texts.{tokens_text}
-use Rattle.pc_syntax.specs.declared.syntax.Atom.{Atom}
-use Rattle.pc_syntax.specs.Grammar.{atom_tokens, claim_tokens, frequency_tokens, further_atoms, further_names, joined_atoms, line_tokens, part_tokens}
+use Rattle.pc_lang_tokens.specs.declared.token.Symbol.TheVariants as symbols
+use Rattle.pc_lang_tokens.specs.declared.token.Token.TheVariants as tokens
+use Rattle.pc_lang_tokens.specs.Texts.{tokens_text}
+use Rattle.pc_lang_grammar.specs.declared.syntax.Atom.{Atom}
+use Rattle.pc_lang_grammar.specs.Grammar.{atom_tokens, claim_tokens, frequency_tokens, further_atoms, further_names, joined_atoms, line_tokens, part_tokens}
 use Rattle.pc_lang.specs.Canonical.{atoms_for, constraint_text, constraints_text, count_text, line_for, names_claim, names_from, part_for, same_side, side_atoms, side_claim, span_claim}
 
 further_length : (names : List (List ℕ)) → length (further_names names) ≡ 2 * length names

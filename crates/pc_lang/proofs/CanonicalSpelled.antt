@@ -8,8 +8,8 @@ use Rattle.pc_model.specs.Accepted.{AreConstraints, IsQuery, frequency_limit}
 use Rattle.pc_model.specs.Boxes.{IsServable}
 use Rattle.pc_model.specs.Texts.{IsName}
 use Rattle.pc_model.specs.WellFormed.{IsSmall, IsWellFormed}
-use Rattle.pc_token.specs.Texts.{are_spelled, is_number, is_spelled}
-use Rattle.pc_syntax.specs.Grammar.{line_tokens, question_tokens}
+use Rattle.pc_lang_tokens.specs.Texts.{are_spelled, is_number, is_spelled}
+use Rattle.pc_lang_grammar.specs.Grammar.{line_tokens, question_tokens}
 use Rattle.pc_lang.specs.Canonical.{line_for, question_for}
 use Rattle.pc_lang.proofs.CanonicalTokens.{line_fits, lines_fit, question_fits}
 

@@ -27,14 +27,14 @@ use Rattle.pc_model.specs.Regions.{is_region_of, is_side_of, whole_side}
 use Rattle.pc_model.specs.Texts.{IsName, is_name}
 use Rattle.pc_model.specs.WellFormed.{IsColumn, IsKind, IsSmall, IsWellFormed}
 use Rattle.pc_model.proofs.Names.{is_name_of}
-use Rattle.pc_token.specs.declared.token.Symbol.{Symbol}
-use Rattle.pc_token.specs.declared.token.Symbol.TheVariants as symbols
-use Rattle.pc_token.specs.declared.token.Word.{Word}
-use Rattle.pc_token.specs.declared.token.Word.TheVariants as words
-use Rattle.pc_token.specs.declared.token.Token.{Token}
-use Rattle.pc_token.specs.declared.token.Token.TheVariants as tokens
-use Rattle.pc_syntax.specs.declared.syntax.Atom.{Atom}
-use Rattle.pc_syntax.specs.Grammar.{aggregate_tokens, atom_tokens, claim_tokens, frequency_tokens, further_atoms, further_names, group_tokens, joined_atoms, line_tokens, measure_tokens, part_tokens, question_tokens, where_tokens}
+use Rattle.pc_lang_tokens.specs.declared.token.Symbol.{Symbol}
+use Rattle.pc_lang_tokens.specs.declared.token.Symbol.TheVariants as symbols
+use Rattle.pc_lang_tokens.specs.declared.token.Word.{Word}
+use Rattle.pc_lang_tokens.specs.declared.token.Word.TheVariants as words
+use Rattle.pc_lang_tokens.specs.declared.token.Token.{Token}
+use Rattle.pc_lang_tokens.specs.declared.token.Token.TheVariants as tokens
+use Rattle.pc_lang_grammar.specs.declared.syntax.Atom.{Atom}
+use Rattle.pc_lang_grammar.specs.Grammar.{aggregate_tokens, atom_tokens, claim_tokens, frequency_tokens, further_atoms, further_names, group_tokens, joined_atoms, line_tokens, measure_tokens, part_tokens, question_tokens, where_tokens}
 use Rattle.pc_lang.specs.Canonical.{atoms_for, count_text, group_for, line_for, measure_for, name_at, names_claim, names_from, part_for, question_for, same_side, side_atoms, side_claim, span_claim, unless_whole}
 use Rattle.pc_lang.proofs.NamedSets.{some_name}
 use Rattle.pc_lang.proofs.QueriesAgain.{name_at-suc, name_at-zero}

@@ -7,7 +7,7 @@ use Rattle.pc_model.specs.declared.schema.Column.{Column}
 use Rattle.pc_model.specs.declared.region.Side.{Side}
 use Rattle.pc_model.specs.Membership.{has, holds, in_domain}
 use Rattle.pc_model.specs.Regions.{is_side_of, whole_region}
-use Rattle.pc_syntax.specs.declared.syntax.Atom.{Atom}
+use Rattle.pc_lang_grammar.specs.declared.syntax.Atom.{Atom}
 use Rattle.pc_model.proofs.Bools.{and_last}
 use Rattle.pc_model.proofs.WholeDomain.{domain_holds, whole_are_sides}
 use Rattle.pc_lang.specs.Holding.{PartsHold, cells_hold, states}

@@ -15,7 +15,7 @@ use Rattle.pc_model.specs.declared.fault.Refusal.{Refusal}
 use Rattle.pc_model.specs.declared.fault.Refusal.TheVariants as refusals
 use Rattle.pc_model.specs.Refusals.{◌>>=◌, fault_at, placed, RefusesAs}
 use Rattle.pc_model.specs.Texts.{text_of}
-use Rattle.pc_token.specs.Lexing.{is_blank}
+use Rattle.pc_lang_tokens.specs.Lexing.{is_blank}
 use Rattle.pc_lang.specs.Files.{is_passed_over, without_return, lines_of, constraint_lines, constraints_from, constraints_of, left_after, with_line}
 
 -- the rest of a slice from a place on

@@ -14,7 +14,7 @@ use Rattle.pc_model.specs.declared.region.Side.{Side}
 use Rattle.pc_model.specs.declared.region.Side.TheVariants.{Span, Names}
 use Rattle.pc_model.specs.Regions.{is_side_of, is_span_in, is_set_in, meet_sides, set_unless_empty, span_unless_empty}
 use Rattle.pc_model.proofs.Between.{le_from_test, test_from_le}
-use Rattle.pc_syntax.specs.declared.syntax.Claim.{Claim}
+use Rattle.pc_lang_grammar.specs.declared.syntax.Claim.{Claim}
 use Rattle.pc_lang.specs.Claims.{stated}
 use Rattle.pc_lang.specs.Parts.{narrowed_side, unless_empty}
 use Rattle.pc_lang.proofs.Bound.{bound}

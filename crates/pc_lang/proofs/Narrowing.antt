@@ -9,8 +9,8 @@ use Rattle.pc_model.specs.declared.region.Side.{Side}
 use Rattle.pc_model.specs.declared.region.Side.TheVariants.{Span}
 use Rattle.pc_model.specs.Refusals.{◌>>=◌}
 use Rattle.pc_model.specs.Regions.{whole_region}
-use Rattle.pc_syntax.specs.declared.syntax.Atom.{Atom}
-use Rattle.pc_syntax.specs.declared.syntax.Part.{Part}
+use Rattle.pc_lang_grammar.specs.declared.syntax.Atom.{Atom}
+use Rattle.pc_lang_grammar.specs.declared.syntax.Part.{Part}
 use Rattle.pc_lang.specs.Parts.{narrowed, narrowed_side, narrowed_by, region_of}
 use Rattle.pc_lang.proofs.Bound.{bound}
 

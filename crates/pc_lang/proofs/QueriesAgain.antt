@@ -11,7 +11,7 @@ use Rattle.pc_model.specs.declared.query.Agg.TheVariants as aggs
 use Rattle.pc_model.specs.declared.query.Query.{Query}
 use Rattle.pc_model.specs.Accepted.{HasNames, IsColumnWhere, IsNumeric, IsQuery, Measures}
 use Rattle.pc_model.specs.WellFormed.{IsWellFormed}
-use Rattle.pc_syntax.specs.declared.syntax.Atom.{Atom}
+use Rattle.pc_lang_grammar.specs.declared.syntax.Atom.{Atom}
 use Rattle.pc_lang.specs.Canonical.{atoms_for, group_for, measure_for, name_at, question_for, unless_whole}
 use Rattle.pc_lang.specs.Meaning.{chosen_of, grouping_of, has_names, is_numeric, measured, names_place, numeric_place, place_from, query_of}
 use Rattle.pc_lang.specs.Parts.{narrowed_by, region_of}

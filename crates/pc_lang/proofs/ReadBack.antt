@@ -16,14 +16,14 @@ use Rattle.pc_model.specs.declared.query.Query.{Query}
 use Rattle.pc_model.specs.Accepted.{AreConstraints, IsQuery}
 use Rattle.pc_model.specs.Texts.{file_limit, text_of, without_mark}
 use Rattle.pc_model.specs.WellFormed.{IsWellFormed}
-use Rattle.pc_token.specs.Texts.{are_spelled, tokens_text}
-use Rattle.pc_token.proofs.FirstBytes.{BeginsPlainly, tokens_text_begins}
-use Rattle.pc_token.proofs.ScaledTexts.{numbers_are_spelled}
-use Rattle.pc_token.proofs.TextBytes.{tokens_text_printed, tokens_text_is_text}
-use Rattle.pc_token.proofs.TextSizes.{is_short, tokens_text_short, name_is_short, number_is_short, symbol_is_short, word_is_short}
-use Rattle.pc_token.proofs.TokensBack.{tokens_read_back}
-use Rattle.pc_syntax.specs.Grammar.{line_tokens, question_tokens}
-use Rattle.pc_syntax.proofs.Complete.{line_again, question_again}
+use Rattle.pc_lang_tokens.specs.Texts.{are_spelled, tokens_text}
+use Rattle.pc_lang_tokens.proofs.FirstBytes.{BeginsPlainly, tokens_text_begins}
+use Rattle.pc_lang_tokens.proofs.ScaledTexts.{numbers_are_spelled}
+use Rattle.pc_lang_tokens.proofs.TextBytes.{tokens_text_printed, tokens_text_is_text}
+use Rattle.pc_lang_tokens.proofs.TextSizes.{is_short, tokens_text_short, name_is_short, number_is_short, symbol_is_short, word_is_short}
+use Rattle.pc_lang_tokens.proofs.TokensBack.{tokens_read_back}
+use Rattle.pc_lang_grammar.specs.Grammar.{line_tokens, question_tokens}
+use Rattle.pc_lang_grammar.proofs.Complete.{line_again, question_again}
 use Rattle.pc_lang.specs.Canonical.{constraint_text, constraints_text, line_for, query_text, question_for}
 use Rattle.pc_lang.specs.Files.{line_from, question_from, constraint_from, constraints_from, constraints_of, is_passed_over, lines_of, query_from, with_line, without_return, ends_with_return}
 use Rattle.pc_lang.proofs.Appending.{text_none, text_more}

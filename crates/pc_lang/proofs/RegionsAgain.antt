@@ -15,7 +15,7 @@ use Rattle.pc_model.specs.declared.region.Region.{Region}
 use Rattle.pc_model.specs.Refusals.{◌>>=◌}
 use Rattle.pc_model.specs.Regions.{is_region_of, is_side_of, whole_side}
 use Rattle.pc_model.specs.WellFormed.{IsColumn, IsWellFormed}
-use Rattle.pc_syntax.specs.declared.syntax.Atom.{Atom}
+use Rattle.pc_lang_grammar.specs.declared.syntax.Atom.{Atom}
 use Rattle.pc_lang.specs.Canonical.{atoms_for, part_for, same_side, side_atoms, side_claim}
 use Rattle.pc_lang.specs.Parts.{narrowed, narrowed_by, region_of}
 use Rattle.pc_model.proofs.Lists.{AllPairs-head, AllPairs-tail, bytes_eq-other, bytes_eq-same}

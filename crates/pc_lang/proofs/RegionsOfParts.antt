@@ -6,13 +6,13 @@ use Rattle.pc_model.specs.declared.schema.Column.{Column}
 use Rattle.pc_model.specs.declared.schema.Schema.{Schema}
 use Rattle.pc_model.specs.declared.region.Side.{Side}
 use Rattle.pc_model.specs.declared.region.Region.{Region}
-use Rattle.pc_model.specs.declared.fault.Stop.{Stop}
+use Rattle.pc_model.specs.declared.fault.ReadStop.{ReadStop}
 use Rattle.pc_model.specs.Refusals.{Answers}
 use Rattle.pc_model.specs.Regions.{is_side_of, is_region_of, whole_region}
 use Rattle.pc_model.specs.WellFormed.{IsWellFormed}
 use Rattle.pc_model.proofs.WholeDomain.{whole_are_sides}
-use Rattle.pc_syntax.specs.declared.syntax.Atom.{Atom}
-use Rattle.pc_syntax.specs.declared.syntax.Part.{Part}
+use Rattle.pc_lang_grammar.specs.declared.syntax.Atom.{Atom}
+use Rattle.pc_lang_grammar.specs.declared.syntax.Part.{Part}
 use Rattle.pc_lang.specs.Parts.{narrowed, narrowed_by, region, region_of}
 use Rattle.pc_lang.proofs.Bound.{bound}
 use Rattle.pc_lang.proofs.Meeting.{left_is_side}
@@ -48,6 +48,6 @@ is_region schema part found formed e =
     subst (λ (r : Region). AreSides schema.columns r.sides) same
     (all_are_sides schema.columns part.atoms (whole_region schema).sides b.value b.is (whole_are_sides schema.columns formed.columns.all))
 
-pub part_is_region : (schema : Schema) (part : Part) (result : Result Region Stop) → IsWellFormed schema → Answers result (region_of schema part) → IfOk result (λ region. is_region_of schema region ≡ true)
+pub part_is_region : (schema : Schema) (part : Part) (result : Result Region ReadStop) → IsWellFormed schema → Answers result (region_of schema part) → IfOk result (λ region. is_region_of schema region ≡ true)
 part_is_region schema part (Ok region) formed e = is_region schema part region formed e
 part_is_region schema part (Err stop) formed e = tt

@@ -4,7 +4,7 @@ use Rattle.std.specs.Prelude.{if◌then◌else◌}
 use Rattle.std.proofs.lemmas.Bool.{cases_Bool}
 use Rattle.std.proofs.lemmas.List.{append-nil, drop_all}
 use Rattle.pc_model.specs.Places.{is_place_of}
-use Rattle.pc_syntax.specs.declared.syntax.Claim.TheVariants as claims
+use Rattle.pc_lang_grammar.specs.declared.syntax.Claim.TheVariants as claims
 use Rattle.pc_lang.specs.Canonical.{names_claim, names_from}
 
 abbrev name_if : ℕ → ℕ → List ℕ → List (List ℕ)

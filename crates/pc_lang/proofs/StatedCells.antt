@@ -26,8 +26,8 @@ use Rattle.pc_model.proofs.Bools.{same_tests}
 use Rattle.pc_model.proofs.SharedPlaces.{shared_place}
 use Rattle.pc_model.proofs.Between.{test_from_le, between_parts, between_from}
 use Rattle.pc_model.proofs.Regions.{side_inside}
-use Rattle.pc_syntax.specs.declared.syntax.Claim.{Claim}
-use Rattle.pc_syntax.specs.declared.syntax.Claim.TheVariants as claims
+use Rattle.pc_lang_grammar.specs.declared.syntax.Claim.{Claim}
+use Rattle.pc_lang_grammar.specs.declared.syntax.Claim.TheVariants as claims
 use Rattle.pc_lang.specs.Claims.{bit_if, bits_of, is_among, set_of, span, stated, stated_names, stated_numbers}
 use Rattle.pc_lang.specs.Holding.{is_name_of, is_one_of, name_claim, number_claim, passes, states}
 use Rattle.pc_lang.specs.Parts.{narrowed_side}

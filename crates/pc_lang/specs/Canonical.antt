@@ -16,16 +16,16 @@ use Rattle.pc_model.specs.declared.query.Agg.TheVariants as aggs
 use Rattle.pc_model.specs.declared.query.Query.{Query}
 use Rattle.pc_model.specs.Places.{is_place_of}
 use Rattle.pc_model.specs.Regions.{whole_side}
-use Rattle.pc_token.specs.Texts.{tokens_text}
-use Rattle.pc_syntax.specs.declared.syntax.Claim.{Claim}
-use Rattle.pc_syntax.specs.declared.syntax.Claim.TheVariants as claims
-use Rattle.pc_syntax.specs.declared.syntax.Atom.{Atom}
-use Rattle.pc_syntax.specs.declared.syntax.Part.{Part}
-use Rattle.pc_syntax.specs.declared.syntax.Line.{Line}
-use Rattle.pc_syntax.specs.declared.syntax.Measure.{Measure}
-use Rattle.pc_syntax.specs.declared.syntax.Measure.TheVariants as measures
-use Rattle.pc_syntax.specs.declared.syntax.Question.{Question}
-use Rattle.pc_syntax.specs.Grammar.{line_tokens, question_tokens}
+use Rattle.pc_lang_tokens.specs.Texts.{tokens_text}
+use Rattle.pc_lang_grammar.specs.declared.syntax.Claim.{Claim}
+use Rattle.pc_lang_grammar.specs.declared.syntax.Claim.TheVariants as claims
+use Rattle.pc_lang_grammar.specs.declared.syntax.Atom.{Atom}
+use Rattle.pc_lang_grammar.specs.declared.syntax.Part.{Part}
+use Rattle.pc_lang_grammar.specs.declared.syntax.Line.{Line}
+use Rattle.pc_lang_grammar.specs.declared.syntax.Measure.{Measure}
+use Rattle.pc_lang_grammar.specs.declared.syntax.Measure.TheVariants as measures
+use Rattle.pc_lang_grammar.specs.declared.syntax.Question.{Question}
+use Rattle.pc_lang_grammar.specs.Grammar.{line_tokens, question_tokens}
 
 -- one number, or all from one to another
 unfoldable pub span_claim : ℕ → ℤ → ℤ → Claim

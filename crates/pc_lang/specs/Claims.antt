@@ -9,8 +9,8 @@ use Rattle.pc_model.specs.declared.region.Side.{Side}
 use Rattle.pc_model.specs.declared.region.Side.TheVariants.{Span, Names}
 use Rattle.pc_model.specs.Numbers.{number_of}
 use Rattle.pc_model.specs.Refusals.{◌>>=◌}
-use Rattle.pc_syntax.specs.declared.syntax.Claim.{Claim}
-use Rattle.pc_syntax.specs.declared.syntax.Claim.TheVariants as claims
+use Rattle.pc_lang_grammar.specs.declared.syntax.Claim.{Claim}
+use Rattle.pc_lang_grammar.specs.declared.syntax.Claim.TheVariants as claims
 
 abbrev pub span : ℤ → ℤ → Result Side Reason
 span low high = Ok (Span low high)

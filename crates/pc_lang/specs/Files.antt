@@ -9,10 +9,10 @@ use Rattle.pc_model.specs.declared.constraint.Constraint.{Constraint}
 use Rattle.pc_model.specs.declared.query.Query.{Query}
 use Rattle.pc_model.specs.Refusals.{◌>>=◌, placed}
 use Rattle.pc_model.specs.Texts.{text_of}
-use Rattle.pc_token.specs.Lexing.{is_blank, tokens_of}
-use Rattle.pc_syntax.specs.declared.syntax.Line.{Line}
-use Rattle.pc_syntax.specs.declared.syntax.Question.{Question}
-use Rattle.pc_syntax.specs.Parsing.{line_of, question_of}
+use Rattle.pc_lang_tokens.specs.Lexing.{is_blank, tokens_of}
+use Rattle.pc_lang_grammar.specs.declared.syntax.Line.{Line}
+use Rattle.pc_lang_grammar.specs.declared.syntax.Question.{Question}
+use Rattle.pc_lang_grammar.specs.Parsing.{line_of, question_of}
 use Rattle.pc_lang.specs.Meaning.{constraint_of, query_of}
 
 -- what stands between the line feeds, without a carriage return at the end

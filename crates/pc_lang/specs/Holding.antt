@@ -12,10 +12,10 @@ use Rattle.pc_model.specs.declared.region.Region.{Region}
 use Rattle.pc_model.specs.Membership.{has, in_domain}
 use Rattle.pc_model.specs.Numbers.{number_of}
 use Rattle.pc_model.specs.WellFormed.{IsWellFormed}
-use Rattle.pc_syntax.specs.declared.syntax.Claim.{Claim}
-use Rattle.pc_syntax.specs.declared.syntax.Claim.TheVariants as claims
-use Rattle.pc_syntax.specs.declared.syntax.Atom.{Atom}
-use Rattle.pc_syntax.specs.declared.syntax.Part.{Part}
+use Rattle.pc_lang_grammar.specs.declared.syntax.Claim.{Claim}
+use Rattle.pc_lang_grammar.specs.declared.syntax.Claim.TheVariants as claims
+use Rattle.pc_lang_grammar.specs.declared.syntax.Atom.{Atom}
+use Rattle.pc_lang_grammar.specs.declared.syntax.Part.{Part}
 use Rattle.pc_lang.specs.Claims.{is_among}
 use Rattle.pc_lang.specs.Parts.{region_of}
 

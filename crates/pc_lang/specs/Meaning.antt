@@ -17,11 +17,11 @@ use Rattle.pc_model.specs.Accepted.{constraint_limit, frequency_limit}
 use Rattle.pc_model.specs.Numbers.{number_of}
 use Rattle.pc_model.specs.Refusals.{◌>>=◌}
 use Rattle.pc_model.specs.Regions.{whole_region}
-use Rattle.pc_syntax.specs.declared.syntax.Part.{Part}
-use Rattle.pc_syntax.specs.declared.syntax.Line.{Line}
-use Rattle.pc_syntax.specs.declared.syntax.Measure.{Measure}
-use Rattle.pc_syntax.specs.declared.syntax.Measure.TheVariants as measures
-use Rattle.pc_syntax.specs.declared.syntax.Question.{Question}
+use Rattle.pc_lang_grammar.specs.declared.syntax.Part.{Part}
+use Rattle.pc_lang_grammar.specs.declared.syntax.Line.{Line}
+use Rattle.pc_lang_grammar.specs.declared.syntax.Measure.{Measure}
+use Rattle.pc_lang_grammar.specs.declared.syntax.Measure.TheVariants as measures
+use Rattle.pc_lang_grammar.specs.declared.syntax.Question.{Question}
 use Rattle.pc_lang.specs.Parts.{region_of}
 
 abbrev pub at_most_limit : ℕ → Result ℕ Reason

@@ -3,10 +3,10 @@ ghost use Rattle.pc_model.specs.WellFormed.{IsWellFormed};
 ghost use Rattle.pc_lang.specs.Canonical.{atoms_for, count_text, group_for, line_for, measure_for, measured_name, name_at, question_for, unless_whole};
 
 use crate::canonical_part::{no_text, number_text, part_for};
+use pc_lang_grammar::{Line, Measure, Part, Question};
 use pc_list::{Seq, Text};
 use pc_model::{Agg, Column, Constraint, Query, Region, Schema};
 use pc_num::Memory;
-use pc_syntax::{Line, Measure, Part, Question};
 use std::alloc::Global;
 
 /// The canonical line of a constraint.

@@ -6,10 +6,10 @@ ghost use Rattle.pc_model.specs.WellFormed.{IsColumn, IsKind, IsWellFormed};
 ghost use Rattle.pc_lang.specs.Canonical.{atoms_for, names_claim, names_from, part_for, same_side, side_atoms, side_claim, span_claim};
 
 use crate::whole::same_side;
+use pc_lang_grammar::{Atom, Claim, Part};
 use pc_list::{Seq, Text};
 use pc_model::{Column, Kind, Region, Schema, Side, has_bit};
 use pc_num::{Memory, put_scaled};
-use pc_syntax::{Atom, Claim, Part};
 use std::alloc::Global;
 
 /// The canonical part of a region: an atom for each column of which it does not hold all.

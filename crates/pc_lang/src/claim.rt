@@ -3,9 +3,9 @@ ghost use Rattle.std.specs.List.{list_all};
 ghost use Rattle.pc_model.specs.WellFormed.{HasFewNames};
 ghost use Rattle.pc_lang.specs.Claims.{bit_if, bits_of, is_among, set_of, stated, stated_names, stated_numbers};
 
+use pc_lang_grammar::Claim;
 use pc_list::Text;
 use pc_model::{Kind, Reason, Side, read_number};
-use pc_syntax::Claim;
 
 /// Which numbers or names of a column of this kind a claim states.
 #[tactic(auto, unfolding(crate::specs::Claims::stated))]

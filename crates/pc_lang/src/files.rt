@@ -5,14 +5,14 @@ ghost use Rattle.pc_model.specs.WellFormed.{IsWellFormed, HaveFewNames};
 ghost use Rattle.pc_model.specs.declared.fault.FileKind.TheVariants as files;
 ghost use Rattle.pc_lang.specs.Files.{without_return, is_passed_over, line_from, question_from, constraint_from, with_line, constraints_from, lines_of, constraints_of, query_from, query_at, line_number, constraint_lines, left_after};
 ghost use Rattle.pc_model.specs.Texts.{is_name};
-ghost use Rattle.pc_token.specs.Lexing.{is_blank};
+ghost use Rattle.pc_lang_tokens.specs.Lexing.{is_blank};
 
 use crate::meaning::constraint_of;
 use crate::query::query_of;
+use pc_lang_grammar::{Line, Question, read_line, read_question};
+use pc_lang_tokens::read_tokens;
 use pc_list::Seq;
-use pc_model::{Constraint, FileKind, Query, Refusal, Schema, Stop, text_of};
-use pc_syntax::{Line, Question, read_line, read_question};
-use pc_token::read_tokens;
+use pc_model::{Constraint, FileKind, Query, ReadStop, Refusal, Schema, text_of};
 use std::alloc::Global;
 
 #[cfg(test)]
@@ -32,7 +32,7 @@ pub fn read_constraints(
 {
     match text_of(bytes) {
         Ok(text) => constraints_of_text(alloc, schema, text),
-        Err(reason) => Err(Stop::Reason(reason).at(FileKind::Constraints, 0)),
+        Err(reason) => Err(ReadStop::Reason(reason).at(FileKind::Constraints, 0)),
     }
 }
 
@@ -151,7 +151,7 @@ fn with_line(
     schema: &Schema,
     mut before: Seq<Constraint>,
     line: &[u8],
-) -> Result<Seq<Constraint>, Stop>
+) -> Result<Seq<Constraint>, ReadStop>
     requires well_formed { IsWellFormed schema.now }
     requires few_names { HaveFewNames schema.now.columns }
     requires accepted { AreConstraints schema.now before }
@@ -173,7 +173,7 @@ fn constraint_from(
     schema: &Schema,
     before: &[Constraint],
     line: &[u8],
-) -> Result<Constraint, Stop>
+) -> Result<Constraint, ReadStop>
     requires well_formed { IsWellFormed schema.now }
     requires few_names { HaveFewNames schema.now.columns }
     requires accepted { AreConstraints schema.now before.now }
@@ -186,7 +186,7 @@ fn constraint_from(
 
 // The line that the text spells.
 #[tactic(auto, using(crate::proofs::ReadTexts::line_steps), unfolding(crate::specs::Files::line_from))]
-fn line_from(alloc: Global, text: &[u8]) -> Result<Line, Stop>
+fn line_from(alloc: Global, text: &[u8]) -> Result<Line, ReadStop>
     ensures answers { Answers result (line_from text.now) }
     ensures named { IfOk result (λ line. is_name line.name ≡ true) }
 {
@@ -195,7 +195,7 @@ fn line_from(alloc: Global, text: &[u8]) -> Result<Line, Stop>
 }
 
 #[tactic(auto, unfolding(crate::specs::Files::question_from))]
-fn question_from(alloc: Global, text: &[u8]) -> Result<Question, Stop>
+fn question_from(alloc: Global, text: &[u8]) -> Result<Question, ReadStop>
     ensures { Answers result (question_from text.now) }
 {
     let tokens = read_tokens(alloc, text)?;
@@ -203,7 +203,7 @@ fn question_from(alloc: Global, text: &[u8]) -> Result<Question, Stop>
 }
 
 #[tactic(auto, unfolding(crate::specs::Files::query_from))]
-fn query_from(alloc: Global, schema: &Schema, text: &[u8]) -> Result<Query, Stop>
+fn query_from(alloc: Global, schema: &Schema, text: &[u8]) -> Result<Query, ReadStop>
     requires well_formed { IsWellFormed schema.now }
     requires few_names { HaveFewNames schema.now.columns }
     ensures answers { Answers result (query_from schema.now text.now) }

@@ -14,6 +14,6 @@ mod whole;
 
 pub use files::{line_number, read_constraints, read_query};
 pub use law::parts_hold;
-pub use pc_token::{front_name, put_name};
+pub use pc_lang_tokens::{front_name, put_name};
 pub use put::{put_constraints, put_query};
 pub use whole::is_whole;

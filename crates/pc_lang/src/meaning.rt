@@ -8,9 +8,9 @@ ghost use Rattle.pc_model.specs.WellFormed.{IsWellFormed, HaveFewNames};
 ghost use Rattle.pc_lang.specs.Meaning.{at_most_limit, constraint_of, count_of, has_name, in_order, new_constraint};
 
 use crate::part::region_of;
+use pc_lang_grammar::Line;
 use pc_list::Text;
-use pc_model::{Constraint, Reason, Region, Schema, Stop, read_number};
-use pc_syntax::Line;
+use pc_model::{Constraint, ReadStop, Reason, Region, Schema, read_number};
 use std::alloc::Global;
 
 #[cfg(test)]
@@ -27,7 +27,7 @@ pub(crate) fn constraint_of(
     schema: &Schema,
     before: &[Constraint],
     line: Line,
-) -> Result<Constraint, Stop>
+) -> Result<Constraint, ReadStop>
     requires well_formed { IsWellFormed schema.now }
     requires few_names { HaveFewNames schema.now.columns }
     ensures answers { Answers result (constraint_of schema.now before.now line) }
@@ -42,16 +42,16 @@ fn checked_constraint(
     schema: &Schema,
     before: &[Constraint],
     line: Line,
-) -> Result<Constraint, Stop>
+) -> Result<Constraint, ReadStop>
     requires well_formed { IsWellFormed schema.now }
     requires few_names { HaveFewNames schema.now.columns }
     ensures { Answers result (constraint_of schema.now before.now line) }
 {
     if MOST_CONSTRAINTS <= before.len() {
-        return Err(Stop::Reason(Reason::TooMany));
+        return Err(ReadStop::Reason(Reason::TooMany));
     }
     if has_name(before, line.name.as_bytes()) {
-        return Err(Stop::Reason(Reason::RepeatedName));
+        return Err(ReadStop::Reason(Reason::RepeatedName));
     }
     new_constraint(alloc, schema, line)
 }
@@ -65,7 +65,7 @@ fn has_name(constraints: &[Constraint], name: &[u8]) -> bool
 }
 
 #[tactic(auto, unfolding(crate::specs::Meaning::new_constraint))]
-fn new_constraint(alloc: Global, schema: &Schema, line: Line) -> Result<Constraint, Stop>
+fn new_constraint(alloc: Global, schema: &Schema, line: Line) -> Result<Constraint, ReadStop>
     requires well_formed { IsWellFormed schema.now }
     requires few_names { HaveFewNames schema.now.columns }
     ensures { Answers result (new_constraint schema.now line) }

@@ -5,14 +5,14 @@ ghost use Rattle.pc_model.specs.WellFormed.{IsWellFormed, HasFewNames, HaveFewNa
 ghost use Rattle.pc_lang.specs.Parts.{narrowed, narrowed_side, region_of};
 
 use crate::claim::stated;
+use pc_lang_grammar::{Atom, Claim, Part};
 use pc_list::Seq;
-use pc_model::{Column, Kind, Reason, Region, Schema, Side, Stop};
-use pc_syntax::{Atom, Claim, Part};
+use pc_model::{Column, Kind, ReadStop, Reason, Region, Schema, Side};
 use std::alloc::Global;
 
 /// The region that a part stands for: what its atoms leave of the domain, one after another.
 #[tactic(auto, using(crate::proofs::RegionsOfParts::part_is_region))]
-pub(crate) fn region_of(alloc: Global, schema: &Schema, part: &Part) -> Result<Region, Stop>
+pub(crate) fn region_of(alloc: Global, schema: &Schema, part: &Part) -> Result<Region, ReadStop>
     requires well_formed { IsWellFormed schema.now }
     requires few_names { HaveFewNames schema.now.columns }
     ensures answers { Answers result (region_of schema.now part.now) }
@@ -22,13 +22,13 @@ pub(crate) fn region_of(alloc: Global, schema: &Schema, part: &Part) -> Result<R
 }
 
 #[tactic(auto, using(crate::proofs::Narrowing::atom_steps))]
-fn narrowed_region(alloc: Global, schema: &Schema, part: &Part) -> Result<Region, Stop>
+fn narrowed_region(alloc: Global, schema: &Schema, part: &Part) -> Result<Region, ReadStop>
     requires { HaveFewNames schema.now.columns }
     ensures { Answers result (region_of schema.now part.now) }
 {
     let columns = schema.columns.as_slice();
     let atoms = part.atoms.as_slice();
-    let whole = schema.whole(alloc).map_err(|_| Stop::Memory)?;
+    let whole = schema.whole(alloc).map_err(|_| ReadStop::Memory)?;
     let mut sides = whole.sides.into_vec();
     for atom in atoms {
         narrow(columns, &mut sides, atom)?;

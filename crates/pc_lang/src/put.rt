@@ -1,16 +1,16 @@
 ghost use Rattle.std.specs.Prelude.{◌≡◌, ◌++◌, IfOk, OnErr, OnOk, Ok};
 ghost use Rattle.pc_model.specs.Accepted.{AreConstraints, IsQuery};
 ghost use Rattle.pc_model.specs.WellFormed.{IsWellFormed};
-ghost use Rattle.pc_syntax.specs.Grammar.{line_tokens, question_tokens};
+ghost use Rattle.pc_lang_grammar.specs.Grammar.{line_tokens, question_tokens};
 ghost use Rattle.pc_lang.specs.Canonical.{constraint_text, constraints_text, line_for, query_text, question_for};
 ghost use Rattle.pc_lang.specs.Files.{constraints_of, query_from};
 
 use crate::canonical::{line_for, question_for};
+use pc_lang_grammar::{spell_line, spell_question};
+use pc_lang_tokens::{Token, put_tokens};
 use pc_list::Seq;
 use pc_model::{Constraint, Query, Schema};
 use pc_num::Memory;
-use pc_syntax::{spell_line, spell_question};
-use pc_token::{Token, put_tokens};
 use std::alloc::Global;
 
 #[cfg(test)]

@@ -5,14 +5,18 @@ ghost use Rattle.pc_model.specs.WellFormed.{IsWellFormed, HaveFewNames};
 ghost use Rattle.pc_lang.specs.Meaning.{chosen_of, grouping_of, has_names_as, measured, names_place, numeric_place, place_from, query_of};
 
 use crate::part::region_of;
+use pc_lang_grammar::{Measure, Part, Question};
 use pc_list::Text;
-use pc_model::{Agg, Kind, Query, Reason, Region, Schema, Stop};
-use pc_syntax::{Measure, Part, Question};
+use pc_model::{Agg, Kind, Query, ReadStop, Reason, Region, Schema};
 use std::alloc::Global;
 
 /// The query that a question stands for.
 #[tactic(auto, using(crate::proofs::AcceptedQuestions::question_is_query))]
-pub(crate) fn query_of(alloc: Global, schema: &Schema, question: &Question) -> Result<Query, Stop>
+pub(crate) fn query_of(
+    alloc: Global,
+    schema: &Schema,
+    question: &Question,
+) -> Result<Query, ReadStop>
     requires well_formed { IsWellFormed schema.now }
     requires few_names { HaveFewNames schema.now.columns }
     ensures answers { Answers result (query_of schema.now question.now) }
@@ -22,7 +26,7 @@ pub(crate) fn query_of(alloc: Global, schema: &Schema, question: &Question) -> R
 }
 
 #[tactic(auto, using(crate::proofs::Places::few_columns), unfolding(crate::specs::Meaning::query_of))]
-fn checked_query(alloc: Global, schema: &Schema, question: &Question) -> Result<Query, Stop>
+fn checked_query(alloc: Global, schema: &Schema, question: &Question) -> Result<Query, ReadStop>
     requires well_formed { IsWellFormed schema.now }
     requires few_names { HaveFewNames schema.now.columns }
     ensures { Answers result (query_of schema.now question.now) }
@@ -95,14 +99,14 @@ fn has_names_as(kind: &Kind, asked: bool) -> bool
     }
 }
 
-fn chosen_of(alloc: Global, schema: &Schema, part: &Option<Part>) -> Result<Region, Stop>
+fn chosen_of(alloc: Global, schema: &Schema, part: &Option<Part>) -> Result<Region, ReadStop>
     requires well_formed { IsWellFormed schema.now }
     requires few_names { HaveFewNames schema.now.columns }
     ensures { Answers result (chosen_of schema.now part.now) }
 {
     match part {
         Some(part) => region_of(alloc, schema, part),
-        None => schema.whole(alloc).map_err(|_| Stop::Memory),
+        None => schema.whole(alloc).map_err(|_| ReadStop::Memory),
     }
 }
 

@@ -72,14 +72,14 @@ impl From<Memory> for Refusal {
 /// Why a part of a file gives no value: a reason, whose place only the reader of the whole file knows, or
 /// want of memory.
 #[derive(Clone, Copy, Debug, PartialEq, Eq, Error)]
-pub enum Stop {
+pub enum ReadStop {
     #[error("{0:?}")]
     Reason(Reason),
     #[error("out of memory")]
     Memory,
 }
 
-impl Stop {
+impl ReadStop {
     ghost use Rattle.std.specs.Prelude.{◌≡◌};
     ghost use Rattle.pc_model.specs.Refusals.{refusal_at};
 
@@ -88,46 +88,46 @@ impl Stop {
         ensures { result ≡ refusal_at file place self }
     {
         match self {
-            Stop::Reason(reason) => Refusal::Fault(Fault {
+            ReadStop::Reason(reason) => Refusal::Fault(Fault {
                 file,
                 place,
                 reason,
             }),
-            Stop::Memory => Refusal::Memory,
+            ReadStop::Memory => Refusal::Memory,
         }
     }
 }
 
-impl From<Reason> for Stop {
+impl From<Reason> for ReadStop {
     ghost use Rattle.std.specs.Prelude.{◌≡◌};
-    ghost use Rattle.pc_model.specs.declared.fault.Stop.TheVariants.{Reason};
+    ghost use Rattle.pc_model.specs.declared.fault.ReadStop.TheVariants.{Reason};
 
     ghost from_gives = { λ reason stop. stop ≡ Reason reason };
 
-    fn from(reason: Reason) -> Stop {
-        Stop::Reason(reason)
+    fn from(reason: Reason) -> ReadStop {
+        ReadStop::Reason(reason)
     }
 }
 
-impl From<AllocError> for Stop {
+impl From<AllocError> for ReadStop {
     ghost use Rattle.std.specs.Prelude.{◌≡◌};
-    ghost use Rattle.pc_model.specs.declared.fault.Stop.TheVariants.{Memory};
+    ghost use Rattle.pc_model.specs.declared.fault.ReadStop.TheVariants.{Memory};
 
     ghost from_gives = { λ _ stop. stop ≡ Memory };
 
-    fn from(_error: AllocError) -> Stop {
-        Stop::Memory
+    fn from(_error: AllocError) -> ReadStop {
+        ReadStop::Memory
     }
 }
 
-impl<T: Drop> From<AllocFailed<T>> for Stop {
+impl<T: Drop> From<AllocFailed<T>> for ReadStop {
     ghost use Rattle.std.specs.Prelude.{◌≡◌};
-    ghost use Rattle.pc_model.specs.declared.fault.Stop.TheVariants.{Memory};
+    ghost use Rattle.pc_model.specs.declared.fault.ReadStop.TheVariants.{Memory};
 
     ghost from_gives = { λ _ stop. stop ≡ Memory };
 
-    fn from(_refused: AllocFailed<T>) -> Stop {
-        Stop::Memory
+    fn from(_refused: AllocFailed<T>) -> ReadStop {
+        ReadStop::Memory
     }
 }
 

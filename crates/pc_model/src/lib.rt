@@ -14,7 +14,7 @@ mod text;
 mod tree;
 
 pub use constraint::Constraint;
-pub use fault::{Fault, FileKind, Reason, Refusal, Stop};
+pub use fault::{Fault, FileKind, ReadStop, Reason, Refusal};
 pub use number::read_number;
 pub use query::{Agg, Folded, Query, greatest_of, least_of};
 pub use region::{Region, Side, has_bit, is_between};

@@ -1,5 +1,5 @@
 use crate::{
-    Column, Fault, FileKind, Kind, Reason, Refusal, Region, Row, Schema, Side, Stop, is_name,
+    Column, Fault, FileKind, Kind, ReadStop, Reason, Refusal, Region, Row, Schema, Side, is_name,
     read_number, text_of,
 };
 use pc_list::{Seq, Text};
@@ -191,11 +191,11 @@ fn stops(rt: HostRuntime) {
         reason: Reason::BadNumber,
     };
     assert_eq!(rt;
-        Stop::from(Reason::BadNumber).at(FileKind::Rows, 7),
+        ReadStop::from(Reason::BadNumber).at(FileKind::Rows, 7),
         Refusal::Fault(fault)
     );
     assert_eq!(rt;
-        Stop::from(AllocError).at(FileKind::Rows, 7),
+        ReadStop::from(AllocError).at(FileKind::Rows, 7),
         Refusal::Memory
     );
     assert_eq!(rt; Refusal::from(Memory), Refusal::Memory);

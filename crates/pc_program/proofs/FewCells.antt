@@ -3,9 +3,9 @@ use Rattle.std.proofs.Common.{◌≡◌, ◌≢◌, ℕ, ◌+◌, ◌<◌, ◌�
 use Rattle.std.specs.Prelude.{ℤ, pos, ◌*ℤ◌, nat_abs, int_lt}
 use Rattle.std.proofs.lemmas.Int.{ints}
 use Rattle.std.proofs.lemmas.Bool.{cases_eq, cases_lt}
-use Rattle.pc_bound.specs.declared.program.Program.{Program}
-use Rattle.pc_bound.specs.Sums.{nat_at, int_at}
-use Rattle.pc_bound.specs.Allocation.{cells_of, total}
+use Rattle.pc_program_bound.specs.declared.program.Program.{Program}
+use Rattle.pc_program_bound.specs.Sums.{nat_at, int_at}
+use Rattle.pc_program_bound.specs.Allocation.{cells_of, total}
 use Rattle.pc_program.specs.declared.sharing.Shared.{Shared}
 use Rattle.pc_program.specs.declared.sharing.Supply.{Supply}
 use Rattle.pc_program.specs.Sharing.{IsReached, IsSharedOut}

@@ -3,10 +3,10 @@ use Rattle.std.proofs.Common.{◌≡◌, ◌<◌, ◌^◌, ℕ, List, replicate,
 use Rattle.std.specs.Prelude.{ℤ, pos, negsuc, nat_abs, All}
 use Rattle.std.proofs.lemmas.Int.{ints}
 use Rattle.std.proofs.lemmas.List.Elements.{All-from_get_or, All-set, All-replicate}
-use Rattle.pc_bound.specs.declared.program.Program.{Program}
-use Rattle.pc_bound.specs.Sums.{int_at}
-use Rattle.pc_bound.specs.Allocation.{constraints_of}
-use Rattle.pc_bound.specs.Bound.{IsFit}
+use Rattle.pc_program_bound.specs.declared.program.Program.{Program}
+use Rattle.pc_program_bound.specs.Sums.{int_at}
+use Rattle.pc_program_bound.specs.Allocation.{constraints_of}
+use Rattle.pc_program_bound.specs.Bound.{IsFit}
 use Rattle.pc_program.specs.Settled.{AreSettled}
 
 fit_small : (z : ℤ) → nat_abs z < 2 ^ 87 → IsFit z

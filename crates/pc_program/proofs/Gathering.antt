@@ -5,10 +5,10 @@ use Rattle.std.specs.Int.Count.{count_trailing_zeros}
 use Rattle.std.proofs.lemmas.Bool.{cases_eq}
 use Rattle.std.proofs.lemmas.Nat.Bits.{bit_at-trailing_zeros, bit_at-zero}
 use Rattle.std.proofs.lemmas.List.{length-replicate, get_or-replicate, get_or-set_same, get_or-set_other, length-set}
-use Rattle.pc_bound.specs.declared.program.Program.{Program}
+use Rattle.pc_program_bound.specs.declared.program.Program.{Program}
 use Rattle.pc_model.specs.Places.{has_bit}
-use Rattle.pc_bound.specs.Sums.{nat_at}
-use Rattle.pc_bound.specs.Allocation.{cells_of, constraints_of}
+use Rattle.pc_program_bound.specs.Sums.{nat_at}
+use Rattle.pc_program_bound.specs.Allocation.{cells_of, constraints_of}
 use Rattle.pc_program.specs.declared.members.Members.{Members}
 use Rattle.pc_program.specs.Settled.{is_in, HasOneBits, HasNoneIn, IsFirstIn}
 use Rattle.pc_program.specs.Gathered.{IsNextIn, place_after, AreFirstTwo, no_members, members_at, AreGathered, placed, with_cell}

@@ -3,18 +3,18 @@ use Rattle.std.proofs.Common.{◌≡◌, ℕ, ◌<◌, true, cond, List, refl, a
 use Rattle.std.specs.Prelude.{ℤ, pos, negsuc, ◌-ℤ◌, ◌*ℤ◌}
 use Rattle.std.specs.Int.{int_div_euclid}
 use Rattle.std.proofs.lemmas.Int.{ints}
-use Rattle.pc_bound.specs.declared.program.Program.{Program}
-use Rattle.pc_bound.specs.Sums.{sum_below, nat_at, int_at}
-use Rattle.pc_bound.specs.Allocation.{cells_of, constraints_of, total, worth, IsProgram, IsAllocation}
-use Rattle.pc_bound.specs.Bound.{part_of, rest_of, constraint_share, cell_share, raw_bound, bound_of, IsMultiplier}
-use Rattle.pc_bound.proofs.SumBelow.{sum_below-same, sum_below-one}
+use Rattle.pc_program_bound.specs.declared.program.Program.{Program}
+use Rattle.pc_program_bound.specs.Sums.{sum_below, nat_at, int_at}
+use Rattle.pc_program_bound.specs.Allocation.{cells_of, constraints_of, total, worth, IsProgram, IsAllocation}
+use Rattle.pc_program_bound.specs.Bound.{part_of, rest_of, constraint_share, cell_share, raw_bound, bound_of, IsMultiplier}
+use Rattle.pc_program_bound.proofs.SumBelow.{sum_below-same, sum_below-one}
 use Rattle.pc_program.specs.declared.solving.Solved.TheVariants.{Best}
 use Rattle.pc_program.specs.Solved.{IsSolved}
 use Rattle.pc_program.specs.Settled.{is_in, HasOneBits, AreSettled}
 use Rattle.pc_program.proofs.AllSettled.{out_of_other}
 use Rattle.pc_program.proofs.Void.{mult_of, IsVoid-short}
 use Rattle.pc_program.proofs.Widths.{fits-small}
-use Rattle.pc_bound.proofs.Duality.{worth-shared}
+use Rattle.pc_program_bound.proofs.Duality.{worth-shared}
 
 div-one : (z : ℤ) → int_div_euclid z (pos 1) ≡ z
 div-one (pos n) = omega (arith, ints)

@@ -3,7 +3,7 @@ use Rattle.std.proofs.Common.{◌≡◌, ℕ, ◌+◌, ◌-◌, ◌<◌, ◌≤�
 use Rattle.std.specs.Prelude.{ℤ, pos, ◌-ℤ◌, ◌*ℤ◌, ◌≤ℤ◌, ◌<ℤ◌, int_lt}
 use Rattle.std.specs.Int.{int_max}
 use Rattle.std.proofs.lemmas.Int.{ints, clamps, to_z-of_z}
-use Rattle.pc_bound.proofs.Ring.{mul_mono, mul_anti}
+use Rattle.pc_program_bound.proofs.Ring.{mul_mono, mul_anti}
 use Rattle.pc_program.specs.Sharing.{IsReached, IsSharedOut}
 use Rattle.pc_program.specs.declared.sharing.Supply.{Supply}
 use Rattle.pc_program.specs.declared.sharing.Shared.{Shared}

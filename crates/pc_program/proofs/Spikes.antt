@@ -3,10 +3,10 @@ use Rattle.std.proofs.Common.{◌≡◌, ◌≢◌, ℕ, zero, suc, ◌+◌, ◌
 use Rattle.std.specs.Prelude.{ℤ, pos, ◌+ℤ◌}
 use Rattle.std.proofs.lemmas.Int.{ints}
 use Rattle.std.proofs.lemmas.Bool.{cases_eq}
-use Rattle.pc_bound.specs.declared.program.Program.{Program}
-use Rattle.pc_bound.specs.Sums.{sum_below, nat_at}
-use Rattle.pc_bound.specs.Allocation.{cells_of, count_for, total}
-use Rattle.pc_bound.proofs.SumBelow.{sum_below-none, sum_below-one, sum_below-suc}
+use Rattle.pc_program_bound.specs.declared.program.Program.{Program}
+use Rattle.pc_program_bound.specs.Sums.{sum_below, nat_at}
+use Rattle.pc_program_bound.specs.Allocation.{cells_of, count_for, total}
+use Rattle.pc_program_bound.proofs.SumBelow.{sum_below-none, sum_below-one, sum_below-suc}
 use Rattle.pc_program.specs.Settled.{is_in}
 
 pub sum_below-two : (n : ℕ) (f : ℕ → ℤ) (a b : ℕ) → a < b → b < n → ((i : ℕ) → i < n → i ≢ a → i ≢ b → f i ≡ pos 0) → sum_below n f ≡ f a +ℤ f b

@@ -6,11 +6,11 @@ use Rattle.std.proofs.lemmas.Int.{ints, clamps}
 use Rattle.std.proofs.lemmas.Bool.{cases_eq}
 use Rattle.std.proofs.lemmas.List.{length-replicate, get_or-replicate}
 use Rattle.pc_model.specs.declared.tree.Mult.{Mult}
-use Rattle.pc_bound.specs.declared.program.Program.{Program}
-use Rattle.pc_bound.specs.Sums.{sum_below, nat_at, int_at}
-use Rattle.pc_bound.specs.Allocation.{cells_of, constraints_of, count_for, total, IsProgram}
-use Rattle.pc_bound.specs.Bound.{part_of, rest_of, constraint_share, cell_share, raw_bound, without_gain, IsVoid}
-use Rattle.pc_bound.proofs.SumBelow.{none_chosen, sum_below-same, sum_below-one}
+use Rattle.pc_program_bound.specs.declared.program.Program.{Program}
+use Rattle.pc_program_bound.specs.Sums.{sum_below, nat_at, int_at}
+use Rattle.pc_program_bound.specs.Allocation.{cells_of, constraints_of, count_for, total, IsProgram}
+use Rattle.pc_program_bound.specs.Bound.{part_of, rest_of, constraint_share, cell_share, raw_bound, without_gain, IsVoid}
+use Rattle.pc_program_bound.proofs.SumBelow.{none_chosen, sum_below-same, sum_below-one}
 use Rattle.pc_program.specs.Settled.{is_in, HasOneBits, IsShort}
 use Rattle.pc_program.proofs.Widths.{fits-small}
 

@@ -1,7 +1,7 @@
 -- The box of a program's own ends.
 use Rattle.std.proofs.Common.{arith}
-use Rattle.pc_bound.specs.declared.program.Program.{Program}
-use Rattle.pc_bound.specs.Allocation.{IsProgram, IsBox}
+use Rattle.pc_program_bound.specs.declared.program.Program.{Program}
+use Rattle.pc_program_bound.specs.Allocation.{IsProgram, IsBox}
 
 pub IsBox_whole : (p : Program) → IsProgram p → IsBox p p.floor p.cap
 IsBox_whole p program = record {

@@ -5,11 +5,11 @@ use Rattle.std.proofs.lemmas.Int.{ints, unsigned_abs-mul, fits_signed_from_abs, 
 use mir.Syntax.{w128}
 use Rattle.pc_model.specs.declared.tree.Mult.{Mult}
 use Rattle.pc_model.specs.Places.{has_bit}
-use Rattle.pc_bound.specs.declared.program.Program.{Program}
-use Rattle.pc_bound.specs.Sums.{sum_below, nat_at, int_at}
-use Rattle.pc_bound.specs.Allocation.{cells_of, constraints_of, IsProgram}
-use Rattle.pc_bound.specs.Bound.{part_of, rest_of, constraint_size, cell_size, given_up_to, constraint_sizes, cell_sizes, HasFitWidth}
-use Rattle.pc_bound.proofs.SumBelow.{sum_below-zero, sum_below-suc, sum_below-more}
+use Rattle.pc_program_bound.specs.declared.program.Program.{Program}
+use Rattle.pc_program_bound.specs.Sums.{sum_below, nat_at, int_at}
+use Rattle.pc_program_bound.specs.Allocation.{cells_of, constraints_of, IsProgram}
+use Rattle.pc_program_bound.specs.Bound.{part_of, rest_of, constraint_size, cell_size, given_up_to, constraint_sizes, cell_sizes, HasFitWidth}
+use Rattle.pc_program_bound.proofs.SumBelow.{sum_below-zero, sum_below-suc, sum_below-more}
 use borrow.Author.Differences.{abs_is}
 
 le_products : (a b c d : ℕ) → a ≤ b → c ≤ d → a * c ≤ b * d

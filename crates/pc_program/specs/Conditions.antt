@@ -1,8 +1,8 @@
 -- The conditions of a program whose constraints share no cell, one by one.
 use Rattle.std.specs.Prelude.{◌≡◌, ℕ, ◌<◌, ◌≤◌, true, false}
 use Rattle.pc_model.specs.Places.{has_bit}
-use Rattle.pc_bound.specs.declared.program.Program.{Program}
-use Rattle.pc_bound.specs.Allocation.{cells_of}
+use Rattle.pc_program_bound.specs.declared.program.Program.{Program}
+use Rattle.pc_program_bound.specs.Allocation.{cells_of}
 use Rattle.pc_program.specs.Settled.{is_in}
 
 -- the first bit of a mask from a place on

@@ -1,7 +1,7 @@
 -- The first two cells of each constraint, as far as a pass over the cells has come.
 use Rattle.std.specs.Prelude.{◌≡◌, ℕ, ◌+◌, ◌<◌, List, length, Option, Some, None, MatchOption, slice_index_or}
-use Rattle.pc_bound.specs.declared.program.Program.{Program}
-use Rattle.pc_bound.specs.Allocation.{constraints_of}
+use Rattle.pc_program_bound.specs.declared.program.Program.{Program}
+use Rattle.pc_program_bound.specs.Allocation.{constraints_of}
 use Rattle.pc_program.specs.Settled.{HasNoneIn, IsFirstIn}
 use Rattle.pc_program.specs.declared.members.Members.{Members}
 

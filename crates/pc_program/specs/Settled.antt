@@ -1,9 +1,9 @@
 -- Programs whose constraints share no cell, and what it is that a constraint is settled.
 use Rattle.std.specs.Prelude.{◌≡◌, ℕ, ◌<◌, ◌≤◌, ◌^◌, ℤ, pos, ◌*ℤ◌, ◌≤ℤ◌, ◌<ℤ◌, nat_abs, int_lt, Bool, true, false, cond, List, length}
 use Rattle.pc_model.specs.Places.{has_bit}
-use Rattle.pc_bound.specs.declared.program.Program.{Program}
-use Rattle.pc_bound.specs.Sums.{nat_at, int_at}
-use Rattle.pc_bound.specs.Allocation.{cells_of, constraints_of, total}
+use Rattle.pc_program_bound.specs.declared.program.Program.{Program}
+use Rattle.pc_program_bound.specs.Sums.{nat_at, int_at}
+use Rattle.pc_program_bound.specs.Allocation.{cells_of, constraints_of, total}
 use Rattle.pc_program.specs.Sharing.{IsReached}
 
 -- whether a cell is in a constraint

@@ -1,9 +1,9 @@
 -- When all constraints of a program are settled, and when the program is solved.
 use Rattle.std.specs.Prelude.{◌≡◌, ◌*◌, ◌<◌, ◌≤◌, ◌^◌, ⊤, nat_abs}
 use Rattle.std.specs.Prelude as prelude
-use Rattle.pc_bound.specs.declared.program.Program.{Program}
-use Rattle.pc_bound.specs.Allocation.{constraints_of, worth, IsAllocation}
-use Rattle.pc_bound.specs.Bound.{IsFit, bound_of, IsMultiplier, IsVoid}
+use Rattle.pc_program_bound.specs.declared.program.Program.{Program}
+use Rattle.pc_program_bound.specs.Allocation.{constraints_of, worth, IsAllocation}
+use Rattle.pc_program_bound.specs.Bound.{IsFit, bound_of, IsMultiplier, IsVoid}
 use Rattle.pc_program.specs.Settled.{IsShort, AreSettled}
 use Rattle.pc_program.specs.declared.solving.Settled.{Settled}
 use Rattle.pc_program.specs.declared.solving.Settled.TheVariants.{All, Short}

@@ -1,12 +1,12 @@
 ghost use Rattle.std.specs.Prelude.{◌≡◌, ◌↔◌, IsTrue, ℕ, ◌<◌, ◌≤◌, ◌^◌, ⊤, nat_abs, length, MatchOption};
-ghost use Rattle.pc_bound.specs.Sums.{nat_at, int_at};
-ghost use Rattle.pc_bound.specs.Allocation.{cells_of, constraints_of, IsProgram};
+ghost use Rattle.pc_program_bound.specs.Sums.{nat_at, int_at};
+ghost use Rattle.pc_program_bound.specs.Allocation.{cells_of, constraints_of, IsProgram};
 ghost use Rattle.pc_model.specs.Places.{has_bit};
 ghost use Rattle.pc_program.specs.Settled.{HasOneBits, IsFirstFrom, HasNoneFrom};
 ghost use Rattle.pc_program.specs.Conditions.{IsFirstBit, HasNoBitFrom, HasOneBit, HasAtMostTwo};
 
-use pc_bound::Program;
 use pc_model::has_bit;
+use pc_program_bound::Program;
 
 /// Whether there are at most 40 cells, each in one constraint, with a floor of 0 and a gain of fewer than 88 bits,
 /// and at most two to a constraint.

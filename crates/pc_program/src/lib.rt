@@ -10,4 +10,5 @@ mod solving;
 mod tests;
 
 pub use conditions::has_one_bits;
+pub use pc_program_bound::{Program, dual_bound, lawful};
 pub use solving::{Solved, greedy};

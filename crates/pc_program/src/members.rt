@@ -1,12 +1,12 @@
 ghost use Rattle.std.specs.Prelude.{◌≡◌, ◌+◌, ◌<◌, true, IfOk};
 ghost use Rattle.pc_model.specs.Places.{has_bit};
-ghost use Rattle.pc_bound.specs.Sums.{nat_at};
-ghost use Rattle.pc_bound.specs.Allocation.{cells_of, constraints_of, IsProgram};
+ghost use Rattle.pc_program_bound.specs.Sums.{nat_at};
+ghost use Rattle.pc_program_bound.specs.Allocation.{cells_of, constraints_of, IsProgram};
 ghost use Rattle.pc_program.specs.Settled.{is_in, HasOneBits};
 ghost use Rattle.pc_program.specs.Gathered.{AreGathered, with_cell};
 
-use pc_bound::Program;
 use pc_num::Memory;
+use pc_program_bound::Program;
 use std::alloc::Global;
 
 /// The first two cells of a constraint, where there are such.

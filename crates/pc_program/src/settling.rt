@@ -1,13 +1,13 @@
 ghost use Rattle.std.specs.Prelude.{◌≡◌, ◌+◌, ℕ, ◌<◌, ◌≤◌, List, length, MatchOption};
-ghost use Rattle.pc_bound.specs.Sums.{nat_at, int_at};
-ghost use Rattle.pc_bound.specs.Allocation.{cells_of, constraints_of, IsProgram};
+ghost use Rattle.pc_program_bound.specs.Sums.{nat_at, int_at};
+ghost use Rattle.pc_program_bound.specs.Allocation.{cells_of, constraints_of, IsProgram};
 ghost use Rattle.pc_program.specs.Gathered.{AreFirstTwo};
 ghost use Rattle.pc_program.specs.Sharing.{IsSharedOut};
 ghost use Rattle.pc_program.specs.Settled.{HasOneBits, IsDone, IsShort, IsSettled, IsFirstFrom, HasNoneFrom};
 
 use crate::members::Members;
 use crate::sharing::{Shared, Supply, share_out};
-use pc_bound::Program;
+use pc_program_bound::Program;
 
 /// Gives a constraint's cells the counts that the greatest worth wants, and the multiplier that proves it; `None`
 /// where even full they have too few.

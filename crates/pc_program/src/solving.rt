@@ -1,14 +1,14 @@
 ghost use Rattle.std.specs.Prelude.{◌≡◌, ◌*◌, ◌<◌, ◌≤◌, ◌^◌, length, IfOk, slice_set, replicate, pos, negsuc, ◌*ℤ◌, nat_abs};
-ghost use Rattle.pc_bound.specs.Allocation.{cells_of, worth, IsProgram, IsAllocation};
+ghost use Rattle.pc_program_bound.specs.Allocation.{cells_of, worth, IsProgram, IsAllocation};
 ghost use Rattle.pc_program.specs.Settled.{HasOneBits};
 ghost use Rattle.pc_program.specs.Solved.{IsSettling, IsSolved, IsSmall, AreFitMultipliers};
 
 use crate::members::gather;
 use crate::settling::settle;
-use pc_bound::Program;
 use pc_list::Seq;
 use pc_model::Mult;
 use pc_num::Memory;
+use pc_program_bound::Program;
 use std::alloc::Global;
 
 /// The allocation of greatest worth with multipliers that prove it, or multipliers that show that there is none.

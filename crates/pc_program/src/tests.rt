@@ -2,8 +2,8 @@ mod plain;
 
 use crate::sharing::{Supply, share_out};
 use crate::{Solved, greedy, has_one_bits};
-use pc_bound::{Program, is_program};
 use pc_list::Seq;
+use pc_program_bound::{Program, is_program};
 use std::alloc::{AllocError, Global};
 use std::test::Fail;
 

@@ -12,8 +12,8 @@ use Rattle.pc_model.specs.Membership.{has}
 use Rattle.pc_model.specs.Aggregate.{Ratio, whole, IsAtMost, asked, int_sum, value_of}
 use Rattle.pc_model.specs.Right.{IsPossibleFor}
 use Rattle.pc_model.specs.Cells.{Class}
-use Rattle.pc_bound.specs.SplitTrees.{IsWithin}
-use Rattle.pc_bound.proofs.Ring.{mul-add, mul_mono}
+use Rattle.pc_program_bound.specs.SplitTrees.{IsWithin}
+use Rattle.pc_program_bound.proofs.Ring.{mul-add, mul_mono}
 use Rattle.pc_proof.specs.Setting.{Setting, region_of, seen_count, seen_sum, seen_least, seen_greatest, seen_numbers, cells, low_in, high_in, on_chosen}
 use Rattle.pc_proof.specs.Table.{limit, bound_for, high_program, low_program, IsSound, Shows, above_ratio, below_ratio, seen_above, left_over, fewest, raised_by, lowered_by, greater_of, lesser_of, chosen_cells, greatest_number, least_number}
 use Rattle.pc_proof.specs.Unbroken.{IsWellPosed}

@@ -5,7 +5,7 @@ use Rattle.std.specs.Prelude.{unwrap_or, if◌then◌else◌}
 use Rattle.std.specs.List.{reduce}
 use Rattle.pc_model.specs.declared.constraint.Constraint.{Constraint}
 use Rattle.pc_model.specs.Places.{has_bit}
-use Rattle.pc_bound.specs.CellPrograms.{members}
+use Rattle.pc_program_bound.specs.CellPrograms.{members}
 use Rattle.pc_proof.specs.Masks.{cap_for}
 
 -- the least of a cap and further numbers

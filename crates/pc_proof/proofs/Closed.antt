@@ -9,15 +9,15 @@ use Rattle.pc_model.specs.declared.tree.Tree.{Tree}
 use Rattle.pc_model.specs.Right.{IsPossibleFor}
 use Rattle.pc_model.specs.Cells.{Class, is_class}
 use Rattle.pc_model.proofs.Tallies.{count_by-skips}
-use Rattle.pc_class.proofs.Classes.{is_class-same}
-use Rattle.pc_bound.specs.declared.program.Program.{Program}
-use Rattle.pc_bound.specs.Sums.{nat_at}
-use Rattle.pc_bound.specs.Allocation.{cells_of, IsAllocation}
-use Rattle.pc_bound.specs.SplitTrees.{tree_of, IsWithin}
-use Rattle.pc_bound.specs.CellPrograms.{cap_of, count_in, counts_of}
-use Rattle.pc_bound.proofs.CellPlaces.{no_class, cell_inside, cap_is}
-use Rattle.pc_bound.proofs.TreeBounds.{tree-bounds}
-use Rattle.pc_counting.proofs.PossibleRows.{rows_are_allocation, rows_are_worth}
+use Rattle.pc_cells_laws.proofs.Classes.{is_class-same}
+use Rattle.pc_program_bound.specs.declared.program.Program.{Program}
+use Rattle.pc_program_bound.specs.Sums.{nat_at}
+use Rattle.pc_program_bound.specs.Allocation.{cells_of, IsAllocation}
+use Rattle.pc_program_bound.specs.SplitTrees.{tree_of, IsWithin}
+use Rattle.pc_program_bound.specs.CellPrograms.{cap_of, count_in, counts_of}
+use Rattle.pc_program_bound.proofs.CellPlaces.{no_class, cell_inside, cap_is}
+use Rattle.pc_program_bound.proofs.TreeBounds.{tree-bounds}
+use Rattle.pc_proof.proofs.PossibleRows.{rows_are_allocation, rows_are_worth}
 use Rattle.pc_proof.specs.Setting.{Setting, region_of, seen_count, cells, on_chosen, open_cap, program_for, program_without}
 use Rattle.pc_proof.specs.Table.{bound_for, one, ShowsForced}
 use Rattle.pc_proof.specs.Unbroken.{IsWellPosed}

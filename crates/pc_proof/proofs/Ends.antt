@@ -15,11 +15,11 @@ use Rattle.pc_model.specs.WellFormed.{IsWellFormed}
 use Rattle.pc_model.specs.Possible.{IsPossible}
 use Rattle.pc_model.specs.CutTrees.{shape_of, side_at}
 use Rattle.pc_model.specs.Cells.{Class, class_of, IsRowOf, IsSettledTree, IsInSome, IsSpanned, boxes_of, leaves_in, least_low, greatest_high}
-use Rattle.pc_class.proofs.Cells.{boxes_of-all}
-use Rattle.pc_class.proofs.Spans.{spanned_leaf, above_least, below_greatest}
-use Rattle.pc_class.proofs.SettledTrees.{rows_of_tree}
-use Rattle.pc_class.proofs.TreesDomain.{domain_regions}
-use Rattle.pc_counting.proofs.PossibleRows.{lawful_from_possible}
+use Rattle.pc_cells_laws.proofs.Cells.{boxes_of-all}
+use Rattle.pc_cells_laws.proofs.Spans.{spanned_leaf, above_least, below_greatest}
+use Rattle.pc_cells_laws.proofs.SettledTrees.{rows_of_tree}
+use Rattle.pc_cells_laws.proofs.TreesDomain.{domain_regions}
+use Rattle.pc_proof.proofs.PossibleRows.{lawful_from_possible}
 use Rattle.pc_proof.specs.Setting.{Setting, region_of, low_in, high_in}
 
 -- ---- a column of a settled tree

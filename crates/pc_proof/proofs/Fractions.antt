@@ -3,7 +3,7 @@ use Rattle.std.proofs.Common.{◌≡◌, ℤ, pos, ◌+ℤ◌, ◌-ℤ◌, ◌*�
 use lib.IntN.{*ℤ_comm}
 use Rattle.std.proofs.lemmas.Int.{ints, by_lt_z}
 use Rattle.pc_model.specs.Aggregate.{Ratio, whole, IsAtMost}
-use Rattle.pc_bound.proofs.Ring.{mul-add, mul_assoc, mul_mono}
+use Rattle.pc_program_bound.proofs.Ring.{mul-add, mul_assoc, mul_mono}
 
 pub lesser_at_most : (a b : ℤ) (v : Ratio) → pos 0 <ℤ v.den → a ≤ℤ b → IsAtMost (whole b) v → IsAtMost (whole a) v
 lesser_at_most a b v above below within =

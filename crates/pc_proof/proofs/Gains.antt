@@ -8,10 +8,10 @@ use Rattle.pc_model.specs.Aggregate.{int_sum}
 use Rattle.pc_model.specs.Possible.{IsPossible}
 use Rattle.pc_model.specs.WellFormed.{IsWellFormed}
 use Rattle.pc_model.specs.Cells.{Class, class_of, IsSettledTree}
-use Rattle.pc_bound.specs.SplitTrees.{tree_of, IsWithin}
-use Rattle.pc_bound.specs.CellPrograms.{counts_of}
-use Rattle.pc_bound.proofs.TreeBounds.{tree-bounds}
-use Rattle.pc_counting.proofs.PossibleRows.{rows_are_allocation, rows_are_worth}
+use Rattle.pc_program_bound.specs.SplitTrees.{tree_of, IsWithin}
+use Rattle.pc_program_bound.specs.CellPrograms.{counts_of}
+use Rattle.pc_program_bound.proofs.TreeBounds.{tree-bounds}
+use Rattle.pc_proof.proofs.PossibleRows.{rows_are_allocation, rows_are_worth}
 use Rattle.pc_proof.specs.Setting.{Setting, region_of, cells, program_for}
 use Rattle.pc_proof.specs.Table.{limit, bound_for, IsSound, Shows, ShowsNone, Cross, one, minus_one}
 use Rattle.pc_proof.proofs.Seen.{int_sum-neg}

@@ -7,8 +7,8 @@ use Rattle.pc_model.specs.Membership.{has}
 use Rattle.pc_model.specs.Aggregate.{asked, int_sum}
 use Rattle.pc_model.specs.Right.{IsPossibleFor}
 use Rattle.pc_model.specs.Cells.{Class, class_of}
-use Rattle.pc_counting.proofs.Sums.{int_sum-same}
-use Rattle.pc_counting.proofs.PossibleRows.{rows_in_cells}
+use Rattle.pc_proof.proofs.RowSums.{int_sum-same}
+use Rattle.pc_proof.proofs.PossibleRows.{rows_in_cells}
 use Rattle.pc_proof.specs.Setting.{Setting, region_of, seen_count, cells, low_in, high_in, on_chosen, counting, program_for}
 use Rattle.pc_proof.specs.Table.{one, minus_one, Shows}
 use Rattle.pc_proof.specs.Unbroken.{IsWellPosed}

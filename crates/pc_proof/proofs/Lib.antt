@@ -1,3 +1,4 @@
+pub mod Allocations
 pub mod Averages
 pub mod BlockLines
 pub mod Caps
@@ -17,7 +18,11 @@ pub mod NameParts
 pub mod Numbers
 pub mod Observing
 pub mod Parts
+pub mod PossibleRows
+pub mod RowCaps
+pub mod RowCounts
 pub mod RowNumbers
+pub mod RowSums
 pub mod Seen
 pub mod SeenSums
 pub mod Shown

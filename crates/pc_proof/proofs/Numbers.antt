@@ -6,7 +6,7 @@ use Rattle.std.specs.Int.{int_min, int_max}
 use Rattle.std.proofs.lemmas.Int.{ints, by_lt_z, fold-int_min_bounds, fold-int_max_bounds}
 use Rattle.std.proofs.lemmas.List.Elements.{All-nil, All-cons, All-head, All-tail}
 use Rattle.pc_model.specs.Aggregate.{Ratio, whole, IsAtMost, int_sum}
-use Rattle.pc_bound.proofs.Ring.{mul-more}
+use Rattle.pc_program_bound.proofs.Ring.{mul-more}
 use Rattle.pc_proof.proofs.Fractions.{higher, lower}
 
 -- ---- what holds of each number holds of the one that is picked

@@ -9,8 +9,8 @@ use Rattle.pc_model.specs.declared.tree.Tree.{Tree}
 use Rattle.pc_model.specs.CutTrees.{CutShape, leaf, inner, first_part, second_part, leaves_of, HasProperCuts}
 use Rattle.pc_model.specs.CutTrees as cuts
 use Rattle.pc_model.specs.Cells.{IsSettled}
-use Rattle.pc_bound.specs.declared.program.Program.{Program}
-use Rattle.pc_bound.specs.SplitTrees.{SplitTree, bound, void, split, size_of, tree_of, less_caps, more_floors, Proves}
+use Rattle.pc_program_bound.specs.declared.program.Program.{Program}
+use Rattle.pc_program_bound.specs.SplitTrees.{SplitTree, bound, void, split, size_of, tree_of, less_caps, more_floors, Proves}
 use Rattle.pc_proof.specs.Setting.{Setting, region_of}
 use Rattle.pc_proof.specs.Demands.{Placed, Holds, proper, settled, splits, bounds, voids, cut_demands, split_demands, tree_demands}
 use Rattle.pc_proof.proofs.Parts.{All-front, All-back, one-holds, the-one, parts-hold, the-parts}

@@ -25,7 +25,7 @@ use Rattle.pc_model.specs.Accepted.{IsQuery, IsNumeric}
 use Rattle.pc_model.specs.CutTrees as cuts
 use Rattle.pc_model.specs.Places.{is_below}
 use Rattle.pc_model.specs.Right.{always_has_value, is_always, is_impossible, is_silent}
-use Rattle.pc_bound.specs.SplitTrees as splits
+use Rattle.pc_program_bound.specs.SplitTrees as splits
 use Rattle.pc_proof.specs.declared.answer.Proof.{Proof}
 use Rattle.pc_proof.specs.declared.answer.Proof.TheVariants as proofs
 use Rattle.pc_proof.specs.declared.answer.Bounded.{Bounded}

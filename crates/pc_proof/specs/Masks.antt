@@ -1,8 +1,8 @@
 -- The program of cells by their masks alone.
 use Rattle.std.specs.Prelude.{ℕ, false, ℤ, List, map}
 use Rattle.pc_model.specs.declared.constraint.Constraint.{Constraint}
-use Rattle.pc_bound.specs.declared.program.Program.{Program}
-use Rattle.pc_bound.specs.CellPrograms.{cap_of}
+use Rattle.pc_program_bound.specs.declared.program.Program.{Program}
+use Rattle.pc_program_bound.specs.CellPrograms.{cap_of}
 
 -- the most rows of a cell with this mask
 abbrev pub cap_for : List Constraint → ℕ → ℕ

@@ -2,6 +2,7 @@
 #![tactic(auto)]
 
 mod answer;
+mod counting;
 mod document;
 mod forms;
 mod laws;
@@ -12,6 +13,9 @@ mod verdicts;
 
 pub use answer::{
     AlwaysBy, Answer, Bounded, End, Lack, Mark, NeverBy, Proof, Relation, Why, always_has_value,
+};
+pub use counting::{
+    counts_are_worth_their_rows, possible_rows_are_an_allocation, possible_rows_are_in_cells,
 };
 pub use document::{Block, BlockTree, Document};
 pub use forms::{formed_answers_have_form, formed_documents_have_form};

@@ -2,13 +2,13 @@ ghost use Rattle.std.specs.Prelude.{◌≡◌, List, Some, map, min, unwrap_or, 
 ghost use Rattle.pc_model.specs.declared.constraint.Constraint.{Constraint};
 ghost use Rattle.pc_model.specs.Cells.{Class};
 ghost use Rattle.pc_model.specs.Places.{has_bit};
-ghost use Rattle.pc_bound.specs.CellPrograms.{program_with};
+ghost use Rattle.pc_program_bound.specs.CellPrograms.{program_with};
 ghost use Rattle.pc_proof.specs.Masks.{cap_for, program_by};
 
-use pc_bound::Program;
 use pc_list::Seq;
 use pc_model::Constraint;
 use pc_num::Memory;
+use pc_program_bound::Program;
 use std::alloc::Global;
 
 /// The program of the counts of rows in cells whose classes have these masks, with a gain for each cell.

@@ -84,7 +84,7 @@ fn exact_ends_have_trees()
 
 // Of 15000 in two rows, at 38401/3 with five rows of 14999 more, 3 * 15000 - 2 * 38401 + 5 * 6596 is left over: 1178,
 // of which each of two rows has a half. At 6601/3, with five rows of 0 more, 2 * 6601 - 3 * 15000 + 5 * 6601 is: 1207.
-#[tactic(auto, unfolding(pc_model::specs::Membership::has, pc_model::specs::Membership::holds, pc_model::specs::CutTrees::first_side, pc_model::specs::CutTrees::second_side, pc_bound::specs::Sums::sum_below))]
+#[tactic(auto, unfolding(pc_model::specs::Membership::has, pc_model::specs::Membership::holds, pc_model::specs::CutTrees::first_side, pc_model::specs::CutTrees::second_side, pc_program_bound::specs::Sums::sum_below))]
 fn average_at_a_ratio()
     ensures fewest { fewest (given.average given.two_rows shop_tree).question ≡ pos 2 }
     ensures greatest { greatest_number (given.average given.two_rows shop_tree) ≡ Some (pos 14999) }
@@ -96,7 +96,7 @@ fn average_at_a_ratio()
 {}
 
 // Without observed rows D is 1; without a chosen cell the numbers are those observed, and without either there are none.
-#[tactic(auto, unfolding(pc_model::specs::Membership::has, pc_model::specs::Membership::holds, pc_model::specs::CutTrees::first_side, pc_model::specs::CutTrees::second_side, pc_bound::specs::Sums::sum_below))]
+#[tactic(auto, unfolding(pc_model::specs::Membership::has, pc_model::specs::Membership::holds, pc_model::specs::CutTrees::first_side, pc_model::specs::CutTrees::second_side, pc_program_bound::specs::Sums::sum_below))]
 fn numbers_of_rows()
     ensures fewest { fewest (given.average [] shop_tree).question ≡ pos 1 }
     ensures lost { greatest_number (given.average [] shop_tree) ≡ Some (pos 14999) }

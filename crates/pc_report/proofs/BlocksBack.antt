@@ -13,9 +13,9 @@ use Rattle.pc_model.specs.declared.schema.Schema.{Schema}
 use Rattle.pc_model.specs.declared.query.Query.{Query}
 use Rattle.pc_model.specs.Accepted.{IsQuery}
 use Rattle.pc_model.specs.WellFormed.{IsColumn, IsKind, IsWellFormed}
-use Rattle.pc_token.specs.Spelling.{name_text}
-use Rattle.pc_token.proofs.ScaledTexts.{numbers_are_spelled}
-use Rattle.pc_token.proofs.TextBytes.{tokens_text_printed}
+use Rattle.pc_lang_tokens.specs.Spelling.{name_text}
+use Rattle.pc_lang_tokens.proofs.ScaledTexts.{numbers_are_spelled}
+use Rattle.pc_lang_tokens.proofs.TextBytes.{tokens_text_printed}
 use Rattle.pc_lang.specs.Canonical.{query_text}
 use Rattle.pc_lang.specs.Files.{query_from}
 use Rattle.pc_lang.proofs.CanonicalSpelled.{question_spelled}

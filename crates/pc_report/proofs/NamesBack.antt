@@ -3,13 +3,13 @@ use Rattle.std.proofs.Common.{◌≡◌, ◌≢◌, inl, inr, ℕ, ◌+◌, ◌<
 use Rattle.std.specs.List.{list_all}
 use Rattle.std.proofs.lemmas.Bool.{cases_order, false≢true, or_parts}
 use Rattle.std.proofs.lemmas.List.{append_cancel_left}
-use Rattle.pc_token.specs.Lexing.{goes_on_name, quoted_from}
-use Rattle.pc_token.specs.Spelling.{begins_as_word, doubled, is_bare, is_word_byte, name_text, starts_word}
-use Rattle.pc_token.proofs.Doubled.{quoted_again}
-use Rattle.pc_token.proofs.Fronts.{text_bare, text_quoted}
-use Rattle.pc_token.proofs.Quotes.{quote_last, quote_stops}
-use Rattle.pc_token.proofs.ReadingBack.{word_parts}
-use Rattle.pc_token.proofs.Words.{bare_is_word}
+use Rattle.pc_lang_tokens.specs.Lexing.{goes_on_name, quoted_from}
+use Rattle.pc_lang_tokens.specs.Spelling.{begins_as_word, doubled, is_bare, is_word_byte, name_text, starts_word}
+use Rattle.pc_lang_tokens.proofs.Doubled.{quoted_again}
+use Rattle.pc_lang_tokens.proofs.Fronts.{text_bare, text_quoted}
+use Rattle.pc_lang_tokens.proofs.Quotes.{quote_last, quote_stops}
+use Rattle.pc_lang_tokens.proofs.ReadingBack.{word_parts}
+use Rattle.pc_lang_tokens.proofs.Words.{bare_is_word}
 use Rattle.pc_report.proofs.Stops.{fronts_equal, same_head, same_tail, starts}
 
 -- ---- names

@@ -12,7 +12,7 @@ use Rattle.pc_model.specs.declared.schema.Schema.{Schema}
 use Rattle.pc_model.specs.declared.row.Run.{Run}
 use Rattle.pc_model.specs.Places.{is_below}
 use Rattle.pc_model.specs.WellFormed.{AreValues, IsColumn, IsKind, IsWellFormed}
-use Rattle.pc_token.specs.Lexing.{goes_on_name}
+use Rattle.pc_lang_tokens.specs.Lexing.{goes_on_name}
 use Rattle.pc_report.specs.RunLines.{field_text, fields_text, name_at, next_fields_text, run_line, run_lines}
 use Rattle.pc_report.specs.Shown.{AreShownRuns, IsCell, IsCellOf, IsShownRun}
 use Rattle.pc_report.proofs.NamesBack.{name_back, same_place}

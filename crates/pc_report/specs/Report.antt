@@ -12,7 +12,7 @@ use Rattle.pc_model.specs.declared.query.Agg.{Agg}
 use Rattle.pc_model.specs.declared.query.Agg.TheVariants as aggs
 use Rattle.pc_model.specs.declared.query.Query.{Query}
 use Rattle.pc_model.specs.Right.{is_always, is_impossible}
-use Rattle.pc_token.specs.Spelling.{name_text}
+use Rattle.pc_lang_tokens.specs.Spelling.{name_text}
 use Rattle.pc_lang.specs.Canonical.{query_text}
 use Rattle.pc_proof.specs.declared.answer.Relation.{Relation}
 use Rattle.pc_proof.specs.declared.answer.Relation.TheVariants as relations

@@ -6,7 +6,7 @@ use Rattle.pc_model.specs.declared.schema.Kind.TheVariants.{Int, Dec, Cat}
 use Rattle.pc_model.specs.declared.schema.Column.{Column}
 use Rattle.pc_model.specs.declared.schema.Schema.{Schema}
 use Rattle.pc_model.specs.declared.row.Run.{Run}
-use Rattle.pc_token.specs.Spelling.{name_text}
+use Rattle.pc_lang_tokens.specs.Spelling.{name_text}
 
 -- the decimals of a column are few enough to be written
 abbrev pub HasScale : Kind → Type 0

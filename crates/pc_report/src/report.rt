@@ -8,10 +8,10 @@ ghost use Rattle.pc_report.specs.Units.{HasAverages};
 use crate::answer::put_answer;
 use crate::runs::name_at;
 use pc_lang::put_query;
+use pc_lang_tokens::put_name;
 use pc_model::{Column, Kind, Query, Schema};
 use pc_num::Memory;
 use pc_proof::{Block, Document};
-use pc_token::put_name;
 use std::alloc::Global;
 
 /// Appends the report of a document, block by block: the query, the name that it is for, whether lost rows can meet

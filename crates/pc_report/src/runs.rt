@@ -1,10 +1,10 @@
 ghost use Rattle.std.specs.Prelude.{◌≡◌, ◌++◌, codes, IfOk, OnErr, OnOk};
 ghost use Rattle.pc_report.specs.RunLines.{HasScale, HaveScales, field_text, fields_text, name_at, next_fields_text, run_line, run_lines};
 
+use pc_lang_tokens::put_name;
 use pc_list::Text;
 use pc_model::{Column, Kind, Run, Schema};
 use pc_num::{Memory, put_scaled};
-use pc_token::put_name;
 use std::alloc::Global;
 
 /// Appends a line for each run: how often its row stands, and the row's fields in the order of the schema, with each

@@ -3,7 +3,7 @@ use Rattle.std.proofs.Common.{◌≡◌, ℕ, ◌+◌, ◌<◌, ◌≤◌, ℤ, 
 use Rattle.std.proofs.lemmas.List.{drop_all}
 use Rattle.pc_model.specs.declared.fault.Reason.{Reason}
 use Rattle.pc_model.specs.declared.schema.Column.{Column}
-use Rattle.pc_table.specs.Fields.{field}
+use Rattle.pc_records.specs.Fields.{field}
 use Rattle.pc_rows.specs.RowFile.{cell_of, cells_from}
 
 pub cells_step : (before : List ℤ) (columns : List Column) (places : List ℕ) (fields : List (List ℕ)) (at : ℕ) (cell : ℤ) (d : Column) → at < length columns → at < length places → cell_of (get_or columns at d).kind (field fields (get_or places at 0)) ≡ Ok cell → cells_from before (drop at columns) (drop at places) fields ≡ cells_from (before ++ cell ∷ []) (drop (at + 1) columns) (drop (at + 1) places) fields

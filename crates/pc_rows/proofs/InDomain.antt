@@ -24,7 +24,7 @@ use Rattle.pc_model.specs.Numbers.{number_of}
 use Rattle.pc_model.specs.Refusals.{◌>>=◌, Gives, fault_at, placed}
 use Rattle.pc_model.specs.Texts.{text_of}
 use Rattle.pc_rows.specs.Stored.{row_limit}
-use Rattle.pc_table.specs.Fields.{field}
+use Rattle.pc_records.specs.Fields.{field}
 use Rattle.pc_rows.specs.RowFile.{without_spaces, in_span, place_number, cell_of, cells_from, cells_of, cells_at, places_from, rows_from, rows_under, rows_of}
 
 -- one number per column, each allowed by its kind

@@ -4,7 +4,7 @@ use Rattle.std.specs.Str.{bytes_eq}
 use Rattle.std.proofs.lemmas.List.{drop_all}
 use Rattle.pc_model.specs.declared.fault.Reason.{Reason}
 use Rattle.pc_model.specs.declared.schema.Column.{Column}
-use Rattle.pc_table.specs.Fields.{field}
+use Rattle.pc_records.specs.Fields.{field}
 use Rattle.pc_rows.specs.RowFile.{place_from, place_in, places_from}
 
 pub place_here : (name : List ℕ) (fields : List (List ℕ)) (place : ℕ) → place < length fields → bytes_eq name (field fields place) ≡ true → place_from place name (drop place fields) ≡ Some place

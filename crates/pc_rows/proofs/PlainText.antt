@@ -7,7 +7,7 @@ use Rattle.pc_model.specs.declared.row.Row.{Row}
 use Rattle.pc_model.specs.declared.schema.Column.{Column}
 use Rattle.pc_model.specs.declared.schema.Schema.{Schema}
 use Rattle.pc_model.specs.Membership.{in_domain}
-use Rattle.pc_table.proofs.Lines.{plain_records}
+use Rattle.pc_records.proofs.Lines.{plain_records}
 use Rattle.pc_rows.specs.Plain.{IsPlainText, header_fields, plain_text, row_fields, table_fields}
 use Rattle.pc_rows.specs.RowFile.{rows_of}
 use Rattle.pc_rows.proofs.PlainFields.{allowed_row, fields_length, reads_plain_fields}

@@ -11,7 +11,7 @@ use Rattle.pc_model.specs.declared.schema.Schema.{Schema}
 use Rattle.pc_model.specs.Membership.{in_domain}
 use Rattle.pc_model.specs.Texts.{text_of}
 use Rattle.pc_model.specs.WellFormed.{IsWellFormed}
-use Rattle.pc_table.specs.Lines.{lines_text}
+use Rattle.pc_records.specs.Lines.{lines_text}
 use Rattle.pc_rows.specs.Stored.{row_limit}
 
 -- a number of a column of this kind: of a column of names, the name at that place

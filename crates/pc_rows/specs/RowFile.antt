@@ -17,7 +17,7 @@ use Rattle.pc_model.specs.Numbers.{number_of}
 use Rattle.pc_model.specs.Refusals.{◌>>=◌, fault_at, placed}
 use Rattle.pc_model.specs.Texts.{text_of}
 use Rattle.pc_model.specs.Membership.{row_from as row}
-use Rattle.pc_table.specs.Fields.{field}
+use Rattle.pc_records.specs.Fields.{field}
 use Rattle.pc_rows.specs.Stored.{row_limit}
 
 -- a text without the spaces before it

@@ -5,8 +5,8 @@ ghost use Rattle.pc_rows.specs.RowFile.{place_from, place_in, places_from};
 
 use csv::ByteRecord;
 use pc_list::Seq;
-use pc_model::{Column, Reason, Stop};
-use pc_table::field;
+use pc_model::{Column, ReadStop, Reason};
+use pc_records::field;
 use std::alloc::Global;
 
 /// The places of the columns in the header.
@@ -15,7 +15,7 @@ pub(crate) fn find_places(
     alloc: Global,
     columns: &[Column],
     header: &ByteRecord,
-) -> Result<Seq<usize>, Stop>
+) -> Result<Seq<usize>, ReadStop>
     ensures answers { Answers result (places_from [] columns.now (fields_of header.now)) }
     ensures count { IfOk result (λ places. length places ≡ length columns.now) }
 {

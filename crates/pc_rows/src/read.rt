@@ -13,8 +13,8 @@ use crate::header::find_places;
 use crate::rows::Rows;
 use csv::ByteRecord;
 use pc_list::Seq;
-use pc_model::{Column, FileKind, Reason, Refusal, Schema, Stop, text_of};
-use pc_table::{Table, field};
+use pc_model::{Column, FileKind, ReadStop, Reason, Refusal, Schema, text_of};
+use pc_records::{Table, field};
 use std::alloc::Global;
 
 const MOST_ROWS: u64 = 1_000_000;
@@ -29,7 +29,7 @@ pub fn read_rows(alloc: Global, schema: &Schema, bytes: &[u8]) -> Result<Rows, R
 {
     match text_of(bytes) {
         Ok(text) => read_table(alloc, schema.columns.as_slice(), text),
-        Err(reason) => Err(Stop::Reason(reason).at(FileKind::Rows, 0)),
+        Err(reason) => Err(ReadStop::Reason(reason).at(FileKind::Rows, 0)),
     }
 }
 
@@ -43,7 +43,7 @@ fn read_table(alloc: Global, columns: &[Column], text: &[u8]) -> Result<Rows, Re
     let mut table = Table::new(alloc, text);
     let mut record = ByteRecord::new(alloc);
     if !table.next(&mut record)? {
-        return Err(Stop::Reason(Reason::NoHeader).at(FileKind::Rows, 1));
+        return Err(ReadStop::Reason(Reason::NoHeader).at(FileKind::Rows, 1));
     }
     let width = record.len();
     match find_places(alloc, columns, &record) {
@@ -104,7 +104,7 @@ fn read_row(
     ensures wide { IfOk result (λ cells. length cells ≡ length columns.now) }
 {
     if MOST_ROWS <= count {
-        return Err(Stop::Reason(Reason::TooMany).at(FileKind::Rows, count + 2));
+        return Err(ReadStop::Reason(Reason::TooMany).at(FileKind::Rows, count + 2));
     }
     match read_cells(columns, places, width, fields, cells) {
         Ok(cells) => Ok(cells),
@@ -119,13 +119,13 @@ fn read_cells(
     width: usize,
     fields: &ByteRecord,
     cells: Seq<i64>,
-) -> Result<Seq<i64>, Stop>
+) -> Result<Seq<i64>, ReadStop>
     requires count { length places.now ≡ length columns.now }
     ensures answers { Answers result (cells_of columns.now places.now width (fields_of fields.now)) }
     ensures wide { IfOk result (λ cells. length cells ≡ length columns.now) }
 {
     if fields.len() != width {
-        return Err(Stop::Reason(Reason::FieldCount));
+        return Err(ReadStop::Reason(Reason::FieldCount));
     }
     fill_cells(columns, places, fields, cleared(cells))
 }
@@ -145,7 +145,7 @@ fn fill_cells(
     places: &[usize],
     fields: &ByteRecord,
     mut cells: Seq<i64>,
-) -> Result<Seq<i64>, Stop>
+) -> Result<Seq<i64>, ReadStop>
     requires count { length places.now ≡ length columns.now }
     requires empty { cells ≡ [] }
     ensures answers { Answers result (cells_from [] columns.now places.now (fields_of fields.now)) }

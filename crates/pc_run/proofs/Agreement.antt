@@ -9,13 +9,13 @@ use Rattle.pc_rows.specs.declared.case.Case.{Case}
 use Rattle.pc_proof.specs.declared.document.Document.{Document}
 use Rattle.pc_proof.specs.Documents.{Premises, AreUnbroken, IsFirstBrokenIn}
 use Rattle.pc_proof.proofs.DocumentLines.{document-whole}
-use Rattle.pc_lines.proofs.AllLines.{all_lines}
+use Rattle.pc_document_lines.proofs.AllLines.{all_lines}
 use Rattle.pc_document.specs.DocumentLines.{document_text}
 use Rattle.pc_document.specs.Told.{IsDocumentText}
 use Rattle.pc_document.proofs.DocumentFormat.{only_document}
 use Rattle.pc_check.specs.declared.verdict.Verdict.{Verdict}
 use Rattle.pc_check.specs.declared.verdict.Verdict.TheVariants as verdicts
-use Rattle.pc_words.specs.Words.{Asked, CheckNames, check, command_of}
+use Rattle.pc_run_words.specs.Words.{Asked, CheckNames, check, command_of}
 use Rattle.pc_run.specs.declared.claim.Claim.{Claim}
 use Rattle.pc_run.specs.Answers.{premises_in}
 use Rattle.pc_run.specs.Outcome.{Obstacle, Input, claims, as_input, refused, absent, claim_under, ComesTo, AreAccepted}

@@ -10,7 +10,7 @@ use Rattle.pc_base.specs.declared.status.Status.TheVariants as ended
 use Rattle.pc_base.specs.Files.{Files, IsAbsent, file_of}
 use Rattle.pc_model.specs.declared.fault.Fault.{Fault}
 use Rattle.pc_rows.specs.declared.case.Case.{Case}
-use Rattle.pc_words.specs.Words.{BoundNames, CheckNames, ShowNames, Asked, bound, prove, check, show, gen, command_of}
+use Rattle.pc_run_words.specs.Words.{BoundNames, CheckNames, ShowNames, Asked, bound, prove, check, show, gen, command_of}
 use Rattle.pc_run.specs.Outcome.{Obstacle, refused, absent, and_then, Input, asks, proves, claims, shows, makes, as_input, bytes_under, schema_under, rows_under, constraints_under, case_under, claim_under, listing_under, accepted_under, ComesTo, AreAccepted}
 use Rattle.pc_run.specs.Loading.{name_of}
 use Rattle.pc_run.specs.declared.claim.Claim.{Claim}

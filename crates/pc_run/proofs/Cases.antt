@@ -12,7 +12,7 @@ use Rattle.pc_model.specs.declared.query.Query.{Query}
 use Rattle.pc_rows.specs.declared.case.Case.{Case}
 use Rattle.pc_run.specs.declared.stop.Stop.{Stop}
 use Rattle.pc_run.specs.declared.stop.Stop.TheVariants as stops
-use Rattle.pc_words.specs.Words.{BoundNames, Asked, bound, prove}
+use Rattle.pc_run_words.specs.Words.{BoundNames, Asked, bound, prove}
 use Rattle.pc_run.specs.Outcome.{Obstacle, refused, asks, proves, as_input, queries_of, ComesTo, schema_under, rows_under, constraints_under, case_under}
 use Rattle.pc_model.specs.declared.fault.Refusal.{Refusal}
 use Rattle.pc_model.specs.declared.fault.Refusal.TheVariants as refusals

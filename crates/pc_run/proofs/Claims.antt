@@ -6,7 +6,7 @@ use Rattle.pc_model.specs.declared.constraint.Constraint.{Constraint}
 use Rattle.pc_model.specs.declared.fault.Fault.{Fault}
 use Rattle.pc_model.specs.declared.fault.FileKind.TheVariants as kinds
 use Rattle.pc_base.specs.Files.{Files}
-use Rattle.pc_words.specs.Words.{CheckNames, check}
+use Rattle.pc_run_words.specs.Words.{CheckNames, check}
 use Rattle.pc_run.specs.declared.claim.Claim.{Claim}
 use Rattle.pc_run.specs.Outcome.{refused, claims, bytes_under, schema_under, rows_under, constraints_under, claim_under, ComesTo}
 use Rattle.pc_run.specs.Replies.{IsReached}

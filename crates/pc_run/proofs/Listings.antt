@@ -4,7 +4,7 @@ use Rattle.pc_model.specs.declared.schema.Schema.{Schema}
 use Rattle.pc_model.specs.declared.fault.Fault.{Fault}
 use Rattle.pc_base.specs.Files.{Files}
 use Rattle.pc_run.specs.declared.listing.Listing.{Listing}
-use Rattle.pc_words.specs.Words.{ShowNames, show}
+use Rattle.pc_run_words.specs.Words.{ShowNames, show}
 use Rattle.pc_run.specs.Outcome.{refused, shows, schema_under, constraints_under, listing_under, ComesTo}
 
 pub schema_refused : (told : Option Files) (names : ShowNames) (fault : Fault) → IfSome told (λ files. schema_under names.schema files ≡ Err (refused fault)) → ComesTo told (show names) (Err (refused fault))

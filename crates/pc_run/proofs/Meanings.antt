@@ -4,7 +4,7 @@ use Rattle.pc_base.specs.declared.status.Status.{Status}
 use Rattle.pc_base.specs.declared.status.Status.TheVariants as ended
 use Rattle.pc_base.specs.declared.outside.Put.TheVariants.{All, Failed}
 use Rattle.pc_base.specs.Puts.{Leaves}
-use Rattle.pc_words.specs.Words.{Asked, command_of}
+use Rattle.pc_run_words.specs.Words.{Asked, command_of}
 use Rattle.pc_check.specs.declared.verdict.Verdict.{Verdict}
 use Rattle.pc_check.specs.declared.verdict.Verdict.TheVariants as verdicts
 use Rattle.pc_run.specs.Outcome.{Obstacle, Input, asks, proves, claims, shows, makes, refused, absent, ComesTo}

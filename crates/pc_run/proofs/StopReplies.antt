@@ -4,7 +4,7 @@ use Rattle.pc_base.specs.declared.status.Status.{Status}
 use Rattle.pc_base.specs.Files.{Files}
 use Rattle.pc_run.specs.declared.stop.Stop.{Stop}
 use Rattle.pc_run.specs.declared.stop.Stop.TheVariants as stops
-use Rattle.pc_words.specs.Words.{Asked}
+use Rattle.pc_run_words.specs.Words.{Asked}
 use Rattle.pc_run.specs.Outcome.{refused}
 use Rattle.pc_run.specs.Replies.{StopAgrees, RepliesTo, RepliesToStop, SaysFault, SaysOutcome}
 

@@ -4,7 +4,7 @@ use Rattle.pc_model.specs.declared.fault.FileKind.{FileKind}
 use Rattle.pc_model.specs.declared.fault.FileKind.TheVariants as kinds
 use Rattle.pc_base.specs.Counts.{Rose}
 use Rattle.pc_base.specs.Files.{Files, IsAbsent}
-use Rattle.pc_words.specs.Words.{Asked, bound, prove, check, show, gen}
+use Rattle.pc_run_words.specs.Words.{Asked, bound, prove, check, show, gen}
 use Rattle.pc_run.specs.declared.stop.Stop.{Stop}
 use Rattle.pc_run.specs.declared.stop.Stop.TheVariants as stops
 use Rattle.pc_run.specs.Outcome.{Obstacle, refused}

@@ -6,7 +6,7 @@ use Rattle.pc_base.specs.declared.status.Status.{Status}
 use Rattle.pc_base.specs.declared.status.Status.TheVariants as ended
 use Rattle.pc_base.specs.Counts.{Rose}
 use Rattle.pc_base.specs.Files.{Files}
-use Rattle.pc_words.specs.Words.{Asked, CheckNames, bound, prove, check, show, gen, command_of}
+use Rattle.pc_run_words.specs.Words.{Asked, CheckNames, bound, prove, check, show, gen, command_of}
 use Rattle.pc_rows.specs.declared.case.Case.{Case}
 use Rattle.pc_run.specs.declared.claim.Claim.{Claim}
 use Rattle.pc_run.specs.Outcome.{Input, refused, claim_under, ComesTo, AreAccepted}

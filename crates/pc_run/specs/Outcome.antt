@@ -17,7 +17,7 @@ use Rattle.pc_rows.specs.RowFile.{rows_of}
 use Rattle.pc_lang.specs.Files.{constraints_of, query_at}
 use Rattle.pc_run.specs.declared.claim.Claim.{Claim}
 use Rattle.pc_run.specs.declared.listing.Listing.{Listing}
-use Rattle.pc_words.specs.Words.{BoundNames, CheckNames, ShowNames, GenNumbers, Asked, bound, prove, check, show, gen}
+use Rattle.pc_run_words.specs.Words.{BoundNames, CheckNames, ShowNames, GenNumbers, Asked, bound, prove, check, show, gen}
 
 -- a file or query that is refused, or a file that is not held
 pub data Obstacle : Type 0 where

@@ -23,7 +23,7 @@ use Rattle.pc_gen.specs.Generated.{generated_case}
 use Rattle.pc_rows.specs.declared.case.Case.{Case}
 use Rattle.pc_run.specs.declared.stop.Stop.{Stop}
 use Rattle.pc_run.specs.declared.stop.Stop.TheVariants as stops
-use Rattle.pc_words.specs.Words.{Asked, bound, prove, check, show, gen, command_of, usual_nodes}
+use Rattle.pc_run_words.specs.Words.{Asked, bound, prove, check, show, gen, command_of, usual_nodes}
 use Rattle.pc_run.specs.Outcome.{Obstacle, refused, absent, Input, asks, proves, claims, shows, makes, schema_under, rows_under, constraints_under, ComesTo}
 use Rattle.pc_run.specs.Loading.{name_of}
 use Rattle.pc_run.specs.Reports.{usage_line, fault_line, malformed_line, listing_of, yes_line, no_line}

@@ -2,8 +2,8 @@ ghost use Rattle.std.specs.Prelude.{◌≡◌, ◌≤◌, ◌+◌, map, All, IfO
 ghost use Rattle.pc_model.specs.Accepted.{IsQuery};
 ghost use Rattle.pc_model.specs.Refusals.{Gives};
 ghost use Rattle.pc_model.specs.WellFormed.{IsWellFormed, HaveFewNames};
-ghost use Rattle.pc_words.specs.Commands.{bound_names};
-ghost use Rattle.pc_words.specs.Words.{bound, prove};
+ghost use Rattle.pc_run_words.specs.Commands.{bound_names};
+ghost use Rattle.pc_run_words.specs.Words.{bound, prove};
 ghost use Rattle.pc_run.specs.Outcome.{asks, proves, queries_of};
 ghost use Rattle.pc_run.specs.Replies.{InputAgrees, IsSound};
 
@@ -14,7 +14,7 @@ use pc_lang::read_query;
 use pc_list::Seq;
 use pc_model::{Query, Refusal, Schema};
 use pc_rows::Case;
-use pc_words::Bound;
+use pc_run_words::Bound;
 use std::alloc::Global;
 
 /// Reads the files of `bound` or `prove` in their order, and then its queries.

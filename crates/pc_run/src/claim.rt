@@ -1,6 +1,6 @@
 ghost use Rattle.std.specs.Prelude.{◌≡◌, ◌≤◌, ◌+◌, IfOk};
-ghost use Rattle.pc_words.specs.Commands.{check_names};
-ghost use Rattle.pc_words.specs.Words.{check};
+ghost use Rattle.pc_run_words.specs.Commands.{check_names};
+ghost use Rattle.pc_run_words.specs.Words.{check};
 ghost use Rattle.pc_run.specs.Outcome.{claims};
 ghost use Rattle.pc_run.specs.Replies.{InputAgrees, IsCheckable};
 
@@ -10,7 +10,7 @@ use pc_base::Shelf;
 use pc_list::Seq;
 use pc_model::{Constraint, Schema};
 use pc_rows::Rows;
-use pc_words::Check;
+use pc_run_words::Check;
 use std::alloc::Global;
 
 /// What is checked: the bytes of a document, and the schema, the observed rows and the constraints that it is for.

@@ -1,15 +1,15 @@
 ghost use Rattle.std.specs.Prelude.{◌≡◌, ◌≤◌, ◌+◌, IfOk};
-ghost use Rattle.pc_words.specs.Commands.{show_names};
+ghost use Rattle.pc_run_words.specs.Commands.{show_names};
 ghost use Rattle.pc_run.specs.Outcome.{shows};
 ghost use Rattle.pc_run.specs.Replies.{InputAgrees, IsShowable};
-ghost use Rattle.pc_words.specs.Words.{show};
+ghost use Rattle.pc_run_words.specs.Words.{show};
 
 use crate::loading::{load_constraints, load_schema};
 use crate::stop::Stop;
 use pc_base::Shelf;
 use pc_list::Seq;
 use pc_model::{Constraint, Schema};
-use pc_words::Show;
+use pc_run_words::Show;
 use std::alloc::Global;
 
 /// What is shown: constraints, and the schema that they are of.

@@ -6,7 +6,7 @@ ghost use Rattle.pc_proof.specs.declared.document.Block.{Block};
 ghost use Rattle.pc_report.specs.Summary.{summary_text};
 ghost use Rattle.pc_report.specs.Units.{HasAverages};
 ghost use Rattle.pc_run.specs.Replies.{SaysSummary};
-ghost use Rattle.pc_words.specs.Words.{IsSize};
+ghost use Rattle.pc_run_words.specs.Words.{IsSize};
 
 use pc_gen::generate;
 use pc_group::answer_all;
@@ -14,7 +14,7 @@ use pc_num::Memory;
 use pc_proof::Document;
 use pc_report::put_summary;
 use pc_rows::Case;
-use pc_words::{Gen, USUAL_NODES};
+use pc_run_words::{Gen, USUAL_NODES};
 use std::alloc::Global;
 
 /// The summary of the answers to the case that a seed and a size make.

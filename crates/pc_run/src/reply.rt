@@ -1,8 +1,8 @@
 ghost use Rattle.std.specs.Prelude.{◌≡◌, ◌≤◌, ◌+◌, ℕ, map, Option, IfOk, string_bytes};
 ghost use Rattle.pc_base.specs.Files.{Files};
-ghost use Rattle.pc_words.specs.Commands.{bound_names, check_names, gen_numbers, show_names};
+ghost use Rattle.pc_run_words.specs.Commands.{bound_names, check_names, gen_numbers, show_names};
 ghost use Rattle.pc_run.specs.Replies.{IsSound, RepliesTo, RepliesToStop, Responds, SaysProof, SaysReport};
-ghost use Rattle.pc_words.specs.Words.{bound, check, gen, prove, show, command_of, file_count, IsBudget, IsSize};
+ghost use Rattle.pc_run_words.specs.Words.{bound, check, gen, prove, show, command_of, file_count, IsBudget, IsSize};
 
 use crate::case::read_case;
 use crate::claim::read_claim;
@@ -18,7 +18,7 @@ use pc_group::answer_all;
 use pc_num::Memory;
 use pc_report::put_report;
 use pc_rows::Case;
-use pc_words::{Bound, Check, Command, Gen, Show, read_command};
+use pc_run_words::{Bound, Check, Command, Gen, Show, read_command};
 use std::alloc::Global;
 
 /// The status with which a run ends, and the text that it writes.

@@ -9,15 +9,15 @@ use Rattle.std.proofs.lemmas.List.Folds.{list_any_at}
 use Rattle.std.proofs.lemmas.List.Quantifiers.{all_pairs_push}
 use Rattle.std.proofs.lemmas.Slice.Eq.{bytes_eq-Decides}
 use Rattle.pc_model.specs.declared.fault.Reason.{Reason}
-use Rattle.pc_model.specs.declared.fault.Stop.{Stop}
-use Rattle.pc_model.specs.declared.fault.Stop.TheVariants as stops
+use Rattle.pc_model.specs.declared.fault.ReadStop.{ReadStop}
+use Rattle.pc_model.specs.declared.fault.ReadStop.TheVariants as stops
 use Rattle.pc_model.specs.Refusals.{StopsAs}
 use Rattle.pc_model.specs.declared.schema.Kind.{Kind}
 use Rattle.pc_model.specs.declared.schema.Kind.TheVariants.{Int, Dec, Cat}
 use Rattle.pc_model.specs.declared.schema.Column.{Column}
 use Rattle.pc_model.specs.Texts.{IsName}
 use Rattle.pc_model.specs.WellFormed.{AreColumns, AreNames, HasFewNames, HaveFewNames, IsColumn, IsKind}
-use Rattle.pc_table.specs.Fields.{field}
+use Rattle.pc_records.specs.Fields.{field}
 use Rattle.pc_schema.specs.SchemaFile.{name_of, names_from, is_taken, LackName}
 
 -- what the field at a place is among the names before
@@ -36,7 +36,7 @@ names_err : (before fields : List (List ℕ)) (place : ℕ) (reason : Reason) �
 unfolding names_from
 names_err before fields place reason inside e = rw (drop-cons fields place [], e) refl
 
-pub names_stop : (stop : Stop) (before fields : List (List ℕ)) (place : ℕ) → place < length fields → StopsAs stop (name_at before fields place) → StopsAs stop (names_from before (drop place fields))
+pub names_stop : (stop : ReadStop) (before fields : List (List ℕ)) (place : ℕ) → place < length fields → StopsAs stop (name_at before fields place) → StopsAs stop (names_from before (drop place fields))
 names_stop (stops.Reason reason) before fields place inside e = names_err before fields place reason inside e
 names_stop stops.Memory before fields place inside e = tt
 

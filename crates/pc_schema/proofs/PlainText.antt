@@ -4,8 +4,8 @@ use Rattle.std.proofs.lemmas.List.Elements.{All-cons}
 use Rattle.csv.specs.Writing.{default_writer, row_text}
 use Rattle.pc_model.specs.declared.schema.Column.{Column}
 use Rattle.pc_model.specs.declared.schema.Schema.{Schema}
-use Rattle.pc_table.specs.Lines.{lines_text}
-use Rattle.pc_table.proofs.Lines.{plain_records}
+use Rattle.pc_records.specs.Lines.{lines_text}
+use Rattle.pc_records.proofs.Lines.{plain_records}
 use Rattle.pc_schema.specs.Plain.{IsPlainText, column_fields, plain_text}
 use Rattle.pc_schema.specs.SchemaFile.{schema_of}
 use Rattle.pc_schema.proofs.PlainFields.{reads_plain_fields}

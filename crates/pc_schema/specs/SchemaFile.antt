@@ -15,7 +15,7 @@ use Rattle.pc_model.specs.declared.schema.Schema.{Schema}
 use Rattle.pc_model.specs.Numbers.{number_of}
 use Rattle.pc_model.specs.Refusals.{◌>>=◌, fault_at, placed}
 use Rattle.pc_model.specs.Texts.{is_name, text_of}
-use Rattle.pc_table.specs.Fields.{field}
+use Rattle.pc_records.specs.Fields.{field}
 
 -- a name, unless it is taken already
 unfoldable pub name_of : Bool → List ℕ → Result (List ℕ) Reason

@@ -6,8 +6,8 @@ ghost use Rattle.pc_schema.specs.SchemaFile.{column_at, column_of, is_taken, Lac
 
 use crate::kind::{read_kind, read_name};
 use csv::ByteRecord;
-use pc_model::{Column, FileKind, Reason, Refusal, Stop};
-use pc_table::field;
+use pc_model::{Column, FileKind, ReadStop, Reason, Refusal};
+use pc_records::field;
 use std::alloc::Global;
 
 const MOST_COLUMNS: usize = 12;
@@ -32,14 +32,14 @@ pub(crate) fn next_column(
 }
 
 #[tactic(auto, using(crate::proofs::Names::lacks_name), unfolding(crate::specs::SchemaFile::column_of))]
-fn read_column(alloc: Global, before: &[Column], row: &ByteRecord) -> Result<Column, Stop>
+fn read_column(alloc: Global, before: &[Column], row: &ByteRecord) -> Result<Column, ReadStop>
     ensures answers { Answers result (column_of before.now (fields_of row.now)) }
     ensures is_column { IfOk result IsColumn }
     ensures room { OnOk result (length before.now < 12) }
     ensures fresh { IfOk result (λ column. LackName column.name before.now) }
 {
     if MOST_COLUMNS <= before.len() {
-        return Err(Stop::Reason(Reason::TooMany));
+        return Err(ReadStop::Reason(Reason::TooMany));
     }
     let text = field(row, 0);
     let name = read_name(alloc, text, is_taken(before, text))?;

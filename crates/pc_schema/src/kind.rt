@@ -10,8 +10,8 @@ ghost use Rattle.pc_schema.specs.SchemaFile.{name_of, span_of, scale_of, int_of,
 
 use csv::ByteRecord;
 use pc_list::{Seq, Text};
-use pc_model::{Kind, Reason, Stop, is_name, read_number};
-use pc_table::field;
+use pc_model::{Kind, ReadStop, Reason, is_name, read_number};
+use pc_records::field;
 use std::alloc::Global;
 use std::str;
 
@@ -24,7 +24,7 @@ const MOST_FIELDS: usize = 130;
 
 /// The kind of the column that a record tells of.
 #[tactic(auto, unfolding(crate::specs::SchemaFile::kind_of))]
-pub(crate) fn read_kind(alloc: Global, row: &ByteRecord) -> Result<Kind, Stop>
+pub(crate) fn read_kind(alloc: Global, row: &ByteRecord) -> Result<Kind, ReadStop>
     ensures answers { Answers result (kind_of (fields_of row.now)) }
     ensures is_kind { IfOk result IsKind }
 {
@@ -38,7 +38,7 @@ pub(crate) fn read_kind(alloc: Global, row: &ByteRecord) -> Result<Kind, Stop>
     if word == b"cat".as_slice() {
         return read_cat(alloc, row);
     }
-    Err(Stop::Reason(Reason::BadKind))
+    Err(ReadStop::Reason(Reason::BadKind))
 }
 
 #[tactic(auto, unfolding(crate::specs::SchemaFile::int_of))]
@@ -101,15 +101,15 @@ fn has_digits_only(text: &[u8]) -> bool
 }
 
 #[tactic(auto, unfolding(crate::specs::SchemaFile::cat_of))]
-fn read_cat(alloc: Global, row: &ByteRecord) -> Result<Kind, Stop>
+fn read_cat(alloc: Global, row: &ByteRecord) -> Result<Kind, ReadStop>
     ensures answers { Answers result (cat_of (fields_of row.now)) }
     ensures is_kind { IfOk result IsKind }
 {
     if row.len() < FEWEST_FIELDS {
-        return Err(Stop::Reason(Reason::FieldCount));
+        return Err(ReadStop::Reason(Reason::FieldCount));
     }
     if MOST_FIELDS < row.len() {
-        return Err(Stop::Reason(Reason::TooMany));
+        return Err(ReadStop::Reason(Reason::TooMany));
     }
     let names = read_names(alloc, row)?;
     Ok(Kind::Cat { names })
@@ -117,7 +117,7 @@ fn read_cat(alloc: Global, row: &ByteRecord) -> Result<Kind, Stop>
 
 // The names of a record's column, which begin at its third field.
 #[tactic(auto, using(crate::proofs::Names::steps))]
-fn read_names(alloc: Global, row: &ByteRecord) -> Result<Seq<Text>, Stop>
+fn read_names(alloc: Global, row: &ByteRecord) -> Result<Seq<Text>, ReadStop>
     requires { 2 ≤ length (fields_of row.now) }
     ensures answers { Answers result (names_from [] (drop 2 (fields_of row.now))) }
     ensures own { IfOk result AreNames }
@@ -140,17 +140,17 @@ fn is_among(names: &[Text], text: &[u8]) -> bool
 
 /// The name that a text is, unless it is taken already.
 #[tactic(auto, unfolding(crate::specs::SchemaFile::name_of))]
-pub(crate) fn read_name(alloc: Global, text: &[u8], is_taken: bool) -> Result<Text, Stop>
+pub(crate) fn read_name(alloc: Global, text: &[u8], is_taken: bool) -> Result<Text, ReadStop>
     ensures answers { Answers result (name_of is_taken text.now) }
     ensures name { IfOk result IsName }
     ensures free { OnOk result (is_taken ≡ false) }
     ensures same { IfOk result (λ name. name ≡ text.now) }
 {
     if !is_name(text) {
-        return Err(Stop::Reason(Reason::BadName));
+        return Err(ReadStop::Reason(Reason::BadName));
     }
     if is_taken {
-        return Err(Stop::Reason(Reason::RepeatedName));
+        return Err(ReadStop::Reason(Reason::RepeatedName));
     }
     match str::from_utf8(text) {
         Ok(name) => Ok(Text::from_text(alloc, name)?),

@@ -7,8 +7,8 @@ ghost use Rattle.pc_schema.specs.SchemaFile.{columns_from, schema_from, schema_o
 use crate::column::next_column;
 use csv::ByteRecord;
 use pc_list::Seq;
-use pc_model::{Column, FileKind, Reason, Refusal, Schema, Stop, text_of};
-use pc_table::Table;
+use pc_model::{Column, FileKind, ReadStop, Reason, Refusal, Schema, text_of};
+use pc_records::Table;
 use std::alloc::Global;
 
 /// Reads a schema file, or tells its first fault: by the records in their order, and of a record by its parts.
@@ -20,7 +20,7 @@ pub fn read_schema(alloc: Global, bytes: &[u8]) -> Result<Schema, Refusal>
 {
     match text_of(bytes) {
         Ok(text) => schema_from(read_columns(alloc, text)?),
-        Err(reason) => Err(Stop::Reason(reason).at(FileKind::Schema, 0)),
+        Err(reason) => Err(ReadStop::Reason(reason).at(FileKind::Schema, 0)),
     }
 }
 
@@ -32,7 +32,7 @@ fn schema_from(columns: Seq<Column>) -> Result<Schema, Refusal>
     ensures few_names { IfOk result (λ schema. HaveFewNames schema.columns) }
 {
     if columns.is_empty() {
-        return Err(Stop::Reason(Reason::NoHeader).at(FileKind::Schema, 1));
+        return Err(ReadStop::Reason(Reason::NoHeader).at(FileKind::Schema, 1));
     }
     Ok(Schema { columns })
 }

@@ -5,8 +5,8 @@
 mod reading;
 mod trouble;
 
-use pc_bound::{Program, is_program};
 use pc_branch::{Outcome, has_fit_gains, solve};
+use pc_program_bound::{Program, is_program};
 use reading::read_program;
 use std::alloc::Global;
 use std::process::ExitCode;

@@ -1,6 +1,6 @@
 use crate::trouble::Trouble;
-use pc_bound::Program;
 use pc_list::Seq;
+use pc_program_bound::Program;
 use std::alloc::Global;
 use std::str::{FromStr, SplitAsciiWhitespace};
 

@@ -6,11 +6,11 @@ use Rattle.std.proofs.lemmas.Int.{ints, unsigned_abs-mul}
 use Rattle.std.proofs.Math.IntN.{*ℤ_comm}
 use Rattle.pc_num.specs.declared.Frac.{Frac}
 use Rattle.pc_num.proofs.Divisors.{same_reduced}
-use Rattle.pc_bound.specs.declared.program.Program.{Program}
-use Rattle.pc_bound.proofs.Ring.{mul_assoc}
-use Rattle.pc_tableau.specs.Tableau.{Tableau}
-use Rattle.pc_tableau.specs.Point.{under_at, count_over, IsCount}
-use Rattle.pc_tableau.proofs.Products.{cancel, mul_swap}
+use Rattle.pc_program_bound.specs.declared.program.Program.{Program}
+use Rattle.pc_program_bound.proofs.Ring.{mul_assoc}
+use Rattle.pc_simplex_tableau.specs.Tableau.{Tableau}
+use Rattle.pc_simplex_tableau.specs.Point.{under_at, count_over, IsCount}
+use Rattle.pc_simplex_tableau.proofs.Products.{cancel, mul_swap}
 
 -- ---- two fractions that are equal to a third
 

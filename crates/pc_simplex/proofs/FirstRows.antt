@@ -6,21 +6,21 @@ use Rattle.std.proofs.lemmas.List.{length-set}
 use Rattle.std.proofs.lemmas.Bool.{cond-true, cond-false}
 use Rattle.std.proofs.lemmas.List.Elements.{All-set}
 use Rattle.pc_model.specs.Places.{has_bit}
-use Rattle.pc_bound.specs.declared.program.Program.{Program}
-use Rattle.pc_bound.specs.Sums.{nat_at, int_at}
-use Rattle.pc_bound.specs.Allocation.{IsProgram, cells_of, constraints_of}
-use Rattle.pc_bound.specs.Bound.{IsFit}
-use Rattle.pc_tableau.specs.Numbers.{table}
-use Rattle.pc_tableau.specs.Tableau.{TableauRow, Tableau}
-use Rattle.pc_tableau.specs.Relaxation.{columns_of, slack_of, helper_of, slack_range, coefficient, left_of, is_short, phase_one, first_row, first_tableau}
-use Rattle.pc_tableau.specs.Standing.{gain_one}
-use Rattle.pc_tableau.specs.Conditions.{IsSizedRow, IsSized, IsFitRow, AreFitNumbers}
-use Rattle.pc_tableau.proofs.Listed.{length-table, at-table}
-use Rattle.pc_tableau.proofs.StartRows.{coefficient-slack, coefficient-value}
-use Rattle.pc_tableau.proofs.StartMeant.{length-ranges, by_short}
+use Rattle.pc_program_bound.specs.declared.program.Program.{Program}
+use Rattle.pc_program_bound.specs.Sums.{nat_at, int_at}
+use Rattle.pc_program_bound.specs.Allocation.{IsProgram, cells_of, constraints_of}
+use Rattle.pc_program_bound.specs.Bound.{IsFit}
+use Rattle.pc_simplex_tableau.specs.Numbers.{table}
+use Rattle.pc_simplex_tableau.specs.Tableau.{TableauRow, Tableau}
+use Rattle.pc_simplex_tableau.specs.Relaxation.{columns_of, slack_of, helper_of, slack_range, coefficient, left_of, is_short, phase_one, first_row, first_tableau}
+use Rattle.pc_simplex_tableau.specs.Standing.{gain_one}
+use Rattle.pc_simplex_tableau.specs.Conditions.{IsSizedRow, IsSized, IsFitRow, AreFitNumbers}
+use Rattle.pc_simplex_tableau.proofs.Listed.{length-table, at-table}
+use Rattle.pc_simplex_tableau.proofs.StartRows.{coefficient-slack, coefficient-value}
+use Rattle.pc_simplex_tableau.proofs.StartMeant.{length-ranges, by_short}
 use Rattle.pc_simplex.specs.Floors.{AreFloors, number_at, short_row, does_start_turned}
 use Rattle.pc_simplex.proofs.Floors.{left_fits, left_less_fits}
-use Rattle.pc_tableau.proofs.Tables.{All-table}
+use Rattle.pc_simplex_tableau.proofs.Tables.{All-table}
 
 -- ---- the row of a short constraint
 set_both : (row : List ℤ) (value slack u : ℕ) (left : ℤ) → int_at row value ≡ left → int_at row slack ≡ pos 1

@@ -3,12 +3,12 @@ use Rattle.std.proofs.Common.{◌≡◌, ℕ, zero, suc, ◌*◌, ◌<◌, ◌�
 use Rattle.std.specs.Prelude.{ℤ, pos, ◌-ℤ◌, ◌≤ℤ◌}
 use Rattle.std.proofs.lemmas.Int.{ints}
 use Rattle.pc_model.specs.Places.{has_bit}
-use Rattle.pc_bound.specs.declared.program.Program.{Program}
-use Rattle.pc_bound.specs.Sums.{sum_below, nat_at}
-use Rattle.pc_bound.specs.Allocation.{IsProgram, IsBox, cells_of, constraints_of, count_for, total}
-use Rattle.pc_bound.specs.Bound.{IsFit}
-use Rattle.pc_bound.proofs.SumBelow.{sum_below-zero, sum_below-suc}
-use Rattle.pc_tableau.specs.Relaxation.{columns_of, left_of}
+use Rattle.pc_program_bound.specs.declared.program.Program.{Program}
+use Rattle.pc_program_bound.specs.Sums.{sum_below, nat_at}
+use Rattle.pc_program_bound.specs.Allocation.{IsProgram, IsBox, cells_of, constraints_of, count_for, total}
+use Rattle.pc_program_bound.specs.Bound.{IsFit}
+use Rattle.pc_program_bound.proofs.SumBelow.{sum_below-zero, sum_below-suc}
+use Rattle.pc_simplex_tableau.specs.Relaxation.{columns_of, left_of}
 use Rattle.pc_simplex.specs.Floors.{AreFloors}
 
 pub floors_of_box : (p : Program) (floors caps : List ℕ) → IsProgram p → IsBox p floors caps → columns_of p < 2 ^ 32 → AreFloors p floors

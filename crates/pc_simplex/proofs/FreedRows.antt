@@ -1,10 +1,10 @@
 -- An objective row that is freed of the basic columns, row by row, as long as the numbers fit.
 use Rattle.std.proofs.Common.{◌≡◌, ℕ, zero, suc, ◌+◌, ◌-◌, ◌<◌, ◌&&◌, Bool, true, false, length, All, refl, ap, sym, subst, ◌∙◌, arith, add-one}
-use Rattle.pc_tableau.specs.Tableau.{TableauRow, Tableau, Columns, no_row, row_at, freed_aim, does_freed_aim_fit}
-use Rattle.pc_tableau.specs.Relaxation.{freed_by, does_freed_by_fit, freed_below, do_freed_below_fit, freed, does_freed_fit}
-use Rattle.pc_tableau.specs.Conditions.{IsSizedRow, IsSized, AreFitNumbers}
-use Rattle.pc_tableau.proofs.Freed.{aimed_as, freed_aim_is}
-use Rattle.pc_tableau.proofs.Pivots.{length-freed_aim}
+use Rattle.pc_simplex_tableau.specs.Tableau.{TableauRow, Tableau, Columns, no_row, row_at, freed_aim, does_freed_aim_fit}
+use Rattle.pc_simplex_tableau.specs.Relaxation.{freed_by, does_freed_by_fit, freed_below, do_freed_below_fit, freed, does_freed_fit}
+use Rattle.pc_simplex_tableau.specs.Conditions.{IsSizedRow, IsSized, AreFitNumbers}
+use Rattle.pc_simplex_tableau.proofs.Freed.{aimed_as, freed_aim_is}
+use Rattle.pc_simplex_tableau.proofs.Pivots.{length-freed_aim}
 use Rattle.pc_simplex.specs.Aims.{IsOver}
 
 -- ---- one row more, or none

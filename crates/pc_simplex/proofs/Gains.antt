@@ -3,17 +3,17 @@ use Rattle.std.proofs.Common.{◌≡◌, ℕ, Bool, true, false, cond, nat_lt, L
 use Rattle.std.specs.Prelude.{ℤ, pos, neg_ℤ, slice_index_or}
 use Rattle.std.proofs.lemmas.Bool.{ltb-true}
 use Rattle.pc_num.proofs.Signed.{unsigned_abs-neg}
-use Rattle.pc_bound.specs.declared.program.Program.{Program}
-use Rattle.pc_bound.specs.Sums.{int_at}
-use Rattle.pc_bound.specs.Allocation.{IsProgram, cells_of}
-use Rattle.pc_bound.specs.Bound.{IsFit}
-use Rattle.pc_tableau.specs.Numbers.{table}
-use Rattle.pc_tableau.specs.Tableau.{Tableau, Columns}
-use Rattle.pc_tableau.specs.Relaxation.{columns_of, with_gains}
-use Rattle.pc_tableau.specs.Conditions.{IsSized, AreFitNumbers}
-use Rattle.pc_tableau.proofs.Listed.{length-table}
+use Rattle.pc_program_bound.specs.declared.program.Program.{Program}
+use Rattle.pc_program_bound.specs.Sums.{int_at}
+use Rattle.pc_program_bound.specs.Allocation.{IsProgram, cells_of}
+use Rattle.pc_program_bound.specs.Bound.{IsFit}
+use Rattle.pc_simplex_tableau.specs.Numbers.{table}
+use Rattle.pc_simplex_tableau.specs.Tableau.{Tableau, Columns}
+use Rattle.pc_simplex_tableau.specs.Relaxation.{columns_of, with_gains}
+use Rattle.pc_simplex_tableau.specs.Conditions.{IsSized, AreFitNumbers}
+use Rattle.pc_simplex_tableau.proofs.Listed.{length-table}
 use Rattle.pc_simplex.specs.Aims.{gain_at}
-use Rattle.pc_tableau.proofs.Tables.{All-table}
+use Rattle.pc_simplex_tableau.proofs.Tables.{All-table}
 use Rattle.pc_simplex.proofs.FirstRows.{one_fits, none_fits, either_fits}
 
 pub with_gains_is : (p : Program) (t made : Tableau) (turned : List Bool) (aim : List ℤ) → made ≡ t → turned ≡ made.turned → aim ≡ table (columns_of p) (gain_at p turned)

@@ -7,14 +7,14 @@ use Rattle.std.proofs.Math.Nat.{one-dvd, dvd-mul_left_of_dvd, dvd-add_iff_right,
 use Rattle.std.proofs.Math.IntN.{*ℤ_comm}
 use Rattle.pc_num.specs.declared.Frac.{Frac}
 use Rattle.pc_num.specs.Fractions.{IsQuotient}
-use Rattle.pc_bound.specs.declared.program.Program.{Program}
-use Rattle.pc_bound.specs.Sums.{nat_at}
-use Rattle.pc_bound.specs.Bound.{IsFit}
-use Rattle.pc_bound.proofs.Ring.{mul_mono}
-use Rattle.pc_tableau.specs.Tableau.{Tableau, is_turned}
-use Rattle.pc_tableau.specs.Point.{over_at, under_at, IsCount, IsFitCount}
-use Rattle.pc_tableau.proofs.Products.{mul-zero, mul_not_negative, le_cancel, mul_swap}
-use Rattle.pc_tableau.proofs.Counted.{scaled_sum, scaled_rest}
+use Rattle.pc_program_bound.specs.declared.program.Program.{Program}
+use Rattle.pc_program_bound.specs.Sums.{nat_at}
+use Rattle.pc_program_bound.specs.Bound.{IsFit}
+use Rattle.pc_program_bound.proofs.Ring.{mul_mono}
+use Rattle.pc_simplex_tableau.specs.Tableau.{Tableau, is_turned}
+use Rattle.pc_simplex_tableau.specs.Point.{over_at, under_at, IsCount, IsFitCount}
+use Rattle.pc_simplex_tableau.proofs.Products.{mul-zero, mul_not_negative, le_cancel, mul_swap}
+use Rattle.pc_simplex_tableau.proofs.Counted.{scaled_sum, scaled_rest}
 use Rattle.pc_simplex.proofs.Counts.{one_count}
 use Rattle.pc_simplex.proofs.Standings.{IsPlaced}
 use Rattle.pc_simplex.specs.Counts.{numerator, counted}

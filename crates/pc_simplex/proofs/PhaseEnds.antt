@@ -2,16 +2,16 @@
 use Rattle.std.proofs.Common.{◌≡◌, ℕ, ◌==◌, cond, pos, List, [], length, All, refl, ap, ◌∙◌, arith}
 use Rattle.std.proofs.lemmas.List.Elements.{All-weaker}
 use Rattle.pc_model.specs.declared.tree.Mult.{Mult}
-use Rattle.pc_bound.specs.declared.program.Program.{Program}
-use Rattle.pc_bound.specs.Allocation.{constraints_of}
-use Rattle.pc_bound.specs.Bound.{IsFit}
-use Rattle.pc_tableau.specs.Tableau.{Tableau, Columns}
-use Rattle.pc_tableau.specs.Relaxation.{multiplier, multipliers, one_at, Ending, at_void}
-use Rattle.pc_tableau.specs.Conditions.{IsSizedRow, IsSized}
-use Rattle.pc_tableau.proofs.Listed.{length-table}
+use Rattle.pc_program_bound.specs.declared.program.Program.{Program}
+use Rattle.pc_program_bound.specs.Allocation.{constraints_of}
+use Rattle.pc_program_bound.specs.Bound.{IsFit}
+use Rattle.pc_simplex_tableau.specs.Tableau.{Tableau, Columns}
+use Rattle.pc_simplex_tableau.specs.Relaxation.{multiplier, multipliers, one_at, Ending, at_void}
+use Rattle.pc_simplex_tableau.specs.Conditions.{IsSizedRow, IsSized}
+use Rattle.pc_simplex_tableau.proofs.Listed.{length-table}
 use Rattle.pc_simplex.specs.Aims.{IsOver}
 use Rattle.pc_simplex.specs.Ended.{IsSoundEnding}
-use Rattle.pc_tableau.proofs.Tables.{All-table}
+use Rattle.pc_simplex_tableau.proofs.Tables.{All-table}
 use Rattle.pc_simplex.proofs.FirstRows.{one_fits, none_fits, either_fits}
 
 pub rows_over : (f : Columns) (t : Tableau) → IsSized f t → All (IsOver t.aim) t.rows

@@ -3,10 +3,10 @@ use Rattle.std.proofs.Common.{◌≡◌, ℕ, ◌+◌, ◌<◌, List, [], ◌∷
 use Rattle.std.proofs.lemmas.Bool.{cases_lt}
 use Rattle.std.proofs.lemmas.List.{length_push, get_or_push, get_or_append_left}
 use Rattle.pc_num.specs.declared.Frac.{Frac}
-use Rattle.pc_bound.specs.declared.program.Program.{Program}
-use Rattle.pc_bound.specs.Allocation.{cells_of}
-use Rattle.pc_tableau.specs.Tableau.{Tableau}
-use Rattle.pc_tableau.specs.Point.{no_count, IsCount, IsFitCount}
+use Rattle.pc_program_bound.specs.declared.program.Program.{Program}
+use Rattle.pc_program_bound.specs.Allocation.{cells_of}
+use Rattle.pc_simplex_tableau.specs.Tableau.{Tableau}
+use Rattle.pc_simplex_tableau.specs.Point.{no_count, IsCount, IsFitCount}
 use Rattle.pc_simplex.specs.Vertices.{count_at}
 use Rattle.pc_simplex.specs.Counts.{IsFitPoint}
 

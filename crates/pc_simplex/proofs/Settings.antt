@@ -5,18 +5,18 @@ use Rattle.std.proofs.lemmas.Bool.{cond-true, cond-false, cond_both, and_left, l
 use Rattle.std.proofs.lemmas.List.{length_push, append-nil, take_more, take_all}
 use Rattle.std.proofs.lemmas.List.Elements.{All-nil, All-cons, All-push}
 use Rattle.pc_model.specs.Places.{has_bit}
-use Rattle.pc_bound.specs.declared.program.Program.{Program}
-use Rattle.pc_bound.specs.Sums.{nat_at, int_at}
-use Rattle.pc_bound.specs.Allocation.{IsProgram, IsBox, cells_of, constraints_of}
-use Rattle.pc_tableau.specs.Numbers.{table}
-use Rattle.pc_tableau.specs.Tableau.{Columns, is_helper}
-use Rattle.pc_tableau.specs.Relaxation.{columns_of, slack_of, helper_of, ranges_of, phase_one, is_short, IsFrame}
-use Rattle.pc_tableau.specs.Standing.{gain_one, gain_two}
-use Rattle.pc_tableau.proofs.Frames.{IsFrame-ranges}
-use Rattle.pc_tableau.proofs.Listed.{length-table, at-table}
-use Rattle.pc_tableau.proofs.Tables.{All-table}
-use Rattle.pc_short.specs.Short.{Setting}
-use Rattle.pc_short.specs.Kept.{IsSetting, IsSlackOf, ArePlaces}
+use Rattle.pc_program_bound.specs.declared.program.Program.{Program}
+use Rattle.pc_program_bound.specs.Sums.{nat_at, int_at}
+use Rattle.pc_program_bound.specs.Allocation.{IsProgram, IsBox, cells_of, constraints_of}
+use Rattle.pc_simplex_tableau.specs.Numbers.{table}
+use Rattle.pc_simplex_tableau.specs.Tableau.{Columns, is_helper}
+use Rattle.pc_simplex_tableau.specs.Relaxation.{columns_of, slack_of, helper_of, ranges_of, phase_one, is_short, IsFrame}
+use Rattle.pc_simplex_tableau.specs.Standing.{gain_one, gain_two}
+use Rattle.pc_simplex_tableau.proofs.Frames.{IsFrame-ranges}
+use Rattle.pc_simplex_tableau.proofs.Listed.{length-table, at-table}
+use Rattle.pc_simplex_tableau.proofs.Tables.{All-table}
+use Rattle.pc_simplex_short.specs.Short.{ShortSetting}
+use Rattle.pc_simplex_short.specs.Kept.{IsSetting, IsSlackOf, ArePlaces}
 use Rattle.pc_simplex.specs.Shorts.{AreColumns, places_below, column_places, setting_of}
 
 -- ---- the places of a mask
@@ -118,7 +118,7 @@ second_columns p f are = record { count = are.count; ranges = are.ranges; few = 
 
 -- ---- a setting
 module _ (p : Program) (columns : Columns) (gain : ℕ → ℤ) (top : ℕ) (program : IsProgram p) (are : AreColumns p columns) where
-  abbrev f : Setting
+  abbrev f : ShortSetting
   f = setting_of p columns (table (columns_of p) gain) top
 
   places_are : (k : ℕ) → k < columns_of p → ArePlaces f (column_places p k)
@@ -203,14 +203,14 @@ made_is_setting p floors columns places gains constraints placed gained counted 
     rw (placed, gained, counted) (first_is_setting p floors columns program are)
 
 -- and one made anew of the parts of an older one
-pub renewed_is_setting : (p : Program) (setting parts : Setting) (columns : Columns) (gains : List ℤ) (top : ℕ)
+pub renewed_is_setting : (p : Program) (setting parts : ShortSetting) (columns : Columns) (gains : List ℤ) (top : ℕ)
     → parts ≡ setting → columns ≡ parts.columns → setting ≡ setting_of p setting.columns setting.gains setting.top
     → gains ≡ table (columns_of p) (gain_two p) → IsProgram p → AreColumns p setting.columns → 1 ≤ top → All (λ g. nat_abs g ≤ top) p.gain
     → IsSetting (record { columns = record columns { helper = Some 0 }; places = parts.places; gains = gains; top = top; constraints = parts.constraints })
 renewed_is_setting p setting parts columns gains top same own is made program are some most =
-    let placed = ap (λ (f : Setting). f.places) (same ∙ is) in
-    let counted = ap (λ (f : Setting). f.constraints) (same ∙ is) in
-    let kept = own ∙ ap (λ (f : Setting). f.columns) same in
+    let placed = ap (λ (f : ShortSetting). f.places) (same ∙ is) in
+    let counted = ap (λ (f : ShortSetting). f.constraints) (same ∙ is) in
+    let kept = own ∙ ap (λ (f : ShortSetting). f.columns) same in
     rw (placed, counted, kept, made)
     (second_is_setting p (record setting.columns { helper = Some 0 }) top program (second_columns p setting.columns are) some most)
 

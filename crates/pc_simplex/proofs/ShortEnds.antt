@@ -1,9 +1,9 @@
 -- What the second phase in short form ends in is what the definition says.
 use Rattle.std.proofs.Common.{◌≡◌, ℕ, true, false, List, Option, Some, None, IfSome, ap, sym, ◌∙◌}
-use Rattle.pc_bound.specs.declared.program.Program.{Program}
-use Rattle.pc_tableau.specs.declared.step.Step.{Step}
-use Rattle.pc_tableau.specs.Tableau.{Tableau, run}
-use Rattle.pc_tableau.specs.Relaxation.{Ending, at_wide, phase_two, phase_two_from, with_gains, freed}
+use Rattle.pc_program_bound.specs.declared.program.Program.{Program}
+use Rattle.pc_simplex_tableau.specs.declared.step.Step.{Step}
+use Rattle.pc_simplex_tableau.specs.Tableau.{Tableau, run}
+use Rattle.pc_simplex_tableau.specs.Relaxation.{Ending, at_wide, phase_two, phase_two_from, with_gains, freed}
 use Rattle.pc_simplex.specs.Phases.{ending_by}
 use Rattle.pc_simplex.specs.Shorts.{IsEndingFrom}
 

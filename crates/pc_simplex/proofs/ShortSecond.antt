@@ -4,18 +4,18 @@ use Rattle.std.specs.Prelude.{ℤ, pos, neg_ℤ, ◌+ℤ◌, ◌*ℤ◌, slice_i
 use Rattle.std.proofs.lemmas.Int.{ints, by_lt_z}
 use Rattle.std.proofs.lemmas.List.{get_or_past}
 use Rattle.std.proofs.lemmas.List.Elements.{All-weaker}
-use Rattle.pc_bound.specs.declared.program.Program.{Program}
-use Rattle.pc_bound.specs.Sums.{int_at}
-use Rattle.pc_bound.specs.Allocation.{cells_of, constraints_of}
-use Rattle.pc_tableau.specs.Numbers.{table}
-use Rattle.pc_tableau.specs.Tableau.{TableauRow, Tableau, Columns}
-use Rattle.pc_tableau.specs.Relaxation.{columns_of, with_gains}
-use Rattle.pc_tableau.specs.Standing.{gain_two}
-use Rattle.pc_tableau.proofs.Listed.{length-table, at-table}
-use Rattle.pc_tableau.proofs.Tables.{All-table}
-use Rattle.pc_short.specs.Short.{Setting, mix, signed, places_of, entry, spelled_row, aim_entry, spelled_aim, spelled}
-use Rattle.pc_short.specs.Kept.{IsWithin, IsShortRow, IsShortAim, IsShort}
-use Rattle.pc_short.proofs.Spelled.{is_aim}
+use Rattle.pc_program_bound.specs.declared.program.Program.{Program}
+use Rattle.pc_program_bound.specs.Sums.{int_at}
+use Rattle.pc_program_bound.specs.Allocation.{cells_of, constraints_of}
+use Rattle.pc_simplex_tableau.specs.Numbers.{table}
+use Rattle.pc_simplex_tableau.specs.Tableau.{TableauRow, Tableau, Columns}
+use Rattle.pc_simplex_tableau.specs.Relaxation.{columns_of, with_gains}
+use Rattle.pc_simplex_tableau.specs.Standing.{gain_two}
+use Rattle.pc_simplex_tableau.proofs.Listed.{length-table, at-table}
+use Rattle.pc_simplex_tableau.proofs.Tables.{All-table}
+use Rattle.pc_simplex_short.specs.Short.{ShortSetting, mix, signed, places_of, entry, spelled_row, aim_entry, spelled_aim, spelled}
+use Rattle.pc_simplex_short.specs.Kept.{IsWithin, IsShortRow, IsShortAim, IsShort}
+use Rattle.pc_simplex_short.proofs.Spelled.{is_aim}
 use Rattle.pc_simplex.specs.Aims.{gain_at}
 use Rattle.pc_simplex.specs.Shorts.{setting_of, no_aim, second_short}
 
@@ -35,13 +35,13 @@ whole : (x y : ℤ) → y ≡ pos 0 → pos 1 *ℤ x +ℤ y ≡ x
 whole x y e = omega (arith, ints, e)
 
 -- then an objective row of weight 1 has the gains alone
-pub gain_alone : (p : Program) (f : Setting) (turned : List Bool) (k : ℕ) (gain : ℤ) → int_at f.gains k ≡ gain
+pub gain_alone : (p : Program) (f : ShortSetting) (turned : List Bool) (k : ℕ) (gain : ℤ) → int_at f.gains k ≡ gain
     → aim_entry f turned (pos 1) (no_aim p) k ≡ signed (slice_index_or turned k false) gain
 gain_alone p f turned k gain e =
     ap (signed (slice_index_or turned k false))
     (whole (int_at f.gains k) (mix (places_of f k) (no_aim p)) (mix_none (places_of f k) (no_aim p) (no_aim-none p)) ∙ e)
 
-pub no_aim-short : (p : Program) (f : Setting) → f.constraints ≡ constraints_of p → f.top ≤ 2 ^ 69 → IsShortAim f (pos 1) (no_aim p)
+pub no_aim-short : (p : Program) (f : ShortSetting) → f.constraints ≡ constraints_of p → f.top ≤ 2 ^ 69 → IsShortAim f (pos 1) (no_aim p)
 no_aim-short p f count light = record {
   numbers = length-table (constraints_of p) (λ j. pos 0) ∙ sym count;
   small = All-table (IsWithin 64) (constraints_of p) (λ j. pos 0) (λ k lt. omega arith);
@@ -72,7 +72,7 @@ module _ (p : Program) (g : Columns) (other : ℕ) (turned : List Bool) (count :
   abbrev gains_two : List ℤ
   gains_two = table (columns_of p) (gain_two p)
 
-  abbrev second_setting : Setting
+  abbrev second_setting : ShortSetting
   second_setting = setting_of p g gains_two other
 
   abbrev aim : List ℤ

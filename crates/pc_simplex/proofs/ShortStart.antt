@@ -6,22 +6,22 @@ use Rattle.std.proofs.lemmas.Bool.{cond-true, cond-false, lt-ltb, le-ltb, lt-leb
 use Rattle.std.proofs.lemmas.List.{length_push, get_or_push, get_or_append_left}
 use Rattle.std.proofs.lemmas.List.Elements.{All-push}
 use Rattle.pc_model.specs.Places.{has_bit}
-use Rattle.pc_bound.specs.declared.program.Program.{Program}
-use Rattle.pc_bound.specs.Sums.{nat_at, int_at}
-use Rattle.pc_bound.specs.Allocation.{IsProgram, cells_of, constraints_of}
-use Rattle.pc_tableau.specs.Numbers.{table, first_below}
-use Rattle.pc_tableau.specs.Tableau.{TableauRow, Tableau, Columns, no_row, row_at, is_turned}
-use Rattle.pc_tableau.specs.Relaxation.{columns_of, slack_of, helper_of, slack_range, left_of, is_short, first_row, first_tableau}
-use Rattle.pc_tableau.specs.Standing.{entry_at, gain_one}
-use Rattle.pc_tableau.proofs.Pivots.{by_same}
-use Rattle.pc_tableau.proofs.Points.{first_below-none}
-use Rattle.pc_tableau.proofs.Listed.{length-table, at-table}
-use Rattle.pc_tableau.proofs.Tables.{All-table}
-use Rattle.pc_tableau.proofs.StartRows.{start, length-start, basic-short, basic-long, slack-start, value-start, turned-cell, turned-slack, turned-helper}
-use Rattle.pc_tableau.proofs.StartMeant.{cell-start, helper-start, other_helper-start, other_slack-start, by_short}
-use Rattle.pc_short.specs.Short.{Setting, mix, signed, entry, spelled_numbers, spelled_row, aim_entry, spelled_aim, spelled}
-use Rattle.pc_short.specs.Kept.{IsWithin, IsShortRow, IsShort}
-use Rattle.pc_short.proofs.Spelled.{is_spelled, is_aim}
+use Rattle.pc_program_bound.specs.declared.program.Program.{Program}
+use Rattle.pc_program_bound.specs.Sums.{nat_at, int_at}
+use Rattle.pc_program_bound.specs.Allocation.{IsProgram, cells_of, constraints_of}
+use Rattle.pc_simplex_tableau.specs.Numbers.{table, first_below}
+use Rattle.pc_simplex_tableau.specs.Tableau.{TableauRow, Tableau, Columns, no_row, row_at, is_turned}
+use Rattle.pc_simplex_tableau.specs.Relaxation.{columns_of, slack_of, helper_of, slack_range, left_of, is_short, first_row, first_tableau}
+use Rattle.pc_simplex_tableau.specs.Standing.{entry_at, gain_one}
+use Rattle.pc_simplex_tableau.proofs.Pivots.{by_same}
+use Rattle.pc_simplex_tableau.proofs.Points.{first_below-none}
+use Rattle.pc_simplex_tableau.proofs.Listed.{length-table, at-table}
+use Rattle.pc_simplex_tableau.proofs.Tables.{All-table}
+use Rattle.pc_simplex_tableau.proofs.StartRows.{start, length-start, basic-short, basic-long, slack-start, value-start, turned-cell, turned-slack, turned-helper}
+use Rattle.pc_simplex_tableau.proofs.StartMeant.{cell-start, helper-start, other_helper-start, other_slack-start, by_short}
+use Rattle.pc_simplex_short.specs.Short.{ShortSetting, mix, signed, entry, spelled_numbers, spelled_row, aim_entry, spelled_aim, spelled}
+use Rattle.pc_simplex_short.specs.Kept.{IsWithin, IsShortRow, IsShort}
+use Rattle.pc_simplex_short.proofs.Spelled.{is_spelled, is_aim}
 use Rattle.pc_simplex.specs.Floors.{AreFloors, is_overfull, does_start_turned}
 use Rattle.pc_simplex.specs.Shorts.{places_below, column_places, AreColumns, setting_of, short_value, unit_row, first_short_row, no_aim, first_short}
 use Rattle.pc_simplex.proofs.Floors.{total_positive}
@@ -171,7 +171,7 @@ map-table h zero f = refl
 map-table h (suc n) f = map-push h (table n f) (f n) ∙ ap (λ made. made ++ h (f n) ∷ []) (map-table h n f)
 
 module _ (p : Program) (floors : List ℕ) (f : Columns) (gains : List ℤ) (top : ℕ) (columns : AreColumns p f) where
-  abbrev own_setting : Setting
+  abbrev own_setting : ShortSetting
   own_setting = setting_of p f gains top
 
   abbrev turned : List Bool
@@ -258,7 +258,7 @@ module _ (p : Program) (floors : List ℕ) (f : Columns) (top : ℕ) (columns : 
   abbrev gains_one : List ℤ
   gains_one = table (columns_of p) (gain_one p floors)
 
-  abbrev first_setting : Setting
+  abbrev first_setting : ShortSetting
   first_setting = setting_of p f gains_one top
 
   aim_at : (k : ℕ) → k < f.count → int_at gains_one k ≡ aim_entry first_setting (table (columns_of p) (does_start_turned p floors)) (pos 1) (no_aim p) k

@@ -1,9 +1,9 @@
 -- What each answer shows.
 use Rattle.std.proofs.Common.{ℕ, List}
-use Rattle.pc_bound.specs.declared.program.Program.{Program}
-use Rattle.pc_bound.specs.Allocation.{IsBox, IsProgram}
-use Rattle.pc_bound.proofs.Duality.{void-no_relaxed}
-use Rattle.pc_tableau.specs.Point.{Relaxation, vertex, void, wide, stalled, IsRelaxation}
+use Rattle.pc_program_bound.specs.declared.program.Program.{Program}
+use Rattle.pc_program_bound.specs.Allocation.{IsBox, IsProgram}
+use Rattle.pc_program_bound.proofs.Duality.{void-no_relaxed}
+use Rattle.pc_simplex_tableau.specs.Point.{Relaxation, vertex, void, wide, stalled, IsRelaxation}
 use Rattle.pc_simplex.specs.Vertices.{IsShown, IsGreatest}
 use Rattle.pc_simplex.proofs.Vertices.{IsVertex-point, IsVoid-mult}
 use Rattle.pc_simplex.proofs.Worth.{worth_most}

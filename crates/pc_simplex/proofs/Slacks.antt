@@ -2,14 +2,14 @@
 use Rattle.std.proofs.Common.{◌≡◌, ℕ, ◌+◌, ◌-◌, ◌≤◌, cond, All, List, ◌∷◌, ◌++◌, [], ap, sym, ◌∙◌, arith}
 use Rattle.std.specs.Prelude.{ℤ, neg_ℤ}
 use Rattle.std.proofs.lemmas.List.Elements.{All-nil, All-push}
-use Rattle.pc_bound.specs.declared.program.Program.{Program}
-use Rattle.pc_bound.specs.Sums.{int_at}
-use Rattle.pc_bound.specs.Bound.{IsFit}
-use Rattle.pc_bound.specs.Allocation.{cells_of, constraints_of}
-use Rattle.pc_tableau.specs.Numbers.{table}
-use Rattle.pc_tableau.specs.Tableau.{Tableau, is_turned}
-use Rattle.pc_tableau.specs.Relaxation.{multiplier}
-use Rattle.pc_tableau.proofs.Tables.{table-zero, table_made}
+use Rattle.pc_program_bound.specs.declared.program.Program.{Program}
+use Rattle.pc_program_bound.specs.Sums.{int_at}
+use Rattle.pc_program_bound.specs.Bound.{IsFit}
+use Rattle.pc_program_bound.specs.Allocation.{cells_of, constraints_of}
+use Rattle.pc_simplex_tableau.specs.Numbers.{table}
+use Rattle.pc_simplex_tableau.specs.Tableau.{Tableau, is_turned}
+use Rattle.pc_simplex_tableau.specs.Relaxation.{multiplier}
+use Rattle.pc_simplex_tableau.proofs.Tables.{table-zero, table_made}
 
 -- the multipliers of the constraints whose slacks stand before a column
 pub record AreMultipliers (p : Program) (t : Tableau) (slack : ℕ) (by : List ℤ) : Type 0 where

@@ -4,20 +4,20 @@ use Rattle.std.specs.Prelude.{ℤ, pos, ◌*ℤ◌, ◌<ℤ◌, ◌≤ℤ◌, �
 use Rattle.std.proofs.lemmas.Int.{ints}
 use Rattle.std.proofs.lemmas.Bool.{cases_lt}
 use Rattle.std.proofs.lemmas.List.{get_or_past}
-use Rattle.pc_bound.specs.declared.program.Program.{Program}
-use Rattle.pc_bound.specs.Sums.{nat_at, int_at}
-use Rattle.pc_bound.specs.Allocation.{cells_of, IsBox}
-use Rattle.pc_bound.specs.Bound.{IsFit}
-use Rattle.pc_bound.proofs.Ring.{mul_mono}
-use Rattle.pc_tableau.specs.Tableau.{Tableau, Columns, no_row, row_at, range_of}
-use Rattle.pc_tableau.specs.Relaxation.{columns_of, phase_two}
-use Rattle.pc_tableau.specs.Standing.{entry_at, basic_at, value_at, IsFeasible, IsStanding, gain_two}
-use Rattle.pc_tableau.specs.Conditions.{AreFitNumbers}
-use Rattle.pc_tableau.specs.Point.{row_of, over_at, under_at}
-use Rattle.pc_tableau.proofs.Entering.{range_is}
-use Rattle.pc_tableau.proofs.Frames.{IsFrame-ranges}
-use Rattle.pc_tableau.proofs.Points.{row_of-some}
-use Rattle.pc_tableau.proofs.Counted.{under-positive}
+use Rattle.pc_program_bound.specs.declared.program.Program.{Program}
+use Rattle.pc_program_bound.specs.Sums.{nat_at, int_at}
+use Rattle.pc_program_bound.specs.Allocation.{cells_of, IsBox}
+use Rattle.pc_program_bound.specs.Bound.{IsFit}
+use Rattle.pc_program_bound.proofs.Ring.{mul_mono}
+use Rattle.pc_simplex_tableau.specs.Tableau.{Tableau, Columns, no_row, row_at, range_of}
+use Rattle.pc_simplex_tableau.specs.Relaxation.{columns_of, phase_two}
+use Rattle.pc_simplex_tableau.specs.Standing.{entry_at, basic_at, value_at, IsFeasible, IsStanding, gain_two}
+use Rattle.pc_simplex_tableau.specs.Conditions.{AreFitNumbers}
+use Rattle.pc_simplex_tableau.specs.Point.{row_of, over_at, under_at}
+use Rattle.pc_simplex_tableau.proofs.Entering.{range_is}
+use Rattle.pc_simplex_tableau.proofs.Frames.{IsFrame-ranges}
+use Rattle.pc_simplex_tableau.proofs.Points.{row_of-some}
+use Rattle.pc_simplex_tableau.proofs.Counted.{under-positive}
 
 -- a cell's numbers fit, and it stands from 0 to its cap
 pub record IsPlaced (p : Program) (caps : List ℕ) (t : Tableau) (i : ℕ) : Type 0 where

@@ -6,17 +6,17 @@ use Rattle.std.proofs.lemmas.Bool.{cases_lt}
 use Rattle.std.proofs.lemmas.List.{same_lists, get_or_past, get_or_default}
 use Rattle.pc_num.specs.declared.Frac.{Frac}
 use Rattle.pc_model.specs.declared.tree.Mult.{Mult}
-use Rattle.pc_bound.specs.declared.program.Program.{Program}
-use Rattle.pc_bound.specs.Sums.{nat_at}
-use Rattle.pc_bound.specs.Allocation.{cells_of, constraints_of, IsBox, IsProgram}
-use Rattle.pc_bound.specs.Bound.{IsVoid, HasFitWidth, without_gain}
-use Rattle.pc_tableau.specs.declared.step.Step.{Step}
-use Rattle.pc_tableau.specs.Tableau.{Tableau}
-use Rattle.pc_tableau.specs.Relaxation.{multiplier, multipliers, Ending, at_vertex, at_void, at_wide, at_stall, ending}
-use Rattle.pc_tableau.specs.Point.{under_at, count_over, no_count, IsPointOf, IsNarrow, Relaxation, vertex, void, wide, stalled, IsEnding, IsRelaxation}
-use Rattle.pc_tableau.proofs.Listed.{length-table}
-use Rattle.pc_tableau.proofs.Counted.{under-positive}
-use Rattle.pc_tableau.proofs.WholeEnds.{vertex_stands, vertex_counts, void_shows}
+use Rattle.pc_program_bound.specs.declared.program.Program.{Program}
+use Rattle.pc_program_bound.specs.Sums.{nat_at}
+use Rattle.pc_program_bound.specs.Allocation.{cells_of, constraints_of, IsBox, IsProgram}
+use Rattle.pc_program_bound.specs.Bound.{IsVoid, HasFitWidth, without_gain}
+use Rattle.pc_simplex_tableau.specs.declared.step.Step.{Step}
+use Rattle.pc_simplex_tableau.specs.Tableau.{Tableau}
+use Rattle.pc_simplex_tableau.specs.Relaxation.{multiplier, multipliers, Ending, at_vertex, at_void, at_wide, at_stall, ending}
+use Rattle.pc_simplex_tableau.specs.Point.{under_at, count_over, no_count, IsPointOf, IsNarrow, Relaxation, vertex, void, wide, stalled, IsEnding, IsRelaxation}
+use Rattle.pc_simplex_tableau.proofs.Listed.{length-table}
+use Rattle.pc_simplex_tableau.proofs.Counted.{under-positive}
+use Rattle.pc_simplex_tableau.proofs.WholeEnds.{vertex_stands, vertex_counts, void_shows}
 use Rattle.pc_simplex.specs.Vertices.{count_at, IsVertex}
 use Rattle.pc_simplex.proofs.Counts.{across, one_count}
 

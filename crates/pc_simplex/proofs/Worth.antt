@@ -5,12 +5,12 @@ use Rattle.std.proofs.lemmas.Int.{ints}
 use Rattle.std.proofs.Math.IntN.{*ℤ_comm}
 use Rattle.pc_num.specs.declared.Frac.{Frac}
 use Rattle.pc_model.specs.declared.tree.Mult.{Mult}
-use Rattle.pc_bound.specs.declared.program.Program.{Program}
-use Rattle.pc_bound.specs.Allocation.{worth, IsRelaxed}
-use Rattle.pc_bound.specs.Bound.{raw_bound}
-use Rattle.pc_bound.proofs.Ring.{mul_assoc, mul_mono}
-use Rattle.pc_bound.proofs.Duality.{duality}
-use Rattle.pc_tableau.proofs.Products.{le_cancel, mul_swap}
+use Rattle.pc_program_bound.specs.declared.program.Program.{Program}
+use Rattle.pc_program_bound.specs.Allocation.{worth, IsRelaxed}
+use Rattle.pc_program_bound.specs.Bound.{raw_bound}
+use Rattle.pc_program_bound.proofs.Ring.{mul_assoc, mul_mono}
+use Rattle.pc_program_bound.proofs.Duality.{duality}
+use Rattle.pc_simplex_tableau.proofs.Products.{le_cancel, mul_swap}
 use Rattle.pc_simplex.specs.Vertices.{IsVertex}
 
 -- what is under a bound over one denominator is under what reaches it over another

@@ -1,9 +1,9 @@
 -- The gains as an objective row, and rows by which an objective row can be freed.
 use Rattle.std.specs.Prelude.{◌≡◌, ◌<◌, ◌+◌, nat_lt, ℕ, ℤ, pos, neg_ℤ, Bool, false, cond, List, length, slice_index_or}
-use Rattle.pc_bound.specs.declared.program.Program.{Program}
-use Rattle.pc_bound.specs.Sums.{int_at}
-use Rattle.pc_bound.specs.Allocation.{cells_of}
-use Rattle.pc_tableau.specs.Tableau.{TableauRow}
+use Rattle.pc_program_bound.specs.declared.program.Program.{Program}
+use Rattle.pc_program_bound.specs.Sums.{int_at}
+use Rattle.pc_program_bound.specs.Allocation.{cells_of}
+use Rattle.pc_simplex_tableau.specs.Tableau.{TableauRow}
 
 -- the gain of a column: that of a cell, turned where the column is
 abbrev pub gain_at : Program → List Bool → ℕ → ℤ

@@ -1,10 +1,10 @@
 -- Counts as fractions.
 use Rattle.std.specs.Prelude.{◌<◌, ℕ, Bool, cond, ℤ, pos, ◌+ℤ◌, ◌-ℤ◌, ◌*ℤ◌, List}
 use Rattle.pc_num.specs.declared.Frac.{Frac}
-use Rattle.pc_bound.specs.declared.program.Program.{Program}
-use Rattle.pc_bound.specs.Allocation.{cells_of}
-use Rattle.pc_tableau.specs.Tableau.{Tableau}
-use Rattle.pc_tableau.specs.Point.{IsPointOf, IsFitCount}
+use Rattle.pc_program_bound.specs.declared.program.Program.{Program}
+use Rattle.pc_program_bound.specs.Allocation.{cells_of}
+use Rattle.pc_simplex_tableau.specs.Tableau.{Tableau}
+use Rattle.pc_simplex_tableau.specs.Point.{IsPointOf, IsFitCount}
 use Rattle.pc_simplex.specs.Vertices.{count_at}
 
 -- the count that a part above the end makes, or below it where the column is turned

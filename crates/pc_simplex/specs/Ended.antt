@@ -1,10 +1,10 @@
 -- What the steps of a box end in, as the code says it, and what is known of it.
 use Rattle.std.specs.Prelude.{◌≡◌, ℕ, pos, List, length, All}
-use Rattle.pc_bound.specs.declared.program.Program.{Program}
-use Rattle.pc_bound.specs.Allocation.{constraints_of}
-use Rattle.pc_bound.specs.Bound.{IsFit}
-use Rattle.pc_tableau.specs.Relaxation.{Ending, at_vertex, at_void, at_wide, at_stall, phase_two}
-use Rattle.pc_tableau.specs.Conditions.{IsSized, AreFitNumbers}
+use Rattle.pc_program_bound.specs.declared.program.Program.{Program}
+use Rattle.pc_program_bound.specs.Allocation.{constraints_of}
+use Rattle.pc_program_bound.specs.Bound.{IsFit}
+use Rattle.pc_simplex_tableau.specs.Relaxation.{Ending, at_vertex, at_void, at_wide, at_stall, phase_two}
+use Rattle.pc_simplex_tableau.specs.Conditions.{IsSized, AreFitNumbers}
 use Rattle.pc_simplex.specs.declared.phases.Ended as code
 use Rattle.pc_simplex.specs.declared.phases.Ended.TheVariants.{AtVertex, AtVoid, AtWide, AtStall}
 

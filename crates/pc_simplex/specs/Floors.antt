@@ -1,11 +1,11 @@
 -- Floors whose sums fit, and the numbers of a constraint that has so much left.
 use Rattle.std.specs.Prelude.{◌≡◌, ◌<◌, ◌≤◌, ◌^◌, ◌==◌, ◌-◌, ◌&&◌, ◌||◌, ◌-ℤ◌, nat_le, nat_lt, int_lt, ℕ, ℤ, pos, negsuc, Bool, cond, List, length, slice_set}
 use Rattle.pc_model.specs.Places.{has_bit}
-use Rattle.pc_bound.specs.declared.program.Program.{Program}
-use Rattle.pc_bound.specs.Sums.{nat_at}
-use Rattle.pc_bound.specs.Allocation.{cells_of}
-use Rattle.pc_tableau.specs.Tableau.{TableauRow}
-use Rattle.pc_tableau.specs.Relaxation.{columns_of, slack_of, helper_of, slack_range, left_of, is_short}
+use Rattle.pc_program_bound.specs.declared.program.Program.{Program}
+use Rattle.pc_program_bound.specs.Sums.{nat_at}
+use Rattle.pc_program_bound.specs.Allocation.{cells_of}
+use Rattle.pc_simplex_tableau.specs.Tableau.{TableauRow}
+use Rattle.pc_simplex_tableau.specs.Relaxation.{columns_of, slack_of, helper_of, slack_range, left_of, is_short}
 
 pub record AreFloors (p : Program) (floors : List ℕ) : Type 0 where
   pub sized : length floors ≡ cells_of p

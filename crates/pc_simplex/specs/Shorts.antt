@@ -2,15 +2,15 @@
 use Rattle.std.specs.Prelude.{◌≡◌, ◌<◌, ◌^◌, ℕ, zero, suc, ◌+◌, ◌-◌, ◌==◌, ◌&&◌, not, nat_lt, int_lt, ℤ, pos, ◌-ℤ◌, Bool, true, cond, List, [], ◌∷◌, ◌++◌, length, Some}
 use Rattle.std.specs.List.{list_all}
 use Rattle.pc_model.specs.Places.{has_bit}
-use Rattle.pc_bound.specs.declared.program.Program.{Program}
-use Rattle.pc_bound.specs.Sums.{nat_at, int_at}
-use Rattle.pc_bound.specs.Allocation.{cells_of, constraints_of}
-use Rattle.pc_tableau.specs.Numbers.{table}
-use Rattle.pc_tableau.specs.Tableau.{TableauRow, Tableau, Columns, is_helper, range_of, run}
-use Rattle.pc_tableau.specs.declared.step.Step.{Step}
-use Rattle.pc_tableau.specs.Conditions.{IsSized, AreFitNumbers}
-use Rattle.pc_tableau.specs.Relaxation.{columns_of, slack_of, helper_of, slack_range, left_of, is_short, freed, does_freed_fit, Ending, at_vertex, at_void, at_wide, at_stall}
-use Rattle.pc_short.specs.Short.{Setting}
+use Rattle.pc_program_bound.specs.declared.program.Program.{Program}
+use Rattle.pc_program_bound.specs.Sums.{nat_at, int_at}
+use Rattle.pc_program_bound.specs.Allocation.{cells_of, constraints_of}
+use Rattle.pc_simplex_tableau.specs.Numbers.{table}
+use Rattle.pc_simplex_tableau.specs.Tableau.{TableauRow, Tableau, Columns, is_helper, range_of, run}
+use Rattle.pc_simplex_tableau.specs.declared.step.Step.{Step}
+use Rattle.pc_simplex_tableau.specs.Conditions.{IsSized, AreFitNumbers}
+use Rattle.pc_simplex_tableau.specs.Relaxation.{columns_of, slack_of, helper_of, slack_range, left_of, is_short, freed, does_freed_fit, Ending, at_vertex, at_void, at_wide, at_stall}
+use Rattle.pc_simplex_short.specs.Short.{ShortSetting}
 use Rattle.pc_simplex.specs.Floors.{does_start_turned}
 use Rattle.pc_simplex.specs.Phases.{ending_by}
 
@@ -32,7 +32,7 @@ pub record AreColumns (p : Program) (f : Columns) : Type 0 where
   pub few : columns_of p < 2 ^ 32
   pub ends : (k u : ℕ) → range_of f k ≡ Some u → u < 2 ^ 64
 
-abbrev pub setting_of : Program → Columns → List ℤ → ℕ → Setting
+abbrev pub setting_of : Program → Columns → List ℤ → ℕ → ShortSetting
 setting_of p columns gains top = record {
   columns = columns;
   places = table (columns_of p) (column_places p);
@@ -71,10 +71,10 @@ abbrev pub second_short : Program → Tableau → Tableau
 second_short p t = record t { aim = no_aim p; weight = pos 1 }
 
 -- a row whose helper is left above nothing
-abbrev pub is_left_short : Setting → TableauRow → Bool
+abbrev pub is_left_short : ShortSetting → TableauRow → Bool
 is_left_short f row = is_helper f.columns row.basic && int_lt (pos 0) (int_at row.numbers f.constraints)
 
-abbrev pub has_left : Setting → List TableauRow → Bool
+abbrev pub has_left : ShortSetting → List TableauRow → Bool
 has_left f rows = not (list_all (λ row. not (is_left_short f row)) rows)
 
 -- ---- what the steps of the second phase end in

@@ -3,11 +3,11 @@ use Rattle.std.specs.Prelude.{◌≡◌, ◌<◌, ℕ, pos, nat_abs, ◌*ℤ◌,
 use Rattle.std.specs.Int.{IsGcd}
 use Rattle.pc_num.specs.declared.Frac.{Frac}
 use Rattle.pc_model.specs.declared.tree.Mult.{Mult}
-use Rattle.pc_bound.specs.declared.program.Program.{Program}
-use Rattle.pc_bound.specs.Sums.{nat_at}
-use Rattle.pc_bound.specs.Allocation.{cells_of, worth, IsRelaxed}
-use Rattle.pc_bound.specs.Bound.{raw_bound, IsFit, IsMultiplier, IsVoid}
-use Rattle.pc_tableau.specs.Point.{Relaxation, vertex, void, wide, stalled, no_count}
+use Rattle.pc_program_bound.specs.declared.program.Program.{Program}
+use Rattle.pc_program_bound.specs.Sums.{nat_at}
+use Rattle.pc_program_bound.specs.Allocation.{cells_of, worth, IsRelaxed}
+use Rattle.pc_program_bound.specs.Bound.{raw_bound, IsFit, IsMultiplier, IsVoid}
+use Rattle.pc_simplex_tableau.specs.Point.{Relaxation, vertex, void, wide, stalled, no_count}
 
 -- the count of a cell
 abbrev pub count_at : List Frac → ℕ → Frac

@@ -1,17 +1,17 @@
 ghost use Rattle.std.specs.Prelude.{◌≡◌, ◌<◌, neg_ℤ, pos, nat_lt, cond, length, All, IsTrue, IfOk};
-ghost use Rattle.pc_bound.specs.Sums.{int_at};
-ghost use Rattle.pc_bound.specs.Allocation.{IsProgram, cells_of};
-ghost use Rattle.pc_bound.specs.Bound.{IsFit};
-ghost use Rattle.pc_tableau.specs.Numbers.{table};
-ghost use Rattle.pc_tableau.specs.Tableau.{Columns};
-ghost use Rattle.pc_tableau.specs.Conditions.{IsSized, AreFitNumbers};
-ghost use Rattle.pc_tableau.specs.Relaxation.{columns_of, with_gains, freed, does_freed_fit};
-ghost use Rattle.pc_tableau.specs.Standing.{basic_at};
+ghost use Rattle.pc_program_bound.specs.Sums.{int_at};
+ghost use Rattle.pc_program_bound.specs.Allocation.{IsProgram, cells_of};
+ghost use Rattle.pc_program_bound.specs.Bound.{IsFit};
+ghost use Rattle.pc_simplex_tableau.specs.Numbers.{table};
+ghost use Rattle.pc_simplex_tableau.specs.Tableau.{Columns};
+ghost use Rattle.pc_simplex_tableau.specs.Conditions.{IsSized, AreFitNumbers};
+ghost use Rattle.pc_simplex_tableau.specs.Relaxation.{columns_of, with_gains, freed, does_freed_fit};
+ghost use Rattle.pc_simplex_tableau.specs.Standing.{basic_at};
 ghost use Rattle.pc_simplex.specs.Aims.{gain_at, IsOver};
 
-use pc_bound::Program;
 use pc_num::Memory;
-use pc_tableau::Tableau;
+use pc_program_bound::Program;
+use pc_simplex_tableau::Tableau;
 use std::alloc::Global;
 
 /// Takes the gains as objective row.
@@ -30,7 +30,7 @@ pub(crate) fn with_gains(alloc: Global, p: &Program, tableau: Tableau) -> Result
     Ok(tableau)
 }
 
-#[tactic(auto, using(pc_tableau::proofs::Tables::table_steps))]
+#[tactic(auto, using(pc_simplex_tableau::proofs::Tables::table_steps))]
 fn gains(alloc: Global, p: &Program, turned: &[bool]) -> Result<Vec<i128>, Memory>
     requires program { IsProgram p.now }
     requires gains { All IsFit p.now.gain }

@@ -1,13 +1,13 @@
 ghost use Rattle.std.specs.Prelude.{◌≡◌, ◌<◌, ◌-◌, ◌++◌, ◌^◌, IfOk};
-ghost use Rattle.pc_bound.specs.Sums.{nat_at};
-ghost use Rattle.pc_bound.specs.Allocation.{IsProgram, IsBox, cells_of, constraints_of};
-ghost use Rattle.pc_tableau.specs.Numbers.{table};
-ghost use Rattle.pc_tableau.specs.Relaxation.{columns_of, slack_range, phase_one};
+ghost use Rattle.pc_program_bound.specs.Sums.{nat_at};
+ghost use Rattle.pc_program_bound.specs.Allocation.{IsProgram, IsBox, cells_of, constraints_of};
+ghost use Rattle.pc_simplex_tableau.specs.Numbers.{table};
+ghost use Rattle.pc_simplex_tableau.specs.Relaxation.{columns_of, slack_range, phase_one};
 
-use pc_bound::Program;
 use pc_list::Seq;
 use pc_num::Memory;
-use pc_tableau::Columns;
+use pc_program_bound::Program;
+use pc_simplex_tableau::Columns;
 use std::alloc::Global;
 
 /// The columns of the first phase. Steps name columns by numbers below 2^32, so more columns than that are too many to be held.
@@ -52,7 +52,7 @@ pub(crate) fn columns_of(p: &Program) -> usize
     p.masks.len() + 2 * p.least.len()
 }
 
-#[tactic(auto, using(pc_tableau::proofs::Tables::table_steps))]
+#[tactic(auto, using(pc_simplex_tableau::proofs::Tables::table_steps))]
 fn cell_ranges(alloc: Global, p: &Program, floor: &[u64], cap: &[u64]) -> Result<Seq<u64>, Memory>
     requires inside { IsBox p.now floor.now cap.now }
     ensures { IfOk result (λ ranges. ranges ≡ table (cells_of p.now) (λ i. nat_at cap.now i - nat_at floor.now i)) }
@@ -64,7 +64,7 @@ fn cell_ranges(alloc: Global, p: &Program, floor: &[u64], cap: &[u64]) -> Result
     Ok(ranges)
 }
 
-#[tactic(auto, using(pc_tableau::proofs::Tables::table_steps))]
+#[tactic(auto, using(pc_simplex_tableau::proofs::Tables::table_steps))]
 fn with_slack_ranges(cells: Seq<u64>, p: &Program) -> Result<Seq<u64>, Memory>
     requires program { IsProgram p.now }
     ensures { IfOk result (λ ranges. ranges ≡ cells ++ table (constraints_of p.now) (slack_range p.now)) }

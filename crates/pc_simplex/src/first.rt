@@ -1,19 +1,19 @@
 ghost use Rattle.std.specs.Prelude.{◌≡◌, ◌<◌, ◌<ℤ◌, ◌+◌, ◌^◌, ℕ, List, int_lt, pos, cond, [], length, IfOk};
 ghost use Rattle.pc_model.specs.Places.{has_bit};
-ghost use Rattle.pc_bound.specs.Allocation.{IsProgram, constraints_of};
-ghost use Rattle.pc_bound.specs.Bound.{IsFit};
-ghost use Rattle.pc_tableau.specs.Numbers.{table};
-ghost use Rattle.pc_tableau.specs.Relaxation.{columns_of, slack_range, is_short, phase_one, first_row, first_tableau};
-ghost use Rattle.pc_tableau.specs.Standing.{gain_one};
-ghost use Rattle.pc_tableau.specs.Conditions.{IsSized, AreFitNumbers};
+ghost use Rattle.pc_program_bound.specs.Allocation.{IsProgram, constraints_of};
+ghost use Rattle.pc_program_bound.specs.Bound.{IsFit};
+ghost use Rattle.pc_simplex_tableau.specs.Numbers.{table};
+ghost use Rattle.pc_simplex_tableau.specs.Relaxation.{columns_of, slack_range, is_short, phase_one, first_row, first_tableau};
+ghost use Rattle.pc_simplex_tableau.specs.Standing.{gain_one};
+ghost use Rattle.pc_simplex_tableau.specs.Conditions.{IsSized, AreFitNumbers};
 ghost use Rattle.pc_simplex.specs.Floors.{AreFloors, number_at, does_start_turned, short_row};
 
 use crate::columns::{columns_of, slack_range};
 use crate::left::left_of;
-use pc_bound::Program;
 use pc_model::has_bit;
 use pc_num::Memory;
-use pc_tableau::{Row, Tableau};
+use pc_program_bound::Program;
+use pc_simplex_tableau::{Tableau, WholeRow};
 use std::alloc::Global;
 
 /// The tableau in which the first phase starts, before its objective row is freed. The caps take no part in it.
@@ -35,8 +35,8 @@ pub(crate) fn first_tableau(alloc: Global, p: &Program, floor: &[u64]) -> Result
     })
 }
 
-#[tactic(auto, using(pc_tableau::proofs::Tables::table_steps))]
-fn first_rows(alloc: Global, p: &Program, floor: &[u64]) -> Result<Vec<Row>, Memory>
+#[tactic(auto, using(pc_simplex_tableau::proofs::Tables::table_steps))]
+fn first_rows(alloc: Global, p: &Program, floor: &[u64]) -> Result<Vec<WholeRow>, Memory>
     requires program { IsProgram p.now }
     requires floors { AreFloors p.now floor.now }
     ensures { IfOk result (λ rows. rows.items ≡ table (constraints_of p.now) (first_row p.now floor.now [])) }
@@ -49,7 +49,12 @@ fn first_rows(alloc: Global, p: &Program, floor: &[u64]) -> Result<Vec<Row>, Mem
 }
 
 /// The row of a constraint: its slack is basic, or, where the constraint is short, its slack is turned and its helper basic.
-fn first_row(alloc: Global, p: &Program, floor: &[u64], constraint: usize) -> Result<Row, Memory>
+fn first_row(
+    alloc: Global,
+    p: &Program,
+    floor: &[u64],
+    constraint: usize,
+) -> Result<WholeRow, Memory>
     requires program { IsProgram p.now }
     requires floors { AreFloors p.now floor.now }
     requires own { constraint < constraints_of p.now }
@@ -60,13 +65,13 @@ fn first_row(alloc: Global, p: &Program, floor: &[u64], constraint: usize) -> Re
     if is_short_by(p, constraint, left) {
         return Ok(short_row(p, constraint, left, numbers));
     }
-    Ok(Row {
+    Ok(WholeRow {
         numbers,
         basic: p.masks.len() + constraint,
     })
 }
 
-fn short_row(p: &Program, constraint: usize, left: i128, numbers: Vec<i128>) -> Row
+fn short_row(p: &Program, constraint: usize, left: i128, numbers: Vec<i128>) -> WholeRow
     requires program { IsProgram p.now }
     requires few { columns_of p.now < 2 ^ 32 }
     requires own { constraint < constraints_of p.now }
@@ -79,14 +84,14 @@ fn short_row(p: &Program, constraint: usize, left: i128, numbers: Vec<i128>) -> 
     let mut numbers = numbers;
     numbers[columns_of(p)] = left - slack_range(p, constraint) as i128;
     numbers[slack] = -1;
-    Row {
+    WholeRow {
         numbers,
         basic: slack + p.least.len(),
     }
 }
 
 /// The numbers of a constraint that has so much left.
-#[tactic(auto, using(pc_tableau::proofs::Tables::table_steps))]
+#[tactic(auto, using(pc_simplex_tableau::proofs::Tables::table_steps))]
 fn first_numbers(
     alloc: Global,
     p: &Program,
@@ -158,7 +163,7 @@ fn is_short(p: &Program, floor: &[u64], constraint: usize) -> bool
 }
 
 /// Which columns start turned: the slacks of short constraints.
-#[tactic(auto, using(pc_tableau::proofs::Tables::table_steps))]
+#[tactic(auto, using(pc_simplex_tableau::proofs::Tables::table_steps))]
 pub(crate) fn first_turned(alloc: Global, p: &Program, floor: &[u64]) -> Result<Vec<bool>, Memory>
     requires program { IsProgram p.now }
     requires floors { AreFloors p.now floor.now }
@@ -187,7 +192,7 @@ fn starts_turned(p: &Program, floor: &[u64], column: usize) -> bool
 }
 
 /// The first objective row: the helpers of short constraints lose one.
-#[tactic(auto, using(pc_tableau::proofs::Tables::table_steps))]
+#[tactic(auto, using(pc_simplex_tableau::proofs::Tables::table_steps))]
 pub(crate) fn first_aim(alloc: Global, p: &Program, floor: &[u64]) -> Result<Vec<i128>, Memory>
     requires program { IsProgram p.now }
     requires floors { AreFloors p.now floor.now }

@@ -1,10 +1,10 @@
 ghost use Rattle.std.specs.Prelude.{◌≡◌, ℕ, List, pos, ◌*ℤ◌, ◌≤ℤ◌};
 ghost use Rattle.pc_num.specs.declared.Frac.{Frac};
 ghost use Rattle.pc_model.specs.declared.tree.Mult.{Mult};
-ghost use Rattle.pc_bound.specs.declared.program.Program.{Program};
-ghost use Rattle.pc_bound.specs.Allocation.{worth, IsRelaxed, IsBox, IsProgram};
-ghost use Rattle.pc_bound.specs.Bound.{IsVoid};
-ghost use Rattle.pc_tableau.specs.Point.{Relaxation, vertex, void, IsRelaxation};
+ghost use Rattle.pc_program_bound.specs.declared.program.Program.{Program};
+ghost use Rattle.pc_program_bound.specs.Allocation.{worth, IsRelaxed, IsBox, IsProgram};
+ghost use Rattle.pc_program_bound.specs.Bound.{IsVoid};
+ghost use Rattle.pc_simplex_tableau.specs.Point.{Relaxation, vertex, void, IsRelaxation};
 ghost use Rattle.pc_simplex.specs.Vertices.{IsVertex};
 
 /// The point in which the steps of a box end is a relaxed allocation, whose worth is the bound of the multipliers.

@@ -1,14 +1,14 @@
 ghost use Rattle.std.specs.Prelude.{◌≡◌, ◌<◌, pos, cond, IfOk};
-ghost use Rattle.pc_bound.specs.Allocation.{IsProgram, constraints_of};
-ghost use Rattle.pc_bound.specs.Bound.{IsFit};
-ghost use Rattle.pc_tableau.specs.Numbers.{first_below};
-ghost use Rattle.pc_tableau.specs.Relaxation.{left_of, one_at};
+ghost use Rattle.pc_program_bound.specs.Allocation.{IsProgram, constraints_of};
+ghost use Rattle.pc_program_bound.specs.Bound.{IsFit};
+ghost use Rattle.pc_simplex_tableau.specs.Numbers.{first_below};
+ghost use Rattle.pc_simplex_tableau.specs.Relaxation.{left_of, one_at};
 ghost use Rattle.pc_simplex.specs.Floors.{AreFloors, is_overfull};
 
-use pc_bound::{Program, total_of};
 use pc_list::Seq;
 use pc_model::Mult;
 use pc_num::Memory;
+use pc_program_bound::{Program, total_of};
 use std::alloc::Global;
 
 /// What the floors leave of the most of a constraint.
@@ -48,7 +48,7 @@ fn is_overfull(p: &Program, floor: &[u64], constraint: usize) -> bool
 }
 
 /// The multipliers that take a constraint once.
-#[tactic(auto, using(pc_tableau::proofs::Tables::table_steps))]
+#[tactic(auto, using(pc_simplex_tableau::proofs::Tables::table_steps))]
 pub(crate) fn one_at(alloc: Global, p: &Program, constraint: usize) -> Result<Mult, Memory>
     ensures { IfOk result (λ mult. mult ≡ one_at p.now constraint) }
 {

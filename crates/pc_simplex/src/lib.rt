@@ -20,5 +20,5 @@ pub use laws::{
     boxes_have_one_relaxation, vertices_are_greatest_points, vertices_are_worth_most,
     voids_show_their_boxes,
 };
-pub use pc_tableau::Step;
+pub use pc_simplex_tableau::Step;
 pub use relaxed::{Relaxed, relax};

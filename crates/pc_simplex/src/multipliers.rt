@@ -1,14 +1,14 @@
 ghost use Rattle.std.specs.Prelude.{◌≡◌, ◌<◌, neg_ℤ, cond, length, All, IfOk};
-ghost use Rattle.pc_bound.specs.Sums.{int_at};
-ghost use Rattle.pc_bound.specs.Bound.{IsFit};
-ghost use Rattle.pc_tableau.specs.Tableau.{is_turned};
-ghost use Rattle.pc_tableau.specs.Relaxation.{columns_of, multipliers};
+ghost use Rattle.pc_program_bound.specs.Sums.{int_at};
+ghost use Rattle.pc_program_bound.specs.Bound.{IsFit};
+ghost use Rattle.pc_simplex_tableau.specs.Tableau.{is_turned};
+ghost use Rattle.pc_simplex_tableau.specs.Relaxation.{columns_of, multipliers};
 
-use pc_bound::Program;
 use pc_list::Seq;
 use pc_model::Mult;
 use pc_num::Memory;
-use pc_tableau::Tableau;
+use pc_program_bound::Program;
+use pc_simplex_tableau::Tableau;
 use std::alloc::Global;
 
 /// The multipliers that the slacks' entries in the objective row give, over a denominator.

@@ -1,10 +1,10 @@
 ghost use Rattle.std.specs.Prelude.{◌≡◌, ◌<◌, ◌^◌, ℕ, List, [], All, None, IfOk};
-ghost use Rattle.pc_bound.specs.Allocation.{IsProgram, IsBox, constraints_of};
-ghost use Rattle.pc_bound.specs.Bound.{IsFit};
-ghost use Rattle.pc_tableau.specs.Relaxation.{columns_of, ending, at_void, one_at, has_helper, phase_one, phase_two, phase_one_from, phase_two_from, first_tableau};
-ghost use Rattle.pc_tableau.specs.Numbers.{first_below};
-ghost use Rattle.pc_tableau.specs.Conditions.{IsSizedRow, IsSized, AreFitNumbers};
-ghost use Rattle.pc_tableau.specs.Runs.{run_of};
+ghost use Rattle.pc_program_bound.specs.Allocation.{IsProgram, IsBox, constraints_of};
+ghost use Rattle.pc_program_bound.specs.Bound.{IsFit};
+ghost use Rattle.pc_simplex_tableau.specs.Relaxation.{columns_of, ending, at_void, one_at, has_helper, phase_one, phase_two, phase_one_from, phase_two_from, first_tableau};
+ghost use Rattle.pc_simplex_tableau.specs.Numbers.{first_below};
+ghost use Rattle.pc_simplex_tableau.specs.Conditions.{IsSizedRow, IsSized, AreFitNumbers};
+ghost use Rattle.pc_simplex_tableau.specs.Runs.{run_of};
 ghost use Rattle.pc_simplex.specs.Floors.{is_overfull};
 ghost use Rattle.pc_simplex.specs.Ended.{ending_of, IsSoundEnding};
 ghost use Rattle.pc_simplex.specs.Phases.{is_left, ending_by, after_phase_one};
@@ -15,11 +15,11 @@ use crate::first::first_tableau;
 use crate::left::{first_overfull, one_at};
 use crate::multipliers::multipliers;
 use crate::short_phases::take_short_phases;
-use pc_bound::Program;
 use pc_list::Seq;
 use pc_model::Mult;
 use pc_num::Memory;
-use pc_tableau::{Columns, Row, Run, Step, Tableau, take_steps};
+use pc_program_bound::Program;
+use pc_simplex_tableau::{Columns, Step, Tableau, WholeRow, WholeRun, take_steps};
 use std::alloc::Global;
 
 /// What the steps of a box end in, before the width of it is asked.
@@ -115,11 +115,11 @@ fn phase_one(alloc: Global, p: &Program, columns: Columns, start: Tableau) -> Re
         return Ok(Ended::AtWide(Seq::new(alloc)));
     }
     match take_steps(&columns, tableau, 20_000, Seq::new(alloc))? {
-        Run::Ended(left, steps, tableau) => {
+        WholeRun::Ended(left, steps, tableau) => {
             after_phase_one(alloc, p, columns, left, steps, tableau)
         }
-        Run::Wide(steps) => Ok(Ended::AtWide(steps)),
-        Run::Stalled(steps) => Ok(Ended::AtStall(steps)),
+        WholeRun::Wide(steps) => Ok(Ended::AtWide(steps)),
+        WholeRun::Stalled(steps) => Ok(Ended::AtStall(steps)),
     }
 }
 
@@ -177,13 +177,13 @@ fn phase_two(
     Ok(ended_by(run))
 }
 
-fn ended_by(run: Run) -> Ended
+fn ended_by(run: WholeRun) -> Ended
     ensures { ending_of result ≡ ending_by (run_of run) }
 {
     match run {
-        Run::Ended(_left, steps, tableau) => Ended::AtVertex(steps, tableau),
-        Run::Wide(steps) => Ended::AtWide(steps),
-        Run::Stalled(steps) => Ended::AtStall(steps),
+        WholeRun::Ended(_left, steps, tableau) => Ended::AtVertex(steps, tableau),
+        WholeRun::Wide(steps) => Ended::AtWide(steps),
+        WholeRun::Stalled(steps) => Ended::AtStall(steps),
     }
 }
 
@@ -200,7 +200,7 @@ fn has_helper(columns: &Columns, tableau: &Tableau) -> bool
     false
 }
 
-fn is_left(columns: &Columns, row: &Row) -> bool
+fn is_left(columns: &Columns, row: &WholeRow) -> bool
     requires { IsSizedRow columns.now row.now }
     ensures { result ≡ is_left columns.now row.now }
 {

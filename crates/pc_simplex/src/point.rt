@@ -1,20 +1,20 @@
 ghost use Rattle.std.specs.Prelude.{◌≡◌, ◌==◌, ◌<◌, ◌^◌, ◌≤ℤ◌, ◌<ℤ◌, ◌*ℤ◌, ◌+◌, List, pos, true, None, cond, IsTrue, length, All, IfOk, IfSome, SomeIff};
 ghost use Rattle.pc_num.specs.declared.Frac.{Frac};
 ghost use Rattle.pc_num.specs.Fractions.{IsFrac, IsQuotient};
-ghost use Rattle.pc_bound.specs.Sums.{nat_at};
-ghost use Rattle.pc_bound.specs.Allocation.{IsProgram, IsBox, cells_of};
-ghost use Rattle.pc_bound.specs.Bound.{IsFit};
-ghost use Rattle.pc_tableau.specs.Tableau.{row_at, is_turned};
-ghost use Rattle.pc_tableau.specs.Relaxation.{phase_two, columns_of};
-ghost use Rattle.pc_tableau.specs.Standing.{IsStanding, gain_two};
-ghost use Rattle.pc_tableau.specs.Conditions.{IsSized, AreFitNumbers};
-ghost use Rattle.pc_tableau.specs.Point.{row_of, over_at, under_at, IsCount, IsFitCount};
+ghost use Rattle.pc_program_bound.specs.Sums.{nat_at};
+ghost use Rattle.pc_program_bound.specs.Allocation.{IsProgram, IsBox, cells_of};
+ghost use Rattle.pc_program_bound.specs.Bound.{IsFit};
+ghost use Rattle.pc_simplex_tableau.specs.Tableau.{row_at, is_turned};
+ghost use Rattle.pc_simplex_tableau.specs.Relaxation.{phase_two, columns_of};
+ghost use Rattle.pc_simplex_tableau.specs.Standing.{IsStanding, gain_two};
+ghost use Rattle.pc_simplex_tableau.specs.Conditions.{IsSized, AreFitNumbers};
+ghost use Rattle.pc_simplex_tableau.specs.Point.{row_of, over_at, under_at, IsCount, IsFitCount};
 ghost use Rattle.pc_simplex.specs.Counts.{numerator, counted, IsFitPoint};
 
-use pc_bound::Program;
 use pc_list::Seq;
 use pc_num::{Frac, Memory};
-use pc_tableau::Tableau;
+use pc_program_bound::Program;
+use pc_simplex_tableau::Tableau;
 use std::alloc::Global;
 
 // The greatest size of a number that fits.

@@ -1,20 +1,20 @@
 ghost use Rattle.std.specs.Prelude.{◌≡◌, ◌↔◌, ◌≤ℤ◌, pos, length, All, IsTrue, IfOk};
-ghost use Rattle.pc_bound.specs.Allocation.{IsProgram, IsBox, constraints_of};
-ghost use Rattle.pc_bound.specs.Bound.{IsFit, HasFitWidth, without_gain};
-ghost use Rattle.pc_tableau.specs.Relaxation.{ending, at_vertex, at_void, phase_two};
-ghost use Rattle.pc_tableau.specs.Conditions.{IsSized, AreFitNumbers};
-ghost use Rattle.pc_tableau.specs.Point.{IsRelaxation};
+ghost use Rattle.pc_program_bound.specs.Allocation.{IsProgram, IsBox, constraints_of};
+ghost use Rattle.pc_program_bound.specs.Bound.{IsFit, HasFitWidth, without_gain};
+ghost use Rattle.pc_simplex_tableau.specs.Relaxation.{ending, at_vertex, at_void, phase_two};
+ghost use Rattle.pc_simplex_tableau.specs.Conditions.{IsSized, AreFitNumbers};
+ghost use Rattle.pc_simplex_tableau.specs.Point.{IsRelaxation};
 ghost use Rattle.pc_simplex.specs.Relaxed.{relaxation_of};
 ghost use Rattle.pc_simplex.specs.Vertices.{IsShown, IsGreatest, AreFitMultipliers};
 
 use crate::multipliers::multipliers;
 use crate::phases::{Ended, take_both_phases};
 use crate::point::point;
-use pc_bound::{Program, dual_bound};
 use pc_list::Seq;
 use pc_model::Mult;
 use pc_num::{Frac, Memory};
-use pc_tableau::{Step, Tableau};
+use pc_program_bound::{Program, dual_bound};
+use pc_simplex_tableau::{Step, Tableau};
 use std::alloc::Global;
 
 /// The relaxation of a program over a box. The steps that were taken are kept where they end in nothing that can be said:

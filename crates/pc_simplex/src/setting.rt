@@ -1,23 +1,23 @@
 ghost use Rattle.std.specs.Prelude.{◌≡◌, ◌<◌, ◌≤◌, ◌^◌, ◌-◌, nat_abs, cond, nat_lt, [], ◌∷◌, Some, length, All, IfOk};
 ghost use Rattle.pc_model.specs.Places.{has_bit};
-ghost use Rattle.pc_bound.specs.Sums.{nat_at};
-ghost use Rattle.pc_bound.specs.Allocation.{IsProgram, cells_of, constraints_of};
-ghost use Rattle.pc_bound.specs.Bound.{IsFit};
-ghost use Rattle.pc_tableau.specs.Numbers.{table};
-ghost use Rattle.pc_tableau.specs.Relaxation.{columns_of};
-ghost use Rattle.pc_tableau.specs.Standing.{gain_one, gain_two};
-ghost use Rattle.pc_short.specs.Kept.{IsSetting};
+ghost use Rattle.pc_program_bound.specs.Sums.{nat_at};
+ghost use Rattle.pc_program_bound.specs.Allocation.{IsProgram, cells_of, constraints_of};
+ghost use Rattle.pc_program_bound.specs.Bound.{IsFit};
+ghost use Rattle.pc_simplex_tableau.specs.Numbers.{table};
+ghost use Rattle.pc_simplex_tableau.specs.Relaxation.{columns_of};
+ghost use Rattle.pc_simplex_tableau.specs.Standing.{gain_one, gain_two};
+ghost use Rattle.pc_simplex_short.specs.Kept.{IsSetting};
 ghost use Rattle.pc_simplex.specs.Floors.{AreFloors};
 ghost use Rattle.pc_simplex.specs.Shorts.{AreColumns, places_below, column_places, setting_of};
 
 use crate::columns::columns_of;
 use crate::first::first_aim;
-use pc_bound::Program;
 use pc_list::Seq;
 use pc_model::has_bit;
 use pc_num::Memory;
-use pc_short::Setting;
-use pc_tableau::Columns;
+use pc_program_bound::Program;
+use pc_simplex_short::ShortSetting;
+use pc_simplex_tableau::Columns;
 use std::alloc::Global;
 
 /// What the first phase leaves as it is.
@@ -26,7 +26,7 @@ pub(crate) fn first_setting(
     p: &Program,
     floor: &[u64],
     columns: Columns,
-) -> Result<Setting, Memory>
+) -> Result<ShortSetting, Memory>
     requires program { IsProgram p.now }
     requires floors { AreFloors p.now floor.now }
     requires columns { AreColumns p.now columns }
@@ -35,7 +35,7 @@ pub(crate) fn first_setting(
 {
     let places = all_places(alloc, p)?;
     let gains = Seq::from_vec(first_aim(alloc, p, floor)?);
-    Ok(Setting {
+    Ok(ShortSetting {
         columns,
         places,
         gains,
@@ -48,8 +48,8 @@ pub(crate) fn first_setting(
 pub(crate) fn second_setting(
     alloc: Global,
     p: &Program,
-    setting: Setting,
-) -> Result<Setting, Memory>
+    setting: ShortSetting,
+) -> Result<ShortSetting, Memory>
     requires program { IsProgram p.now }
     requires gains { All IsFit p.now.gain }
     requires columns { AreColumns p.now setting.columns }
@@ -58,7 +58,7 @@ pub(crate) fn second_setting(
     ensures setting { IfOk result IsSetting }
 {
     let gains = all_gains(alloc, p)?;
-    let Setting {
+    let ShortSetting {
         columns,
         places,
         gains: _,
@@ -67,7 +67,7 @@ pub(crate) fn second_setting(
     } = setting;
     let mut columns = columns;
     columns.helper = Some(0);
-    Ok(Setting {
+    Ok(ShortSetting {
         columns,
         places,
         gains,
@@ -96,7 +96,7 @@ fn greater(a: u128, b: u128) -> u128
 }
 
 /// The gains of all columns: those of the cells, and 0.
-#[tactic(auto, using(pc_tableau::proofs::Tables::table_steps))]
+#[tactic(auto, using(pc_simplex_tableau::proofs::Tables::table_steps))]
 fn all_gains(alloc: Global, p: &Program) -> Result<Seq<i128>, Memory>
     requires program { IsProgram p.now }
     requires few { columns_of p.now < 2 ^ 32 }
@@ -121,7 +121,7 @@ fn gain_of(p: &Program, column: usize) -> i128
 }
 
 /// The constraints of each column by number.
-#[tactic(auto, using(pc_tableau::proofs::Tables::table_steps))]
+#[tactic(auto, using(pc_simplex_tableau::proofs::Tables::table_steps))]
 fn all_places(alloc: Global, p: &Program) -> Result<Seq<Seq<usize>>, Memory>
     requires program { IsProgram p.now }
     requires few { columns_of p.now < 2 ^ 32 }

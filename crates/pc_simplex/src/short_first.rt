@@ -1,15 +1,15 @@
 ghost use Rattle.std.specs.Prelude.{◌≡◌, ◌<◌, ◌≤◌, ◌^◌, ◌==◌, ◌++◌, [], ◌∷◌, pos, cond, None, IfOk, IfSome};
-ghost use Rattle.pc_bound.specs.Allocation.{IsProgram, constraints_of};
-ghost use Rattle.pc_tableau.specs.Numbers.{table, first_below};
+ghost use Rattle.pc_program_bound.specs.Allocation.{IsProgram, constraints_of};
+ghost use Rattle.pc_simplex_tableau.specs.Numbers.{table, first_below};
 ghost use Rattle.pc_simplex.specs.Floors.{AreFloors, is_overfull};
 ghost use Rattle.pc_simplex.specs.Shorts.{short_value, unit_row, first_short_row, no_aim, first_short, second_short};
 
 use crate::columns::slack_range;
 use crate::first::{first_turned, is_short_by};
 use crate::left::{left_of, one_if};
-use pc_bound::Program;
 use pc_num::Memory;
-use pc_short::{ShortRow, ShortTableau};
+use pc_program_bound::Program;
+use pc_simplex_short::{ShortRow, ShortTableau};
 use std::alloc::Global;
 
 /// The tableau in which the first phase starts, in short form, before its objective row is freed.
@@ -29,7 +29,7 @@ pub(crate) fn first_short(alloc: Global, p: &Program, floor: &[u64]) -> Result<S
     })
 }
 
-#[tactic(auto, using(pc_tableau::proofs::Tables::table_steps))]
+#[tactic(auto, using(pc_simplex_tableau::proofs::Tables::table_steps))]
 fn first_rows(alloc: Global, p: &Program, floor: &[u64]) -> Result<Vec<ShortRow>, Memory>
     requires program { IsProgram p.now }
     requires floors { AreFloors p.now floor.now }
@@ -71,7 +71,7 @@ fn first_row(
     })
 }
 
-#[tactic(auto, using(pc_tableau::proofs::Tables::table_steps))]
+#[tactic(auto, using(pc_simplex_tableau::proofs::Tables::table_steps))]
 fn unit_row(alloc: Global, p: &Program, constraint: usize, value: i128) -> Result<Vec<i128>, Memory>
     requires program { IsProgram p.now }
     requires own { constraint < constraints_of p.now }
@@ -86,7 +86,7 @@ fn unit_row(alloc: Global, p: &Program, constraint: usize, value: i128) -> Resul
 }
 
 /// An objective row with no constraint in it.
-#[tactic(auto, using(pc_tableau::proofs::Tables::table_steps))]
+#[tactic(auto, using(pc_simplex_tableau::proofs::Tables::table_steps))]
 fn no_aim(alloc: Global, p: &Program) -> Result<Vec<i128>, Memory>
     ensures { IfOk result (λ aim. aim.items ≡ no_aim p.now) }
 {

@@ -1,11 +1,11 @@
 ghost use Rattle.std.specs.Prelude.{◌≡◌, ◌<◌, ◌^◌, ℕ, List, All, length, pos, None, IsTrue, IfOk, IfSome};
-ghost use Rattle.pc_bound.specs.Allocation.{IsProgram, constraints_of};
-ghost use Rattle.pc_bound.specs.Bound.{IsFit};
-ghost use Rattle.pc_tableau.specs.Numbers.{first_below};
-ghost use Rattle.pc_tableau.specs.Relaxation.{columns_of, has_helper, phase_one, phase_two, phase_one_from, phase_two_from, first_tableau, at_void, multipliers, freed, does_freed_fit};
-ghost use Rattle.pc_tableau.specs.Standing.{basic_at};
-ghost use Rattle.pc_short.specs.Short.{spelled};
-ghost use Rattle.pc_short.specs.Kept.{IsSetting, IsShort, IsShortRow};
+ghost use Rattle.pc_program_bound.specs.Allocation.{IsProgram, constraints_of};
+ghost use Rattle.pc_program_bound.specs.Bound.{IsFit};
+ghost use Rattle.pc_simplex_tableau.specs.Numbers.{first_below};
+ghost use Rattle.pc_simplex_tableau.specs.Relaxation.{columns_of, has_helper, phase_one, phase_two, phase_one_from, phase_two_from, first_tableau, at_void, multipliers, freed, does_freed_fit};
+ghost use Rattle.pc_simplex_tableau.specs.Standing.{basic_at};
+ghost use Rattle.pc_simplex_short.specs.Short.{spelled};
+ghost use Rattle.pc_simplex_short.specs.Kept.{IsSetting, IsShort, IsShortRow};
 ghost use Rattle.pc_simplex.specs.Floors.{AreFloors, is_overfull};
 ghost use Rattle.pc_simplex.specs.Ended.{ending_of, IsSoundEnding};
 ghost use Rattle.pc_simplex.specs.Phases.{after_phase_one};
@@ -15,11 +15,11 @@ use crate::multipliers::multipliers;
 use crate::phases::Ended;
 use crate::setting::{first_setting, second_setting};
 use crate::short_first::{first_short, second_short};
-use pc_bound::Program;
 use pc_list::Seq;
 use pc_num::Memory;
-use pc_short::{Setting, ShortRow, ShortRun, ShortTableau, spell_out, take_steps};
-use pc_tableau::{Columns, Step};
+use pc_program_bound::Program;
+use pc_simplex_short::{ShortRow, ShortRun, ShortSetting, ShortTableau, spell_out, take_steps};
+use pc_simplex_tableau::{Columns, Step};
 use std::alloc::Global;
 
 /// Takes the steps of both phases over rows in short form; none where a number is no longer small.
@@ -46,7 +46,7 @@ pub(crate) fn take_short_phases(
 fn phase_one(
     alloc: Global,
     p: &Program,
-    setting: Setting,
+    setting: ShortSetting,
     start: ShortTableau,
 ) -> Result<Option<Ended>, Memory>
     requires program { IsProgram p.now }
@@ -75,7 +75,7 @@ fn phase_one(
 fn after_phase_one(
     alloc: Global,
     p: &Program,
-    setting: Setting,
+    setting: ShortSetting,
     left: usize,
     steps: Seq<Step>,
     tableau: ShortTableau,
@@ -99,7 +99,7 @@ fn after_phase_one(
 fn void_by(
     alloc: Global,
     p: &Program,
-    setting: &Setting,
+    setting: &ShortSetting,
     steps: Seq<Step>,
     tableau: ShortTableau,
 ) -> Result<Ended, Memory>
@@ -118,7 +118,7 @@ fn void_by(
 fn phase_two(
     alloc: Global,
     p: &Program,
-    setting: Setting,
+    setting: ShortSetting,
     left: usize,
     steps: Seq<Step>,
     tableau: ShortTableau,
@@ -141,7 +141,7 @@ fn phase_two(
 /// Takes the steps of the second phase from the tableau in which it starts, and spells out the one in which they end.
 fn phase_two_from(
     alloc: Global,
-    setting: &Setting,
+    setting: &ShortSetting,
     left: usize,
     steps: Seq<Step>,
     start: ShortTableau,
@@ -167,7 +167,7 @@ fn phase_two_from(
 
 /// Frees the objective row of the basic columns, row by row. It answers false where a number is no longer small, and the
 /// tableau is then of no more use.
-fn free_of_basics(tableau: &mut ShortTableau, setting: &Setting) -> bool
+fn free_of_basics(tableau: &mut ShortTableau, setting: &ShortSetting) -> bool
     requires setting { IsSetting setting.now }
     requires short { IsShort setting.now tableau.old }
     ensures fits { IsTrue result → IsTrue (does_freed_fit (spelled setting.now tableau.old)) }
@@ -192,14 +192,14 @@ fn basic_at(tableau: &ShortTableau, at: usize) -> usize
 }
 
 /// Whether some helper is left above nothing.
-fn has_helper(setting: &Setting, tableau: &ShortTableau) -> bool
+fn has_helper(setting: &ShortSetting, tableau: &ShortTableau) -> bool
     requires short { IsShort setting.now tableau.now }
     ensures { result ≡ has_helper setting.now.columns (spelled setting.now tableau.now) }
 {
     is_any_left(setting, tableau)
 }
 
-fn is_any_left(setting: &Setting, tableau: &ShortTableau) -> bool
+fn is_any_left(setting: &ShortSetting, tableau: &ShortTableau) -> bool
     requires { IsShort setting.now tableau.now }
     ensures { result ≡ has_left setting.now tableau.now.rows }
 {
@@ -211,7 +211,7 @@ fn is_any_left(setting: &Setting, tableau: &ShortTableau) -> bool
     false
 }
 
-fn is_left(setting: &Setting, row: &ShortRow) -> bool
+fn is_left(setting: &ShortSetting, row: &ShortRow) -> bool
     requires { IsShortRow setting.now row.now }
     ensures { result ≡ is_left_short setting.now row.now }
 {

@@ -4,9 +4,9 @@ mod short;
 
 use crate::phases::{Ended, take_both_phases};
 use crate::{Relaxed, Step, relax};
-use pc_bound::{Program, is_box, is_program};
 use pc_list::Seq;
 use pc_num::{Frac, Memory, are_fit};
+use pc_program_bound::{Program, is_box, is_program};
 use std::alloc::Global;
 use std::process::Abort;
 use std::test::Fail;

@@ -15,13 +15,13 @@ use Rattle.pc_model.specs.Places.{has_bit}
 use Rattle.pc_model.specs.Possible.{Meets, IsPossible, is_covered, count_of}
 use Rattle.pc_model.specs.Runs.{rows_of, runs_from, AreRuns}
 use Rattle.pc_model.specs.Cells.{Class, IsRowOf}
-use Rattle.pc_class.proofs.Masks.{mask_of-bit}
-use Rattle.pc_bound.specs.Sums.{sum_below, nat_at}
-use Rattle.pc_bound.specs.Allocation.{IsAllocation, total}
-use Rattle.pc_bound.specs.CellPrograms.{program_of}
+use Rattle.pc_cells_laws.proofs.Masks.{mask_of-bit}
+use Rattle.pc_program_bound.specs.Sums.{sum_below, nat_at}
+use Rattle.pc_program_bound.specs.Allocation.{IsAllocation, total}
+use Rattle.pc_program_bound.specs.CellPrograms.{program_of}
 use Rattle.pc_witness.specs.Checks.{rows_under}
 use Rattle.pc_witness.proofs.Checks.{All-rows_of, count-rows_of}
-use Rattle.pc_bound.proofs.SumBelow.{sum_below-front}
+use Rattle.pc_program_bound.proofs.SumBelow.{sum_below-front}
 use Rattle.pc_witness.proofs.Zipped.{AllZip-weaker, All-from_zip}
 use Rattle.pc_witness.proofs.RunsFrom.{runs_from-stand, All-runs_from}
 

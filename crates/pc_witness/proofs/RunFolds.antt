@@ -16,7 +16,7 @@ use Rattle.pc_model.specs.Membership.{has}
 use Rattle.pc_model.specs.Folds.{sum_at, best_at, better, IsFold}
 use Rattle.pc_model.specs.Runs.{rows_of}
 use Rattle.pc_model.proofs.Folds.{any_group, fold_empty, fold_same}
-use Rattle.pc_bound.proofs.Ring.{mul-more}
+use Rattle.pc_program_bound.proofs.Ring.{mul-more}
 use Rattle.pc_witness.specs.RunFolds.{sum_with, best_with, IsWithRun}
 
 -- ---- which of a row's repeats are kept

@@ -11,11 +11,11 @@ use Rattle.pc_model.specs.declared.constraint.Constraint.{Constraint}
 use Rattle.pc_model.specs.Aggregate.{int_sum}
 use Rattle.pc_model.specs.Runs.{rows_of, runs_from}
 use Rattle.pc_model.specs.Cells.{Class, class_of, IsRowOf}
-use Rattle.pc_bound.specs.Sums.{sum_below, nat_at, int_at}
-use Rattle.pc_bound.specs.Allocation.{cells_of, worth}
-use Rattle.pc_bound.specs.CellPrograms.{program_of}
-use Rattle.pc_bound.proofs.Ring.{mul-more}
-use Rattle.pc_bound.proofs.SumBelow.{sum_below-front}
+use Rattle.pc_program_bound.specs.Sums.{sum_below, nat_at, int_at}
+use Rattle.pc_program_bound.specs.Allocation.{cells_of, worth}
+use Rattle.pc_program_bound.specs.CellPrograms.{program_of}
+use Rattle.pc_program_bound.proofs.Ring.{mul-more}
+use Rattle.pc_program_bound.proofs.SumBelow.{sum_below-front}
 use Rattle.pc_witness.proofs.Zipped.{AllZip-weaker}
 
 module _ (value : Row → ℤ) where

@@ -8,8 +8,8 @@ ghost use Rattle.pc_model.specs.Aggregate.{int_sum};
 ghost use Rattle.pc_model.specs.Cells.{Class, class_of, IsRowOf};
 ghost use Rattle.pc_model.specs.Possible.{IsPossible};
 ghost use Rattle.pc_model.specs.Runs.{AreRuns, rows_of, runs_from};
-ghost use Rattle.pc_bound.specs.Allocation.{IsAllocation, cells_of, worth};
-ghost use Rattle.pc_bound.specs.CellPrograms.{program_of};
+ghost use Rattle.pc_program_bound.specs.Allocation.{IsAllocation, cells_of, worth};
+ghost use Rattle.pc_program_bound.specs.CellPrograms.{program_of};
 
 /// One row of each cell and an allocation of the cells' program give runs that stand for a possible list.
 pub fn allocations_are_possible()

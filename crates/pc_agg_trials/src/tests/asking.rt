@@ -3,7 +3,7 @@
 ghost use Rattle.std.specs.Prelude.{◌≤◌, ◌^◌, nat_abs, IfOk};
 ghost use Rattle.pc_model.specs.Accepted.{AreConstraints, IsQuery};
 ghost use Rattle.pc_model.specs.WellFormed.{IsWellFormed, HaveFewNames};
-ghost use Rattle.pc_search.specs.Asked.{AreAsked, AreCells};
+ghost use Rattle.pc_agg_search.specs.Asked.{AreAsked, AreCells};
 
 use super::Texts;
 use pc_agg::{Settled, bound_count, bound_max, bound_min, bound_sum, settle};

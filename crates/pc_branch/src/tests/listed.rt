@@ -1,7 +1,7 @@
 use super::{is_best, solved};
-use pc_bound::Program;
 use pc_list::Seq;
 use pc_num::Memory;
+use pc_program_bound::Program;
 use std::alloc::Global;
 use std::test::Fail;
 

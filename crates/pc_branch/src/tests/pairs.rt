@@ -1,9 +1,9 @@
 ghost use Rattle.std.specs.Prelude.{◌≤◌};
 
 use super::{is_best, is_nothing, is_spent, solved};
-use pc_bound::Program;
 use pc_list::Seq;
 use pc_num::Memory;
+use pc_program_bound::Program;
 use std::alloc::Global;
 use std::test::Fail;
 

@@ -2,9 +2,9 @@ ghost use Rattle.std.specs.Prelude.{◌<◌};
 
 use super::{is_allowed, is_below, solved, worth};
 use crate::Outcome;
-use pc_bound::Program;
 use pc_list::Seq;
 use pc_num::Memory;
+use pc_program_bound::Program;
 use std::alloc::Global;
 use std::test::Fail;
 

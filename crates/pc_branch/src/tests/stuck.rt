@@ -1,9 +1,9 @@
 use super::pairs::{no_cells, with_cell, with_constraints};
 use super::{is_below, is_spent, solved};
 use crate::{Outcome, has_fit_gains};
-use pc_bound::{Program, is_program};
 use pc_list::Seq;
 use pc_num::Memory;
+use pc_program_bound::{Program, is_program};
 use std::alloc::{AllocError, Global};
 use std::test::Fail;
 

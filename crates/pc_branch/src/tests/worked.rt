@@ -1,9 +1,9 @@
 use super::{is_best, is_nothing, is_spent, solved};
 use crate::Outcome;
-use pc_bound::Program;
 use pc_list::Seq;
 use pc_model::{Mult, Tree, TreeNode};
 use pc_num::{Memory, put_scaled};
+use pc_program_bound::Program;
 use std::alloc::{AllocError, Global};
 use std::test::Fail;
 

@@ -3,7 +3,7 @@ ghost use Rattle.pc_model.specs.Accepted.{constraint_limit};
 ghost use Rattle.pc_model.specs.Boxes.{IsServable};
 ghost use Rattle.pc_model.specs.Regions.{is_region_of};
 ghost use Rattle.pc_model.specs.WellFormed.{IsWellFormed, HaveFewNames};
-ghost use Rattle.pc_tree.specs.Linked.{IsTree};
+ghost use Rattle.pc_cells_tree.specs.Linked.{IsTree};
 
 use super::{SHOP, place_of};
 use crate::{Cells, Shared, decompose};

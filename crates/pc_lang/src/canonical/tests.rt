@@ -2,9 +2,9 @@ ghost use Rattle.std.specs.Prelude.{◌≡◌, [], ◌∷◌, codes, IfOk};
 ghost use Rattle.pc_model.specs.WellFormed.{IsWellFormed};
 
 use super::{line_for, question_for};
+use pc_lang_grammar::{Atom, Claim, Measure, Part};
 use pc_list::{Seq, Text};
 use pc_model::{Agg, Column, Constraint, Kind, Query, Region, Schema, Side};
-use pc_syntax::{Atom, Claim, Measure, Part};
 use std::alloc::{AllocError, Global};
 use std::test::Fail;
 

@@ -1,11 +1,11 @@
 use super::constraint_of;
 use crate::part::region_of;
 use crate::query::query_of;
+use pc_lang_grammar::{Atom, Claim, Line, Measure, Part, Question};
+use pc_lang_tokens::{Symbol, Token, read_tokens};
 use pc_list::{Seq, Text};
-use pc_model::{Agg, Constraint, Query, Reason, Region, Side, Stop};
+use pc_model::{Agg, Constraint, Query, ReadStop, Reason, Region, Side};
 use pc_schema::read_schema;
-use pc_syntax::{Atom, Claim, Line, Measure, Part, Question};
-use pc_token::{Symbol, Token, read_tokens};
 use std::alloc::{AllocError, Global};
 use std::test::Fail;
 
@@ -111,10 +111,10 @@ fn part(alloc: Global, texts: &[&str]) -> Result<Part, AllocError> {
     Ok(Part { atoms })
 }
 
-fn gives_sides(region: Result<Region, Stop>, want: Result<[Side; 3], Reason>) -> bool {
+fn gives_sides(region: Result<Region, ReadStop>, want: Result<[Side; 3], Reason>) -> bool {
     match (region, want) {
         (Ok(region), Ok(sides)) => region.sides.as_slice() == sides.as_slice(),
-        (Err(stop), Err(reason)) => stop == Stop::Reason(reason),
+        (Err(stop), Err(reason)) => stop == ReadStop::Reason(reason),
         _ => false,
     }
 }
@@ -201,10 +201,13 @@ fn line(
     })
 }
 
-fn gives_counts(constraint: Result<Constraint, Stop>, want: Result<(u64, u64), Reason>) -> bool {
+fn gives_counts(
+    constraint: Result<Constraint, ReadStop>,
+    want: Result<(u64, u64), Reason>,
+) -> bool {
     match (constraint, want) {
         (Ok(constraint), Ok((least, most))) => constraint.least == least && constraint.most == most,
-        (Err(stop), Err(reason)) => stop == Stop::Reason(reason),
+        (Err(stop), Err(reason)) => stop == ReadStop::Reason(reason),
         _ => false,
     }
 }
@@ -293,7 +296,7 @@ fn constraints_past_twenty(rt: HostRuntime) -> Result<(), Fail> {
 }
 
 fn gives_query(
-    query: Result<Query, Stop>,
+    query: Result<Query, ReadStop>,
     want: Result<(Option<u8>, Side, Option<u8>), Reason>,
 ) -> bool {
     match (query, want) {
@@ -302,7 +305,7 @@ fn gives_query(
                 && query.chosen.sides.as_slice() == [BRANCHES, days, PRICES].as_slice()
                 && query.group == group
         }
-        (Err(stop), Err(reason)) => stop == Stop::Reason(reason),
+        (Err(stop), Err(reason)) => stop == ReadStop::Reason(reason),
         _ => false,
     }
 }

@@ -1,11 +1,11 @@
 ghost use Rattle.std.specs.Prelude.{◌<◌, ◌≤◌};
-ghost use Rattle.pc_bound.specs.Allocation.{IsProgram};
+ghost use Rattle.pc_program_bound.specs.Allocation.{IsProgram};
 
 use crate::{Solved, greedy, has_one_bits};
-use pc_bound::{Program, dual_bound, is_program, lawful};
 use pc_list::Seq;
 use pc_model::Mult;
 use pc_num::{Memory, are_fit};
+use pc_program_bound::{Program, dual_bound, is_program, lawful};
 use std::alloc::Global;
 use std::test::Fail;
 

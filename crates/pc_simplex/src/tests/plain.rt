@@ -2,10 +2,10 @@ ghost use Rattle.std.specs.Prelude.{◌<◌};
 
 use super::relaxed;
 use crate::Relaxed;
-use pc_bound::Program;
 use pc_list::Seq;
 use pc_model::Mult;
 use pc_num::Memory;
+use pc_program_bound::Program;
 use std::alloc::Global;
 use std::test::Fail;
 

@@ -1,9 +1,9 @@
 use super::{relaxed, steps_of};
 use crate::{Relaxed, Step};
-use pc_bound::Program;
 use pc_list::Seq;
 use pc_model::Mult;
 use pc_num::{Frac, Memory, put_frac, put_scaled};
+use pc_program_bound::Program;
 use std::alloc::Global;
 use std::test::Fail;
 

@@ -1,7 +1,7 @@
 //! The steps over rows in short form and over whole rows end alike.
 ghost use Rattle.std.specs.Prelude.{All};
-ghost use Rattle.pc_bound.specs.Allocation.{IsProgram, IsBox};
-ghost use Rattle.pc_bound.specs.Bound.{IsFit};
+ghost use Rattle.pc_program_bound.specs.Allocation.{IsProgram, IsBox};
+ghost use Rattle.pc_program_bound.specs.Bound.{IsFit};
 
 use super::plain::{Draws, program};
 use super::{is_vertex, relaxed};
@@ -9,10 +9,10 @@ use crate::columns::first_columns;
 use crate::left::first_overfull;
 use crate::phases::{Ended, whole_phases};
 use crate::short_phases::take_short_phases;
-use pc_bound::{Program, is_box, is_program};
 use pc_list::Seq;
 use pc_num::{Frac, Memory, are_fit};
-use pc_tableau::Tableau;
+use pc_program_bound::{Program, is_box, is_program};
+use pc_simplex_tableau::Tableau;
 use std::alloc::Global;
 use std::process::Abort;
 use std::test::Fail;

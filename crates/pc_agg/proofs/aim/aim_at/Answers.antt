@@ -1,12 +1,12 @@
 use Rattle.std.proofs.Common.{map, subst}
 use Rattle.std.specs.List.{AllZip}
 use Rattle.pc_cells.specs.Found.{class_of_cell}
-use Rattle.pc_search.specs.Ends.{IsPick}
-use Rattle.pc_search.specs.Limits.{IsLimit, IsReached}
-use Rattle.pc_search.specs.Settings.{unseen}
+use Rattle.pc_agg_search.specs.Ends.{IsPick}
+use Rattle.pc_agg_search.specs.Limits.{IsLimit, IsReached}
+use Rattle.pc_agg_search.specs.Settings.{unseen}
 use Rattle.pc_agg.proofs.Aiming.{towards_is}
-use Rattle.pc_search.proofs.Empty.{void_tree}
-use Rattle.pc_search.proofs.SettledPrograms.{classes_are}
+use Rattle.pc_agg_search.proofs.Empty.{void_tree}
+use Rattle.pc_agg_search.proofs.SettledPrograms.{classes_are}
 use Rattle.pc_agg.proofs.aim.aim_at.Goals as goal
 
 pub returns-in-Within-clause-aimed : goal.returns-in-Within-clause-aimed

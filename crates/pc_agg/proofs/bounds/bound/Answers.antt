@@ -1,13 +1,13 @@
 use Rattle.std.proofs.Common.{All, sym, subst, ◌∙◌}
 use Rattle.std.proofs.lemmas.Result.{IfOk-weaker}
-use Rattle.pc_licence.specs.Pools.{AreLawful}
-use Rattle.pc_search.specs.declared.extreme.Extreme.TheVariants.{Low, High}
-use Rattle.pc_search.specs.Ends.{gain_towards}
-use Rattle.pc_search.specs.Settings.{unseen}
+use Rattle.pc_branch_licences.specs.Pools.{AreLawful}
+use Rattle.pc_agg_search.specs.declared.extreme.Extreme.TheVariants.{Low, High}
+use Rattle.pc_agg_search.specs.Ends.{gain_towards}
+use Rattle.pc_agg_search.specs.Settings.{unseen}
 use Rattle.pc_agg.proofs.Aiming.{lawful_both, low_among, high_among, none_among_both, can_end, sized_first, none_of, some_of}
 use Rattle.pc_agg.proofs.Attained.{of_cells}
 use Rattle.pc_proof.specs.declared.answer.Why.TheVariants.{Void}
-use Rattle.pc_search.specs.Asked.{setting_for}
+use Rattle.pc_agg_search.specs.Asked.{setting_for}
 use Rattle.pc_agg.specs.Owed.{Owes}
 use Rattle.pc_agg.proofs.Owing.{owes, owes_impossible}
 use Rattle.pc_agg.proofs.Totals.{settled_listed}

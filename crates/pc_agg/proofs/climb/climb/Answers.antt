@@ -1,7 +1,7 @@
 use Rattle.std.proofs.Common.{sym, subst}
 use Rattle.pc_agg.specs.Climbing.{IsHalved}
 use Rattle.pc_agg.specs.Rungs.{IsStanding}
-use Rattle.pc_search.specs.Settings.{unseen}
+use Rattle.pc_agg_search.specs.Settings.{unseen}
 use Rattle.pc_agg.proofs.Halving.{last_standing}
 use Rattle.pc_agg.proofs.climb.climb.Goals as goal
 

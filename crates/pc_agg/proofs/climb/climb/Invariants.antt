@@ -1,7 +1,7 @@
 use Rattle.std.proofs.Common.{◌-◌}
 use Rattle.pc_model.specs.Membership.{AreDisjoint}
 use Rattle.pc_agg.specs.Climbing.{IsSpan, IsSureSpan}
-use Rattle.pc_search.specs.Settings.{unseen}
+use Rattle.pc_agg_search.specs.Settings.{unseen}
 use Rattle.pc_agg.proofs.climb.climb.Given as goal
 
 abbrev pub invariant-loop-span : goal.invariant-loop-span

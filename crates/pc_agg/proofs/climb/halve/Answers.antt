@@ -1,7 +1,7 @@
 use Rattle.std.proofs.Common.{◌+◌, ◌-◌, ◌/◌, All, sym, subst, arith}
 use Rattle.pc_agg.specs.Climbing.{IsHalved, IsSureHalf}
-use Rattle.pc_search.specs.Settings.{unseen}
-use Rattle.pc_search.specs.Wants.{IsMet, IsProbed, IsSure}
+use Rattle.pc_agg_search.specs.Settings.{unseen}
+use Rattle.pc_agg_search.specs.Wants.{IsMet, IsProbed, IsSure}
 use Rattle.pc_agg.proofs.Halving.{all_met, is_halved, is_sure_half}
 use Rattle.pc_agg.proofs.climb.halve.Goals as goal
 

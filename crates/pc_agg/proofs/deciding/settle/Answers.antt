@@ -1,7 +1,7 @@
 use Rattle.std.proofs.Common.{nat_lt, sym, ◌∙◌}
 use Rattle.std.proofs.lemmas.Result.{IfOk-weaker}
 use Rattle.pc_agg.proofs.Owing.{owes_settled}
-use Rattle.pc_search.specs.Settings.{unseen}
+use Rattle.pc_agg_search.specs.Settings.{unseen}
 use Rattle.pc_agg.proofs.SettledGrounds.{owes_grounded, observing_count, grounded_lawful, settled_lawful}
 use Rattle.pc_agg.proofs.Totals.{ok_both}
 use Rattle.pc_agg.proofs.deciding.settle.Goals as goal

@@ -3,7 +3,7 @@ use Rattle.std.proofs.lemmas.Slice.Zip.{AllZip-long}
 use Rattle.pc_model.specs.Cells.{IsInSome}
 use Rattle.pc_cells.specs.declared.cells.Cell.{Cell}
 use Rattle.pc_agg.specs.Extremes.{HasLawful}
-use Rattle.pc_search.specs.Settings.{unseen}
+use Rattle.pc_agg_search.specs.Settings.{unseen}
 use Rattle.pc_agg.proofs.Filling.{rows_of_cells}
 use Rattle.pc_agg.proofs.SettledGrounds.{sized_found, settled_always, settled_open}
 use Rattle.pc_agg.proofs.deciding.settle_grounded.Goals as goal

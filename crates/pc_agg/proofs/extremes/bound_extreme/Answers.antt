@@ -4,9 +4,9 @@ use Rattle.std.proofs.lemmas.Result.{IfOk-weaker}
 use Rattle.pc_model.specs.Accepted.{IsNumeric, IsColumnWhere}
 use Rattle.pc_model.specs.Right.{always_has_value}
 use Rattle.pc_agg.specs.Extremes.{seen_number}
-use Rattle.pc_search.specs.Settings.{unseen}
+use Rattle.pc_agg_search.specs.Settings.{unseen}
 use Rattle.pc_proof.specs.declared.answer.Why.TheVariants.{Void}
-use Rattle.pc_search.specs.Asked.{setting_for}
+use Rattle.pc_agg_search.specs.Asked.{setting_for}
 use Rattle.pc_agg.specs.Owed.{Owes}
 use Rattle.pc_agg.proofs.Filling.{rows_of_cells}
 use Rattle.pc_agg.proofs.Owing.{owes_impossible, impossible_here, why_searched, fit_of_cells}

@@ -1,9 +1,9 @@
 use Rattle.std.proofs.Common.{Any, sym, ap, subst, ◌∙◌}
 use Rattle.std.specs.Prelude.{is_some}
-use Rattle.pc_search.specs.declared.extreme.Extreme.TheVariants.{Low, High}
-use Rattle.pc_search.specs.Wants.{want_for, most_chosen}
-use Rattle.pc_search.specs.Settings.{unseen}
-use Rattle.pc_search.specs.Wants.{IsDoubt, IsFound}
+use Rattle.pc_agg_search.specs.declared.extreme.Extreme.TheVariants.{Low, High}
+use Rattle.pc_agg_search.specs.Wants.{want_for, most_chosen}
+use Rattle.pc_agg_search.specs.Settings.{unseen}
+use Rattle.pc_agg_search.specs.Wants.{IsDoubt, IsFound}
 use Rattle.pc_agg.proofs.Pairs.{lawful_first, some_first, doubt_first, chosen_first, stands_from, low_surely}
 use Rattle.pc_agg.proofs.SeenNumbers.{key_some}
 use Rattle.pc_agg.proofs.extremes.stand_both.Goals as goal

@@ -1,6 +1,6 @@
 use Rattle.std.proofs.Common.{IfOk, sym, subst}
 use Rattle.pc_agg.specs.Grounds.{IsGrounded, IsGroundedSurely}
-use Rattle.pc_search.specs.Settings.{unseen}
+use Rattle.pc_agg_search.specs.Settings.{unseen}
 use Rattle.pc_agg.proofs.Grounded.{listed_left}
 use Rattle.pc_agg.proofs.grounds.ground.Goals as goal
 

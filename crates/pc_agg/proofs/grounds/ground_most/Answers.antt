@@ -1,9 +1,9 @@
 use Rattle.std.proofs.Common.{All, sym, subst}
 use Rattle.pc_proof.specs.Setting.{on_chosen}
 use Rattle.pc_proof.specs.Table.{one}
-use Rattle.pc_search.specs.Wants.{want_for}
-use Rattle.pc_search.specs.Settings.{unseen}
-use Rattle.pc_search.specs.Wants.{IsMet}
+use Rattle.pc_agg_search.specs.Wants.{want_for}
+use Rattle.pc_agg_search.specs.Settings.{unseen}
+use Rattle.pc_agg_search.specs.Wants.{IsMet}
 use Rattle.pc_agg.proofs.Grounded.{probed_empty, most_probed, most_sure, most_none, most_always, most_open, most_surely}
 use Rattle.pc_agg.proofs.Lawful.{lawful_met}
 use Rattle.pc_agg.proofs.grounds.ground_most.Goals as goal

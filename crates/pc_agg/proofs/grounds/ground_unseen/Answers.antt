@@ -1,10 +1,10 @@
 use Rattle.std.proofs.Common.{false, All, refl, sym, subst}
 use Rattle.pc_proof.specs.Setting.{on_chosen}
 use Rattle.pc_proof.specs.Table.{minus_one}
-use Rattle.pc_search.specs.declared.want.Want.TheVariants as wants
+use Rattle.pc_agg_search.specs.declared.want.Want.TheVariants as wants
 use Rattle.pc_agg.specs.Grounds.{AreAlways, IsLacking, IsLackingSurely}
-use Rattle.pc_search.specs.Settings.{unseen}
-use Rattle.pc_search.specs.Wants.{IsMet, IsProbed, IsSure}
+use Rattle.pc_agg_search.specs.Settings.{unseen}
+use Rattle.pc_agg_search.specs.Wants.{IsMet, IsProbed, IsSure}
 use Rattle.pc_agg.proofs.Grounded.{probed_empty, probed_lawful, probed_some, probed_sure, fewest_short, fewest_open, some_chosen, none_chosen}
 use Rattle.pc_agg.proofs.Lawful.{lawful_met}
 use Rattle.pc_agg.proofs.grounds.ground_unseen.Goals as goal

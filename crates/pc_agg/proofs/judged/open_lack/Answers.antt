@@ -3,9 +3,9 @@ use Rattle.std.proofs.lemmas.List.{get_or_read}
 use Rattle.pc_model.specs.Runs.{runs_from}
 use Rattle.pc_proof.specs.Setting.{on_chosen, program_for}
 use Rattle.pc_proof.specs.Table.{one, minus_one}
-use Rattle.pc_search.specs.declared.want.Want.TheVariants as wants
-use Rattle.pc_search.specs.Settings.{unseen}
-use Rattle.pc_search.specs.Wants.{IsFound, IsMet}
+use Rattle.pc_agg_search.specs.declared.want.Want.TheVariants as wants
+use Rattle.pc_agg_search.specs.Settings.{unseen}
+use Rattle.pc_agg_search.specs.Wants.{IsFound, IsMet}
 use Rattle.pc_agg.proofs.Lawful.{lawful_met, some_listed}
 use Rattle.pc_agg.proofs.judged.open_lack.Goals as goal
 

@@ -4,7 +4,7 @@ use Rattle.std.proofs.lemmas.Int.{ints}
 use Rattle.std.proofs.lemmas.List.{get_or_default}
 use Rattle.pc_cells.specs.declared.cells.Cell.{Cell}
 use Rattle.pc_agg.specs.Kept.{passes}
-use Rattle.pc_search.specs.Targets.{cell_at}
+use Rattle.pc_agg_search.specs.Targets.{cell_at}
 use Rattle.pc_agg.proofs.LadderKeys.{next_keys}
 use Rattle.pc_agg.proofs.ladder.kept_keys.Goals as goal
 

@@ -1,5 +1,5 @@
 use Rattle.std.proofs.Common.{◌≡◌}
-use Rattle.pc_tableau.specs.Numbers.{table}
+use Rattle.pc_simplex_tableau.specs.Numbers.{table}
 use Rattle.pc_agg.specs.Keyed.{reach_gain}
 use Rattle.pc_agg.proofs.rungs.reach_gains.Given as goal
 

@@ -5,10 +5,10 @@ use Rattle.std.proofs.lemmas.List.{length-map}
 use Rattle.std.proofs.lemmas.Result.{IfOk-weaker}
 use Rattle.pc_cells.specs.Found.{class_of_cell}
 use Rattle.pc_proof.specs.Setting.{program_for}
-use Rattle.pc_search.specs.Limits.{IsLimit}
-use Rattle.pc_search.specs.Settings.{unseen}
+use Rattle.pc_agg_search.specs.Limits.{IsLimit}
+use Rattle.pc_agg_search.specs.Settings.{unseen}
 use Rattle.pc_agg.proofs.Aiming.{even_is, even_program}
-use Rattle.pc_search.proofs.SettledPrograms.{classes_are}
+use Rattle.pc_agg_search.proofs.SettledPrograms.{classes_are}
 use Rattle.pc_agg.proofs.Totals.{lawful_found, total_of, settled_void}
 use Rattle.pc_agg.proofs.settling.find_total.Goals as goal
 

@@ -1,5 +1,5 @@
 use Rattle.std.proofs.lemmas.Result.{IfOk-weaker}
-use Rattle.pc_search.specs.Settings.{unseen}
+use Rattle.pc_agg_search.specs.Settings.{unseen}
 use Rattle.pc_agg.proofs.Filling.{rows_of_cells}
 use Rattle.pc_agg.proofs.Totals.{sized_rows, settled_only}
 use Rattle.pc_agg.proofs.settling.possible.Goals as goal

@@ -1,5 +1,5 @@
 use Rattle.std.proofs.Common.{pos, neg_ℤ, refl}
-use Rattle.pc_search.specs.Settings.{unseen}
+use Rattle.pc_agg_search.specs.Settings.{unseen}
 use Rattle.pc_agg.proofs.Aiming.{even_program}
 use Rattle.pc_agg.proofs.Totals.{open_totals}
 use Rattle.pc_agg.proofs.settling.settle_open.Goals as goal

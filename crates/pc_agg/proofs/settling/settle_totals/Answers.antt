@@ -1,4 +1,4 @@
-use Rattle.pc_search.specs.Settings.{unseen}
+use Rattle.pc_agg_search.specs.Settings.{unseen}
 use Rattle.pc_agg.proofs.Totals.{settled_open}
 use Rattle.pc_agg.proofs.settling.settle_totals.Goals as goal
 

@@ -2,7 +2,7 @@ use Rattle.std.proofs.Common.{ℕ, List, ◌∙◌, sym, subst, ap}
 use Rattle.std.proofs.lemmas.Result.{IfOk-weaker}
 use Rattle.pc_agg.specs.Owed.{OwesSettled, Owes}
 use Rattle.pc_proof.specs.declared.answer.Answer.{Answer}
-use Rattle.pc_search.specs.Asked.{setting_for}
+use Rattle.pc_agg_search.specs.Asked.{setting_for}
 use Rattle.pc_avg.proofs.BothEnds.{owes_both_ends, short_ends}
 use Rattle.pc_avg.proofs.OwesAverages.{owes_endless}
 use Rattle.pc_avg.proofs.averages.bound_avg.Goals as goal

@@ -2,9 +2,9 @@ use Rattle.std.proofs.Common.{◌≡◌, to_z, of_z, sym, subst, [], arith}
 use Rattle.std.specs.Prelude.{slice_index_or}
 use Rattle.std.specs.Int.{w128}
 use Rattle.std.proofs.lemmas.Int.{ints}
-use Rattle.pc_ratio.specs.Fractional.{ratio_with, IsLawful}
-use Rattle.pc_ratio.specs.Highest.{IsHighest}
-use Rattle.pc_search.specs.Settings.{unseen}
+use Rattle.pc_avg_ratio.specs.Fractional.{ratio_with, IsLawful}
+use Rattle.pc_avg_ratio.specs.Highest.{IsHighest}
+use Rattle.pc_agg_search.specs.Settings.{unseen}
 use Rattle.pc_avg.proofs.SearchedEnds.{all_lawful, found_lawful, outermost_at, can_turn, unvalued_end, sought_end, sought_surely}
 use Rattle.pc_avg.proofs.ends.search_end.Goals as goal
 

@@ -3,7 +3,7 @@ use Rattle.std.specs.Int.{w128}
 use Rattle.std.proofs.lemmas.Int.{ints}
 use Rattle.std.proofs.lemmas.List.{get_or_default}
 use Rattle.pc_cells.specs.declared.cells.Cell.{Cell}
-use Rattle.pc_search.specs.Targets.{cell_at}
+use Rattle.pc_agg_search.specs.Targets.{cell_at}
 use Rattle.pc_avg.proofs.GreatestKeys.{greatest_next}
 use Rattle.pc_avg.proofs.outermost.greatest_key.Goals as goal
 

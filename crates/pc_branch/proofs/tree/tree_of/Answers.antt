@@ -1,5 +1,5 @@
 use Rattle.std.proofs.Common.{◌≡◌, ◌<◌, length, refl, arith}
-use Rattle.pc_bound.specs.SplitTrees.{nodes_from}
+use Rattle.pc_program_bound.specs.SplitTrees.{nodes_from}
 use Rattle.pc_branch.specs.Grown.{proof_of}
 use Rattle.pc_branch.proofs.Preorder.{whole_size, none_spelled, all_spelled}
 use Rattle.pc_branch.proofs.tree.tree_of.Goals as goal

@@ -1,5 +1,5 @@
 use Rattle.std.proofs.Common.{◌≡◌, ◌≤◌, length}
-use Rattle.pc_bound.specs.SplitTrees.{nodes_from}
+use Rattle.pc_program_bound.specs.SplitTrees.{nodes_from}
 use Rattle.pc_frontier.specs.Boxes.{Grown, IsTree}
 use Rattle.pc_branch.specs.Grown.{proof_of}
 use Rattle.pc_branch.specs.Ends.{AreSplitsKnown}

@@ -1,7 +1,7 @@
 use Rattle.std.proofs.Common.{◌≡◌, ◌<◌, arith, to_z, of_z, ◌∙◌}
 use Rattle.std.specs.Int.{w128}
 use Rattle.std.proofs.lemmas.Int.{ints}
-use Rattle.pc_bound.specs.Allocation.{cells_of}
+use Rattle.pc_program_bound.specs.Allocation.{cells_of}
 use Rattle.pc_branch.proofs.Visits.{quotient-least, quotient-most, whole_has_counts}
 use Rattle.pc_branch.proofs.visit.at_vertex.Goals as goal
 

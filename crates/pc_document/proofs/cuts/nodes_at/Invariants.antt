@@ -1,7 +1,7 @@
 use Rattle.std.proofs.Common.{◌≡◌, ◌+◌, ◌-◌, ◌≤◌, length}
-use Rattle.pc_format.specs.Formats.{after_items, read_nodes}
+use Rattle.pc_document_format.specs.Formats.{after_items, read_nodes}
 use Rattle.pc_document.specs.Places.{IsLineStart, lines_at}
-use Rattle.pc_lines.specs.TokenLines.{is_inner, read_cut_node}
+use Rattle.pc_document_lines.specs.TokenLines.{is_inner, read_cut_node}
 use Rattle.pc_document.proofs.cuts.nodes_at.Given as goal
 
 abbrev pub invariant-loop-owed : goal.invariant-loop-owed

@@ -1,7 +1,7 @@
 use Rattle.std.proofs.Common.{rules, ◌≡◌, ◌∷◌, true, Ok}
 use Rattle.pc_document.specs.Places.{HaltsAs, lines_at}
 use Rattle.pc_document.specs.Reading.{read_block}
-use Rattle.pc_lines.specs.TokenLines.{begins_query}
+use Rattle.pc_document_lines.specs.TokenLines.{begins_query}
 use Rattle.pc_document.proofs.BlockSteps.{block_halts, block_shorter}
 use Rattle.pc_document.proofs.document.blocks_at.Goals as goal
 

@@ -1,8 +1,8 @@
 use Rattle.std.proofs.Common.{◌≡◌, length}
-use Rattle.pc_format.specs.Formats.{after_items, read_many}
+use Rattle.pc_document_format.specs.Formats.{after_items, read_many}
 use Rattle.pc_document.specs.Places.{IsLineStart, lines_at}
 use Rattle.pc_document.specs.Reading.{read_block}
-use Rattle.pc_lines.specs.TokenLines.{begins_query}
+use Rattle.pc_document_lines.specs.TokenLines.{begins_query}
 use Rattle.pc_document.proofs.document.blocks_at.Given as goal
 
 abbrev pub invariant-loop-line : goal.invariant-loop-line

@@ -1,4 +1,4 @@
-use Rattle.pc_lines.proofs.AllLines.{all_lines}
+use Rattle.pc_document_lines.proofs.AllLines.{all_lines}
 use Rattle.pc_document.proofs.DocumentFormat.{read_again}
 use Rattle.pc_document.proofs.laws.documents_read_back.Goals as goal
 

@@ -1,4 +1,4 @@
-use Rattle.pc_lines.proofs.AllLines.{all_lines}
+use Rattle.pc_document_lines.proofs.AllLines.{all_lines}
 use Rattle.pc_document.proofs.DocumentFormat.{only_document}
 use Rattle.pc_document.proofs.laws.one_document.Goals as goal
 

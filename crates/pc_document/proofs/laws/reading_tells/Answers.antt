@@ -1,4 +1,4 @@
-use Rattle.pc_lines.proofs.AllLines.{all_lines}
+use Rattle.pc_document_lines.proofs.AllLines.{all_lines}
 use Rattle.pc_document.proofs.DocumentFormat.{reading_told}
 use Rattle.pc_document.proofs.laws.reading_tells.Goals as goal
 

@@ -2,7 +2,7 @@ use Rattle.std.proofs.Common.{rules, ◌≡◌, ℕ, ◌+◌, List, ◌∷◌, �
 use Rattle.std.proofs.lemmas.List.{length-append, nil_from_length}
 use Rattle.std.specs.Vec.Iter.{into_iter_items}
 use Rattle.pc_model.specs.declared.tree.TreeNode.{TreeNode}
-use Rattle.pc_lines.specs.NodeLines.{is_split}
+use Rattle.pc_document_lines.specs.NodeLines.{is_split}
 use Rattle.pc_document.specs.Spans.{ArePast, placed_from, placed_node}
 use Rattle.pc_document.proofs.PlacingSteps.{place_more, place_end}
 use Rattle.pc_document.proofs.placed.with_places.Goals as goal

@@ -2,7 +2,7 @@ use Rattle.std.proofs.Common.{rules, ◌≡◌, ℕ, ◌+◌, List, ◌∷◌, �
 use Rattle.std.proofs.lemmas.List.{length-append, nil_from_length}
 use Rattle.std.specs.Vec.Iter.{into_iter_items}
 use Rattle.pc_model.specs.declared.tree.CutNode.{CutNode}
-use Rattle.pc_lines.specs.TokenLines.{is_inner}
+use Rattle.pc_document_lines.specs.TokenLines.{is_inner}
 use Rattle.pc_document.specs.Spans.{ArePast, placed_cuts_from, placed_cut}
 use Rattle.pc_document.proofs.CutPlacing.{cut_more, cut_end}
 use Rattle.pc_document.proofs.placed_cuts.with_places.Goals as goal

@@ -1,8 +1,8 @@
 use Rattle.std.proofs.Common.{rules, ◌≡◌, ℕ, List, ◌+◌, ◌∷◌, ◌++◌, [], drop, sym, ap, ◌∙◌}
 use Rattle.pc_model.specs.declared.tree.TreeNode.{TreeNode}
-use Rattle.pc_format.specs.Lines.{lines_text}
-use Rattle.pc_format.specs.Formats.{nodes_text}
-use Rattle.pc_lines.specs.NodeLines.{bare, node_text}
+use Rattle.pc_document_format.specs.Lines.{lines_text}
+use Rattle.pc_document_format.specs.Formats.{nodes_text}
+use Rattle.pc_document_lines.specs.NodeLines.{bare, node_text}
 use Rattle.pc_document.proofs.Writing.{tree_more, tree_end}
 use Rattle.pc_document.proofs.put_proof.put_nodes.Goals as goal
 

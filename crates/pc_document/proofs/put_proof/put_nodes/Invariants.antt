@@ -1,8 +1,8 @@
 use Rattle.std.proofs.Common.{◌≡◌, ◌++◌, drop}
 use Rattle.pc_model.specs.declared.tree.TreeNode.{TreeNode}
-use Rattle.pc_format.specs.Lines.{lines_text}
-use Rattle.pc_format.specs.Formats.{nodes_text}
-use Rattle.pc_lines.specs.NodeLines.{bare, node_text}
+use Rattle.pc_document_format.specs.Lines.{lines_text}
+use Rattle.pc_document_format.specs.Formats.{nodes_text}
+use Rattle.pc_document_lines.specs.NodeLines.{bare, node_text}
 use Rattle.pc_document.proofs.put_proof.put_nodes.Given as goal
 
 abbrev pub invariant-loop-node : goal.invariant-loop-node

@@ -1,6 +1,6 @@
 use Rattle.std.proofs.Common.{rules, ◌≡◌, ◌∷◌, true, None, sym, ◌∙◌}
 use Rattle.pc_document.specs.Places.{lines_at}
-use Rattle.pc_lines.specs.TokenLines.{read_run, begins_run}
+use Rattle.pc_document_lines.specs.TokenLines.{read_run, begins_run}
 use Rattle.pc_document.proofs.RunSteps.{run_refused}
 use Rattle.pc_document.proofs.runs.runs_at.Goals as goal
 

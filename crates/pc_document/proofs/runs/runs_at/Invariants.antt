@@ -1,5 +1,5 @@
 use Rattle.std.proofs.Common.{◌≡◌, ◌-◌, length}
-use Rattle.pc_format.specs.Formats.{after_items}
+use Rattle.pc_document_format.specs.Formats.{after_items}
 use Rattle.pc_document.specs.Places.{IsLineStart, lines_at}
 use Rattle.pc_document.specs.Reading.{read_runs}
 use Rattle.pc_document.proofs.runs.runs_at.Given as goal

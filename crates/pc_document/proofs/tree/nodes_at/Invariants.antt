@@ -1,6 +1,6 @@
 use Rattle.std.proofs.Common.{◌≡◌, ◌+◌, ◌-◌, ◌≤◌, length}
-use Rattle.pc_format.specs.Formats.{after_items, read_nodes}
-use Rattle.pc_lines.specs.NodeLines.{is_split, read_node}
+use Rattle.pc_document_format.specs.Formats.{after_items, read_nodes}
+use Rattle.pc_document_lines.specs.NodeLines.{is_split, read_node}
 use Rattle.pc_document.specs.Places.{IsLineStart, lines_at}
 use Rattle.pc_document.proofs.tree.nodes_at.Given as goal
 

@@ -1,6 +1,6 @@
 use Rattle.std.proofs.Common.{rules, ◌≡◌, ℕ, List, ◌+◌, ◌++◌, drop, sym, ap, ◌∙◌}
-use Rattle.pc_format.specs.Lines.{lines_text}
-use Rattle.pc_format.specs.Formats.{items_text}
+use Rattle.pc_document_format.specs.Lines.{lines_text}
+use Rattle.pc_document_format.specs.Formats.{items_text}
 use Rattle.pc_document.specs.DocumentLines.{block_lines}
 use Rattle.pc_document.proofs.Writing.{items_more, items_end}
 use Rattle.pc_document.proofs.writer.put_blocks.Goals as goal

@@ -1,6 +1,6 @@
 use Rattle.std.proofs.Common.{◌≡◌, ◌++◌, drop}
-use Rattle.pc_format.specs.Lines.{lines_text}
-use Rattle.pc_format.specs.Formats.{items_text}
+use Rattle.pc_document_format.specs.Lines.{lines_text}
+use Rattle.pc_document_format.specs.Formats.{items_text}
 use Rattle.pc_document.specs.DocumentLines.{block_lines}
 use Rattle.pc_document.proofs.writer.put_blocks.Given as goal
 

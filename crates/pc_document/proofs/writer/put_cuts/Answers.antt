@@ -3,9 +3,9 @@ use Rattle.std.proofs.lemmas.List.{get_or_default}
 use Rattle.pc_model.specs.declared.tree.CutNode.{CutNode}
 use Rattle.pc_model.specs.declared.tree.Cut.TheVariants.{At}
 use Rattle.pc_model.specs.declared.tree.CutNode.TheVariants as cut_nodes
-use Rattle.pc_format.specs.Lines.{lines_text}
-use Rattle.pc_format.specs.Formats.{nodes_text}
-use Rattle.pc_lines.specs.TokenLines.{bare_cut, cut_node_text}
+use Rattle.pc_document_format.specs.Lines.{lines_text}
+use Rattle.pc_document_format.specs.Formats.{nodes_text}
+use Rattle.pc_document_lines.specs.TokenLines.{bare_cut, cut_node_text}
 use Rattle.pc_document.proofs.Writing.{nodes_more, nodes_end}
 use Rattle.pc_document.proofs.writer.put_cuts.Goals as goal
 

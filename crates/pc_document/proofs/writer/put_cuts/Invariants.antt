@@ -1,8 +1,8 @@
 use Rattle.std.proofs.Common.{◌≡◌, ◌++◌, drop}
 use Rattle.pc_model.specs.declared.tree.CutNode.{CutNode}
-use Rattle.pc_format.specs.Lines.{lines_text}
-use Rattle.pc_format.specs.Formats.{nodes_text}
-use Rattle.pc_lines.specs.TokenLines.{bare_cut, cut_node_text}
+use Rattle.pc_document_format.specs.Lines.{lines_text}
+use Rattle.pc_document_format.specs.Formats.{nodes_text}
+use Rattle.pc_document_lines.specs.TokenLines.{bare_cut, cut_node_text}
 use Rattle.pc_document.proofs.writer.put_cuts.Given as goal
 
 abbrev pub invariant-loop-node : goal.invariant-loop-node

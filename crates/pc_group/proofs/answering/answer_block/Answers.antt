@@ -3,7 +3,7 @@ use Rattle.std.proofs.lemmas.Result.{IfOk-weaker}
 use Rattle.pc_model.specs.declared.query.Agg.TheVariants.{Avg}
 use Rattle.pc_model.specs.declared.query.Query.{Query}
 use Rattle.pc_model.specs.Regions.{is_region_of}
-use Rattle.pc_search.specs.Asked.{Asking, setting_for}
+use Rattle.pc_agg_search.specs.Asked.{Asking, setting_for}
 use Rattle.pc_agg.specs.Owed.{Owes}
 use Rattle.pc_avg.specs.Averages.{HasShortEnds}
 use Rattle.pc_group.specs.Answers.{AnswersWanted}

@@ -2,7 +2,7 @@ use Rattle.std.proofs.Common.{◌≡◌, true, List, All, sym, subst, arith}
 use Rattle.std.proofs.lemmas.List.{take_all}
 use Rattle.pc_model.specs.declared.region.Region.{Region}
 use Rattle.pc_model.specs.Regions.{is_region_of}
-use Rattle.pc_tree.specs.Linked.{IsDividedFor}
+use Rattle.pc_cells_tree.specs.Linked.{IsDividedFor}
 use Rattle.pc_group.proofs.FormedCuts.{own_more}
 use Rattle.pc_group.proofs.Inner.{divided_more, keeps_more}
 use Rattle.pc_group.proofs.refining.refine_for_all.Goals as goal

@@ -1,6 +1,6 @@
 use Rattle.std.proofs.Common.{All, take}
 use Rattle.pc_model.specs.declared.region.Region.{Region}
-use Rattle.pc_tree.specs.Linked.{IsTree, IsDividedFor}
+use Rattle.pc_cells_tree.specs.Linked.{IsTree, IsDividedFor}
 use Rattle.pc_group.specs.Trees.{HasOwnCuts, KeepsInner}
 use Rattle.pc_group.proofs.refining.refine_for_all.Given as goal
 

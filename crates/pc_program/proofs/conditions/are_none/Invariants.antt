@@ -1,5 +1,5 @@
 use Rattle.std.proofs.Common.{◌≡◌, ℕ, ◌<◌}
-use Rattle.pc_bound.specs.Sums.{nat_at}
+use Rattle.pc_program_bound.specs.Sums.{nat_at}
 use Rattle.pc_program.proofs.conditions.are_none.Given as goal
 
 abbrev pub invariant-loop-floor : goal.invariant-loop-floor

@@ -1,5 +1,5 @@
 use Rattle.std.proofs.Common.{ℕ, ◌<◌, ◌^◌, nat_abs}
-use Rattle.pc_bound.specs.Sums.{int_at}
+use Rattle.pc_program_bound.specs.Sums.{int_at}
 use Rattle.pc_program.proofs.conditions.are_small.Given as goal
 
 abbrev pub invariant-loop-gain : goal.invariant-loop-gain

@@ -1,6 +1,6 @@
 use Rattle.std.proofs.Common.{sym, ◌∙◌}
 use Rattle.std.proofs.lemmas.Bool.{false≢true}
-use Rattle.pc_bound.specs.Sums.{nat_at}
+use Rattle.pc_program_bound.specs.Sums.{nat_at}
 use Rattle.pc_program.specs.Conditions.{HasOneBit}
 use Rattle.pc_program.proofs.OneBits.{one_more}
 use Rattle.pc_program.proofs.conditions.have_one_bit.Goals as goal

@@ -1,5 +1,5 @@
 use Rattle.std.proofs.Common.{ℕ, ◌<◌}
-use Rattle.pc_bound.specs.Sums.{nat_at}
+use Rattle.pc_program_bound.specs.Sums.{nat_at}
 use Rattle.pc_program.specs.Conditions.{HasOneBit}
 use Rattle.pc_program.proofs.conditions.have_one_bit.Given as goal
 

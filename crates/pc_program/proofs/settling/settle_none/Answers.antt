@@ -1,5 +1,5 @@
 use Rattle.std.proofs.Common.{arith, ◌≤◌}
-use Rattle.pc_bound.specs.Sums.{nat_at}
+use Rattle.pc_program_bound.specs.Sums.{nat_at}
 use Rattle.pc_program.proofs.FewCells.{IsSettled-none}
 use Rattle.pc_program.proofs.settling.settle_none.Goals as goal
 

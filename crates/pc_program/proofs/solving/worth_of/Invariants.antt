@@ -1,5 +1,5 @@
 use Rattle.std.proofs.Common.{◌≡◌, ◌≤◌, ◌*◌, ◌^◌, nat_abs, pos, ◌*ℤ◌}
-use Rattle.pc_bound.specs.Sums.{sum_below, nat_at, int_at}
+use Rattle.pc_program_bound.specs.Sums.{sum_below, nat_at, int_at}
 use Rattle.pc_program.proofs.solving.worth_of.Given as goal
 
 abbrev pub invariant-loop-cell : goal.invariant-loop-cell

@@ -1,5 +1,5 @@
 use Rattle.std.proofs.Common.{◌≡◌, map, drop}
-use Rattle.pc_bound.specs.CellPrograms.{members}
+use Rattle.pc_program_bound.specs.CellPrograms.{members}
 use Rattle.pc_proof.specs.Masks.{cap_for}
 use Rattle.pc_proof.proofs.Caps.{least_after, most_of}
 use Rattle.pc_proof.proofs.programs.cap_for.Given as goal

@@ -1,7 +1,7 @@
 use Rattle.std.proofs.Common.{rules, ◌≡◌, ℤ, [], ◌∷◌, ◌++◌, Ok, Err, get_or, length, length-append, ◌<◌, ◌∙◌, sym, arith}
 use Rattle.std.proofs.lemmas.Result.{err_from_is_err_and}
 use Rattle.csv.specs.Records.{fields_of}
-use Rattle.pc_table.specs.Fields.{field}
+use Rattle.pc_records.specs.Fields.{field}
 use Rattle.pc_rows.specs.RowFile.{cell_of}
 use Rattle.pc_rows.proofs.Cells.{cells_step, cells_err}
 use Rattle.pc_rows.proofs.read.fill_cells.Goals as goal

@@ -1,8 +1,8 @@
 use Rattle.std.proofs.Common.{◌≡◌, ◌≤◌, ◌∙◌, refl, arith, rules}
 use Rattle.std.proofs.lemmas.Result.{err_from_is_err_and}
 use Rattle.pc_model.specs.declared.fault.FileKind.TheVariants as kinds
-use Rattle.pc_words.specs.Commands.{bound_names}
-use Rattle.pc_words.specs.Words.{bound}
+use Rattle.pc_run_words.specs.Commands.{bound_names}
+use Rattle.pc_run_words.specs.Words.{bound}
 use Rattle.pc_run.specs.Outcome.{schema_under, rows_under, constraints_under}
 use Rattle.pc_run.proofs.Cases.{at_file, schema_read, rows_read, HasRows, HasFiles, schema_refused, rows_refused, constraints_refused, at_queries, at_end}
 use Rattle.pc_run.proofs.case.case_under.Goals as goal

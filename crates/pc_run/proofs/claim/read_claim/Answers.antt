@@ -1,8 +1,8 @@
 use Rattle.std.proofs.Common.{◌≤◌, ◌∙◌, refl, arith}
 use Rattle.std.proofs.lemmas.Result.{err_from_is_err_and}
 use Rattle.pc_model.specs.declared.fault.FileKind.TheVariants as kinds
-use Rattle.pc_words.specs.Commands.{check_names}
-use Rattle.pc_words.specs.Words.{check}
+use Rattle.pc_run_words.specs.Commands.{check_names}
+use Rattle.pc_run_words.specs.Words.{check}
 use Rattle.pc_run.specs.Outcome.{bytes_under, schema_under, rows_under, constraints_under}
 use Rattle.pc_run.proofs.Cases.{at_file, schema_read, rows_read, HasRows, HasFiles}
 use Rattle.pc_run.proofs.Claims.{schema_refused, rows_refused, constraints_refused, document_reached, document_refused, at_end}

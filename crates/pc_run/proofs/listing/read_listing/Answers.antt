@@ -1,8 +1,8 @@
 use Rattle.std.proofs.Common.{◌≤◌, refl, arith}
 use Rattle.std.proofs.lemmas.Result.{err_from_is_err_and}
 use Rattle.pc_model.specs.declared.fault.FileKind.TheVariants as kinds
-use Rattle.pc_words.specs.Commands.{show_names}
-use Rattle.pc_words.specs.Words.{show}
+use Rattle.pc_run_words.specs.Commands.{show_names}
+use Rattle.pc_run_words.specs.Words.{show}
 use Rattle.pc_run.specs.Outcome.{schema_under, constraints_under}
 use Rattle.pc_run.proofs.Cases.{at_file, schema_read}
 use Rattle.pc_run.proofs.Listings.{schema_refused, constraints_refused, at_end}

@@ -1,7 +1,7 @@
 use Rattle.std.proofs.Common.{◌≡◌, ◌*◌, length, subst}
 use Rattle.std.proofs.lemmas.Result.{IfOk-weaker}
 use Rattle.pc_rows.specs.declared.case.Case.{Case}
-use Rattle.pc_words.specs.Words.{usual_nodes}
+use Rattle.pc_run_words.specs.Words.{usual_nodes}
 use Rattle.pc_gen.specs.Generated.{generated_case}
 use Rattle.pc_gen.proofs.Accepted.{constraints_accepted}
 use Rattle.pc_gen.proofs.DrawnRows.{rows_allowed}

@@ -1,5 +1,5 @@
 use Rattle.std.proofs.Common.{Ok, refl, inr}
-use Rattle.pc_words.specs.Commands.{gen_numbers}
+use Rattle.pc_run_words.specs.Commands.{gen_numbers}
 use Rattle.pc_run.specs.Outcome.{makes}
 use Rattle.pc_run.proofs.reply.reply_to_gen.Goals as goal
 

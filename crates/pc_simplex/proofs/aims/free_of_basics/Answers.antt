@@ -1,6 +1,6 @@
 use Rattle.std.proofs.Common.{◌≡◌, ◌<◌, length, ap, refl, arith}
 use Rattle.std.specs.Prelude.{vec_len}
-use Rattle.pc_tableau.specs.Tableau.{Tableau}
+use Rattle.pc_simplex_tableau.specs.Tableau.{Tableau}
 use Rattle.pc_simplex.proofs.FreedRows.{freed_start, freed_stops, freed_more}
 use Rattle.pc_simplex.proofs.aims.free_of_basics.Goals as goal
 

@@ -1,5 +1,5 @@
 use Rattle.std.proofs.Common.{◌≡◌}
-use Rattle.pc_tableau.specs.Numbers.{table}
+use Rattle.pc_simplex_tableau.specs.Numbers.{table}
 use Rattle.pc_simplex.specs.Aims.{gain_at}
 use Rattle.pc_simplex.proofs.aims.gains.Given as goal
 

@@ -1,6 +1,6 @@
 use Rattle.std.proofs.Common.{◌≡◌}
-use Rattle.pc_tableau.specs.Numbers.{table}
-use Rattle.pc_tableau.specs.Standing.{gain_one}
+use Rattle.pc_simplex_tableau.specs.Numbers.{table}
+use Rattle.pc_simplex_tableau.specs.Standing.{gain_one}
 use Rattle.pc_simplex.proofs.first.first_aim.Given as goal
 
 abbrev pub invariant-loop-column : goal.invariant-loop-column

@@ -2,7 +2,7 @@ use Rattle.std.proofs.Common.{◌≡◌, ◌∙◌, to_z, of_z, arith}
 use Rattle.std.specs.Int.{w128}
 use Rattle.std.proofs.lemmas.Int.{ints}
 use Rattle.pc_simplex.specs.Floors.{number_at}
-use Rattle.pc_tableau.proofs.Tables.{table_made}
+use Rattle.pc_simplex_tableau.proofs.Tables.{table_made}
 use Rattle.pc_simplex.proofs.first.first_numbers.Goals as goal
 
 pub loop-column-preserved : goal.loop-column-preserved

@@ -1,6 +1,6 @@
 use Rattle.std.proofs.Common.{◌∙◌, ap, sym, length}
 use Rattle.pc_num.proofs.Signed.{as_passed, passed}
-use Rattle.pc_tableau.proofs.Listed.{length-table}
+use Rattle.pc_simplex_tableau.proofs.Listed.{length-table}
 use Rattle.pc_simplex.proofs.FirstRows.{first_row-short}
 use Rattle.pc_simplex.proofs.first.first_row.Goals as goal
 

@@ -1,6 +1,6 @@
 use Rattle.std.proofs.Common.{◌≡◌, []}
-use Rattle.pc_tableau.specs.Numbers.{table}
-use Rattle.pc_tableau.specs.Relaxation.{first_row}
+use Rattle.pc_simplex_tableau.specs.Numbers.{table}
+use Rattle.pc_simplex_tableau.specs.Relaxation.{first_row}
 use Rattle.pc_simplex.proofs.first.first_rows.Given as goal
 
 abbrev pub invariant-loop-constraint : goal.invariant-loop-constraint

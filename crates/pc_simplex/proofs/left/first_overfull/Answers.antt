@@ -1,6 +1,6 @@
 use Rattle.std.proofs.Common.{◌<◌, arith}
-use Rattle.pc_bound.specs.Allocation.{constraints_of}
-use Rattle.pc_tableau.proofs.Deciding.{none_first, none_more, first_found}
+use Rattle.pc_program_bound.specs.Allocation.{constraints_of}
+use Rattle.pc_simplex_tableau.proofs.Deciding.{none_first, none_more, first_found}
 use Rattle.pc_simplex.specs.Floors.{is_overfull}
 use Rattle.pc_simplex.proofs.left.first_overfull.Goals as goal
 

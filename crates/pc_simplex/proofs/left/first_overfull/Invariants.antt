@@ -1,5 +1,5 @@
 use Rattle.std.proofs.Common.{◌≡◌, None}
-use Rattle.pc_tableau.specs.Numbers.{first_below}
+use Rattle.pc_simplex_tableau.specs.Numbers.{first_below}
 use Rattle.pc_simplex.specs.Floors.{is_overfull}
 use Rattle.pc_simplex.proofs.left.first_overfull.Given as goal
 

@@ -1,5 +1,5 @@
 use Rattle.std.proofs.Common.{◌≡◌, ◌==◌, pos, cond}
-use Rattle.pc_tableau.specs.Numbers.{table}
+use Rattle.pc_simplex_tableau.specs.Numbers.{table}
 use Rattle.pc_simplex.proofs.left.one_at.Given as goal
 
 abbrev pub invariant-loop-place : goal.invariant-loop-place

@@ -1,6 +1,6 @@
 use Rattle.std.proofs.Common.{◌≡◌, not, drop}
 use Rattle.std.specs.List.{list_all}
-use Rattle.pc_tableau.specs.Tableau.{TableauRow}
+use Rattle.pc_simplex_tableau.specs.Tableau.{TableauRow}
 use Rattle.pc_simplex.specs.Phases.{is_left}
 use Rattle.pc_simplex.proofs.phases.has_helper.Given as goal
 

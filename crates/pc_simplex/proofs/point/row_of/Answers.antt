@@ -1,6 +1,6 @@
 use Rattle.std.proofs.Common.{◌≡◌, ◌==◌, ◌<◌, length, ap, arith}
-use Rattle.pc_tableau.specs.Tableau.{Tableau, row_at}
-use Rattle.pc_tableau.proofs.Deciding.{none_first, none_more, first_found}
+use Rattle.pc_simplex_tableau.specs.Tableau.{Tableau, row_at}
+use Rattle.pc_simplex_tableau.proofs.Deciding.{none_first, none_more, first_found}
 use Rattle.pc_simplex.proofs.point.row_of.Goals as goal
 
 pub loop-at-init : goal.loop-at-init

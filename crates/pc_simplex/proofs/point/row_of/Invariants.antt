@@ -1,6 +1,6 @@
 use Rattle.std.proofs.Common.{◌≡◌, ◌==◌, None}
-use Rattle.pc_tableau.specs.Numbers.{first_below}
-use Rattle.pc_tableau.specs.Tableau.{row_at}
+use Rattle.pc_simplex_tableau.specs.Numbers.{first_below}
+use Rattle.pc_simplex_tableau.specs.Tableau.{row_at}
 use Rattle.pc_simplex.proofs.point.row_of.Given as goal
 
 abbrev pub invariant-loop-at : goal.invariant-loop-at

@@ -1,11 +1,11 @@
 use Rattle.std.proofs.Common.{◌≡◌, ap, arith, to_z, of_z}
 use Rattle.std.specs.Int.{w128}
 use Rattle.std.proofs.lemmas.Int.{ints}
-use Rattle.pc_bound.specs.Allocation.{constraints_of}
-use Rattle.pc_tableau.specs.Tableau.{Tableau}
-use Rattle.pc_tableau.specs.Relaxation.{multiplier}
-use Rattle.pc_tableau.proofs.Listed.{length-table}
-use Rattle.pc_tableau.proofs.WholeEnds.{vertex_stands}
+use Rattle.pc_program_bound.specs.Allocation.{constraints_of}
+use Rattle.pc_simplex_tableau.specs.Tableau.{Tableau}
+use Rattle.pc_simplex_tableau.specs.Relaxation.{multiplier}
+use Rattle.pc_simplex_tableau.proofs.Listed.{length-table}
+use Rattle.pc_simplex_tableau.proofs.WholeEnds.{vertex_stands}
 use Rattle.pc_simplex.proofs.relaxed.at_vertex.Goals as goal
 
 pub fits_width-requires-clause-sized : goal.fits_width-requires-clause-sized

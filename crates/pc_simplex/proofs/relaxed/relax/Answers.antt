@@ -1,5 +1,5 @@
 use Rattle.std.proofs.lemmas.Result.{IfOk-weaker}
-use Rattle.pc_tableau.specs.Point.{IsRelaxation}
+use Rattle.pc_simplex_tableau.specs.Point.{IsRelaxation}
 use Rattle.pc_simplex.specs.Relaxed.{relaxation_of}
 use Rattle.pc_simplex.specs.Vertices.{IsShown, IsGreatest}
 use Rattle.pc_simplex.proofs.Shown.{IsShown-relaxation, IsGreatest-relaxation}

@@ -1,5 +1,5 @@
 use Rattle.std.proofs.Common.{◌≡◌}
-use Rattle.pc_tableau.specs.Numbers.{table}
+use Rattle.pc_simplex_tableau.specs.Numbers.{table}
 use Rattle.pc_simplex.specs.Shorts.{column_places}
 use Rattle.pc_simplex.proofs.setting.all_places.Given as goal
 

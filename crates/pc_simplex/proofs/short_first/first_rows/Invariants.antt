@@ -1,5 +1,5 @@
 use Rattle.std.proofs.Common.{◌≡◌}
-use Rattle.pc_tableau.specs.Numbers.{table}
+use Rattle.pc_simplex_tableau.specs.Numbers.{table}
 use Rattle.pc_simplex.specs.Shorts.{first_short_row}
 use Rattle.pc_simplex.proofs.short_first.first_rows.Given as goal
 

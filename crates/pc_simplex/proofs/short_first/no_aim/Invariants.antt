@@ -1,5 +1,5 @@
 use Rattle.std.proofs.Common.{◌≡◌, pos}
-use Rattle.pc_tableau.specs.Numbers.{table}
+use Rattle.pc_simplex_tableau.specs.Numbers.{table}
 use Rattle.pc_simplex.proofs.short_first.no_aim.Given as goal
 
 abbrev pub invariant-loop-place : goal.invariant-loop-place

@@ -1,5 +1,5 @@
 use Rattle.std.proofs.Common.{◌≡◌, ◌==◌, pos, cond}
-use Rattle.pc_tableau.specs.Numbers.{table}
+use Rattle.pc_simplex_tableau.specs.Numbers.{table}
 use Rattle.pc_simplex.proofs.short_first.unit_row.Given as goal
 
 abbrev pub invariant-loop-place : goal.invariant-loop-place

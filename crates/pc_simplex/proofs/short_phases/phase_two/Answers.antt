@@ -1,11 +1,11 @@
 use Rattle.std.proofs.Common.{◌≡◌, ◌≤◌, ◌^◌, Some, IfOk, IfSome, refl, ap, ap₂, subst, sym, ◌∙◌}
 use Rattle.std.proofs.lemmas.Result.{IfOk-weaker}
-use Rattle.pc_tableau.specs.Numbers.{table}
-use Rattle.pc_tableau.specs.Tableau.{Columns}
-use Rattle.pc_tableau.specs.Relaxation.{columns_of, phase_two, with_gains}
-use Rattle.pc_tableau.specs.Standing.{gain_two}
-use Rattle.pc_short.specs.Short.{Setting, spelled}
-use Rattle.pc_short.specs.Kept.{IsShort}
+use Rattle.pc_simplex_tableau.specs.Numbers.{table}
+use Rattle.pc_simplex_tableau.specs.Tableau.{Columns}
+use Rattle.pc_simplex_tableau.specs.Relaxation.{columns_of, phase_two, with_gains}
+use Rattle.pc_simplex_tableau.specs.Standing.{gain_two}
+use Rattle.pc_simplex_short.specs.Short.{ShortSetting, spelled}
+use Rattle.pc_simplex_short.specs.Kept.{IsShort}
 use Rattle.pc_simplex.specs.Ended.{ending_of}
 use Rattle.pc_simplex.specs.Shorts.{setting_of, IsEndingFrom}
 use Rattle.pc_simplex.proofs.ShortSecond.{second_spells, second_is_short}
@@ -21,7 +21,7 @@ phase_two_from-requires-clause-short c =
     let top = c.in_ok-setting.setting.top in
     let start = rw c.in-Some.is at c.in_ok-start.ensures.value in
     let before : IsShort (setting_of p f.columns f.gains f.top) c.args.tableau = subst (λ s. IsShort s c.args.tableau) c.requires.of c.requires.short in
-    let light : top ≤ 2 ^ 69 = rw (ap (λ (s : Setting). s.top) c.setting.view_is) at (rw c.in-Some.is at c.in_ok-start.ensures.light) in
+    let light : top ≤ 2 ^ 69 = rw (ap (λ (s : ShortSetting). s.top) c.setting.view_is) at (rw c.in-Some.is at c.in_ok-start.ensures.light) in
     subst (λ s. IsShort s c.in-Some.start) (sym c.in_ok-setting.ensures.value)
     (subst (IsShort (setting_of p columns gains top)) (sym start) (second_is_short p f.columns columns f.gains gains f.top top c.args.tableau refl light before))
 
@@ -39,7 +39,7 @@ returns-in-Some-clause-value c floors caps is =
     (before.turned ∙ c.requires.columns.count)
     ∙ ap (λ s. with_gains p (spelled s c.args.tableau)) (sym c.requires.of) in
     let named : c.in_ok-setting.setting.columns ≡ phase_two p floors caps =
-    ap (λ (s : Setting). s.columns) setting ∙ ap (λ (g : Columns). record g { helper = Some 0 }) is in
+    ap (λ (s : ShortSetting). s.columns) setting ∙ ap (λ (g : Columns). record g { helper = Some 0 }) is in
     let found = subst (λ t. IfOk c.phase_two_from.result (λ o. IfSome o (λ e. IsEndingFrom c.in_ok-setting.setting.columns c.args.left c.args.steps t (ending_of e)))) spells
     c.phase_two_from.ensures.value in
     let ends = subst (λ g. IfOk c.phase_two_from.result (λ o. IfSome o (λ e. IsEndingFrom g c.args.left c.args.steps (with_gains p (spelled f c.args.tableau)) (ending_of e)))) named found in

@@ -1,7 +1,7 @@
 use Rattle.std.proofs.Common.{◌≡◌, pos, ◌+ℤ◌, ◌*ℤ◌, to_z, of_z, arith}
 use Rattle.std.specs.Int.{w128}
 use Rattle.std.proofs.lemmas.Int.{ints}
-use Rattle.pc_bound.proofs.Steps.{passed}
+use Rattle.pc_program_bound.proofs.Steps.{passed}
 use Rattle.pc_witness.proofs.RunSums.{product_is_small, sum_is_small}
 use Rattle.pc_witness.proofs.fold.sum_with.Goals as goal
 

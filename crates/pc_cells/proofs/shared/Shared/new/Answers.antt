@@ -1,6 +1,6 @@
 use Rattle.std.proofs.Common.{sym, ◌∙◌, subst}
-use Rattle.pc_tree.specs.Linked.{IsTree}
-use Rattle.pc_tree.proofs.Starts.{one_leaf_is_tree}
+use Rattle.pc_cells_tree.specs.Linked.{IsTree}
+use Rattle.pc_cells_tree.proofs.Starts.{one_leaf_is_tree}
 use Rattle.pc_cells.proofs.shared.Shared.new.Goals as goal
 
 pub returns-clause-tree : goal.returns-clause-tree

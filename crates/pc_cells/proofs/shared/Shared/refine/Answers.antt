@@ -1,5 +1,5 @@
 use Rattle.std.proofs.Common.{subst}
-use Rattle.pc_tree.specs.Linked.{HasNeededCuts}
+use Rattle.pc_cells_tree.specs.Linked.{HasNeededCuts}
 use Rattle.pc_cells.proofs.shared.Shared.refine.Goals as goal
 
 pub returns-clause-needed : goal.returns-clause-needed

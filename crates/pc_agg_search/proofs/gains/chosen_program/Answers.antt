@@ -1,0 +1,35 @@
+use Rattle.std.proofs.Common.{◌≡◌, to_z, of_z, arith}
+use Rattle.std.specs.Int.{w128}
+use Rattle.std.proofs.lemmas.Int.{ints}
+use Rattle.std.proofs.lemmas.Result.{IfOk-weaker}
+use Rattle.pc_agg_search.proofs.ListedPrograms.{chosen_for, chosen_formed, chosen_small, chosen_one_bits}
+use Rattle.pc_agg_search.proofs.gains.chosen_program.Goals as goal
+
+pub returns-clause-program : goal.returns-clause-program
+returns-clause-program c =
+    let same : to_z w128 (of_z w128 c.args.gain) ≡ c.args.gain = omega (arith, ints) in
+    IfOk-weaker c.chosen_alone.result _ _
+    (chosen_for c.args.schema.now c.args.constraints.now c.args.query.now c.args.cells.now c.requires.well_formed c.requires.constraints c.requires.cells c.args.gain)
+    (rw same at c.chosen_alone.ensures)
+
+pub returns-clause-is_program : goal.returns-clause-is_program
+returns-clause-is_program c =
+    let same : to_z w128 (of_z w128 c.args.gain) ≡ c.args.gain = omega (arith, ints) in
+    IfOk-weaker c.chosen_alone.result _ _
+    (chosen_formed c.args.schema.now c.args.constraints.now c.args.query.now c.args.cells.now c.requires.well_formed c.requires.constraints c.requires.cells c.args.gain)
+    (rw same at c.chosen_alone.ensures)
+
+pub returns-clause-small : goal.returns-clause-small
+returns-clause-small c =
+    let same : to_z w128 (of_z w128 c.args.gain) ≡ c.args.gain = omega (arith, ints) in
+    IfOk-weaker c.chosen_alone.result _ _
+    (λ p is. chosen_small c.args.schema.now c.args.constraints.now c.args.query.now c.args.cells.now c.requires.well_formed c.requires.constraints c.requires.cells c.args.gain p is c.requires.gain)
+    (rw same at c.chosen_alone.ensures)
+
+pub returns-clause-disjoint : goal.returns-clause-disjoint
+returns-clause-disjoint c =
+    let same : to_z w128 (of_z w128 c.args.gain) ≡ c.args.gain = omega (arith, ints) in
+    λ disjoint.
+    IfOk-weaker c.chosen_alone.result _ _
+    (λ p is. chosen_one_bits c.args.schema.now c.args.constraints.now c.args.query.now c.args.cells.now c.requires.well_formed c.requires.constraints c.requires.cells c.args.gain p is c.requires.gain disjoint)
+    (rw same at c.chosen_alone.ensures)

@@ -1,0 +1,15 @@
+use Rattle.std.proofs.Common.{subst}
+use Rattle.pc_branch.proofs.Widths.{HasFitWidth-small}
+use Rattle.pc_agg_search.specs.Limits.{IsSought, IsClosed}
+use Rattle.pc_agg_search.proofs.limit.seek.Goals as goal
+
+pub solve-requires-clause-width : goal.solve-requires-clause-width
+solve-requires-clause-width c = HasFitWidth-small c.in_ok-program.program c.in_ok-program.ensures.is_program c.in_ok-program.ensures.small
+
+pub returns-clause-sought : goal.returns-clause-sought
+returns-clause-sought c = subst (λ p. IsSought p c.args.nodes c.sought_of.result) c.in_ok-program.ensures.program c.sought_of.ensures.sought
+
+pub returns-clause-disjoint : goal.returns-clause-disjoint
+returns-clause-disjoint c =
+    λ disjoint.
+    subst (λ p. IsClosed p c.sought_of.result) c.in_ok-program.ensures.program (c.sought_of.ensures.decided (c.in_ok-outcome.ensures.disjoint (c.in_ok-program.ensures.disjoint disjoint)))

@@ -1,0 +1,14 @@
+use Rattle.std.proofs.Common.{◌≡◌, ◌<◌, length, sym, to_z, of_z, arith}
+use Rattle.std.specs.Int.{w128}
+use Rattle.std.proofs.lemmas.Int.{ints}
+use Rattle.pc_agg_search.proofs.CellTargets.{more_targets}
+use Rattle.pc_agg_search.proofs.targets.targets_of.Goals as goal
+
+pub loop-cell-preserved : goal.loop-cell-preserved
+loop-cell-preserved c =
+    let target = c.in_ok-target.target in
+    let cells = c.args.cells.now.cells in
+    let same : to_z w128 (of_z w128 target.gain) ≡ target.gain = omega (arith, ints) in
+    let inside : c.loop-cell.cell < length cells = rw (sym c.len-cell-end.ensures) c.loop-cell-test.true in
+    rw (c.in_ok-push.ensures.items, c.in_ok-push-2.ensures.items, same)
+    (more_targets c.args.column c.args.extreme cells c.loop-cell.cell c.loop-cell.gains.items target.gain c.loop-cell.picks.items target.pick inside c.loop-cell.invariant c.in_ok-target.ensures)

@@ -1,0 +1,177 @@
+ghost use Rattle.std.specs.Prelude.{◌≡◌, ◌<◌, ◌≤◌, ◌^◌, ℕ, pos, nat_abs, length, map, cond, true, None, Some, All, IfOk, IfSome, IsSomeAnd};
+ghost use Rattle.std.specs.List.{AllZip};
+ghost use Rattle.pc_model.specs.Accepted.{IsQuery, IsNumeric, IsColumnWhere};
+ghost use Rattle.pc_model.specs.Right.{always_has_value};
+ghost use Rattle.pc_model.specs.WellFormed.{IsWellFormed};
+ghost use Rattle.pc_model.specs.Cells.{IsSettledTree, leaves_in, classes_of};
+ghost use Rattle.pc_cells.specs.Found.{class_of_cell, cells_of, leaves_at, IsFilled, HoldsNumber, HasNumbers};
+ghost use Rattle.pc_agg_search.specs.Ends.{gain_towards, signed, IsPick};
+ghost use Rattle.pc_proof.specs.Setting.{on_chosen};
+ghost use Rattle.pc_agg_search.specs.Asked.{AreCells};
+ghost use Rattle.pc_agg_search.specs.Keys.{key_of};
+ghost use Rattle.pc_agg_search.specs.Settings.{unseen};
+ghost use Rattle.pc_agg_search.specs.Keys.{IsAtEnd};
+ghost use Rattle.pc_agg_search.specs.Targets.{cell_at, number_in, IsTarget, AreTargets};
+
+use crate::extreme::Extreme;
+use pc_cells::Cells;
+use pc_list::Seq;
+use pc_model::{Constraint, Query, Row, Schema};
+use pc_num::Memory;
+use std::alloc::Global;
+
+/// What a row of each cell gains towards an end, and a row of each cell that gains it.
+#[derive(Debug, Drop)]
+pub struct Targets {
+    pub gains: Seq<i128>,
+    pub picks: Seq<Row>,
+}
+
+/// The targets of a count or a sum.
+pub fn find_targets(
+    alloc: Global,
+    schema: &Schema,
+    constraints: &[Constraint],
+    cells: &Cells,
+    query: &Query,
+    extreme: Extreme,
+) -> Result<Targets, Memory>
+    requires well_formed { IsWellFormed schema.now }
+    requires query { IsQuery schema.now query.now }
+    requires ungrouped { query.now.group ≡ None }
+    requires has_value { always_has_value query.now.agg ≡ true }
+    requires settled { IsSettledTree schema.now constraints.now query.now.chosen cells.now.tree.nodes }
+    requires cells { cells.now.cells ≡ cells_of (leaves_in schema.now cells.now.tree.nodes) }
+    requires filled { All IsFilled cells.now.cells }
+    requires numbers { (column : ℕ) → IsColumnWhere IsNumeric schema.now column → All (HasNumbers column) cells.now.cells }
+    ensures gains { IfOk result (λ found. found.gains ≡ map (gain_towards (unseen schema.now constraints.now query.now cells.now.tree.nodes) query.now.agg extreme) (map class_of_cell cells.now.cells)) }
+    ensures picks { IfOk result (λ found. AllZip (IsPick (unseen schema.now constraints.now query.now cells.now.tree.nodes) query.now.agg extreme) (map class_of_cell cells.now.cells) found.picks) }
+    ensures small { IfOk result (λ found. All (λ gain. nat_abs gain ≤ 2 ^ 63) found.gains) }
+{
+    targets_of(alloc, cells, query.column, extreme)
+}
+
+/// The keys of the cells at an end of the query's column, 0 where they are not chosen, and rows with the cells' numbers
+/// there. A key is the number, turned at a low end.
+pub fn find_keys(
+    alloc: Global,
+    schema: &Schema,
+    constraints: &[Constraint],
+    cells: &Cells,
+    query: &Query,
+    extreme: Extreme,
+) -> Result<Targets, Memory>
+    requires well_formed { IsWellFormed schema.now }
+    requires numbers { IsSomeAnd query.now.column (IsColumnWhere IsNumeric schema.now) }
+    requires cells { AreCells schema.now constraints.now query.now cells.now }
+    ensures keys { IfOk result (λ found. found.gains ≡ map (on_chosen (key_of (unseen schema.now constraints.now query.now cells.now.tree.nodes) extreme)) (classes_of (leaves_in schema.now cells.now.tree.nodes))) }
+    ensures picks { IfOk result (λ found. AllZip (IsAtEnd (unseen schema.now constraints.now query.now cells.now.tree.nodes) extreme) (classes_of (leaves_in schema.now cells.now.tree.nodes)) found.picks) }
+    ensures small { IfOk result (λ found. All (λ gain. nat_abs gain ≤ 2 ^ 63) found.gains) }
+{
+    targets_of(alloc, cells, query.column, extreme)
+}
+
+/// The same by what the cells alone say, for the column that is summed, or none where rows are counted.
+#[tactic(auto, using(crate::proofs::CellTargets::steps))]
+fn targets_of(
+    alloc: Global,
+    cells: &Cells,
+    column: Option<u8>,
+    extreme: Extreme,
+) -> Result<Targets, Memory>
+    requires filled { All IsFilled cells.now.cells }
+    requires numbers { IfSome column (λ named. All (HasNumbers named) cells.now.cells) }
+    ensures { IfOk result (λ found. AreTargets column extreme cells.now.cells found.gains found.picks) }
+{
+    let mut gains = Vec::new(alloc);
+    let mut picks = Vec::new(alloc);
+    for cell in 0..cells.cells.len() {
+        let target = target_of(alloc, cells, cell, column, extreme)?;
+        gains.push(target.gain)?;
+        picks.push(target.pick)?;
+    }
+    Ok(Targets {
+        gains: Seq::from_vec(gains),
+        picks: Seq::from_vec(picks),
+    })
+}
+
+/// What a row of one cell gains, and such a row.
+#[derive(Drop)]
+struct Target {
+    gain: i128,
+    pick: Row,
+}
+
+fn target_of(
+    alloc: Global,
+    cells: &Cells,
+    cell: usize,
+    column: Option<u8>,
+    extreme: Extreme,
+) -> Result<Target, Memory>
+    requires there { cell < length cells.now.cells }
+    requires filled { All IsFilled cells.now.cells }
+    requires numbers { IfSome column (λ named. All (HasNumbers named) cells.now.cells) }
+    ensures { IfOk result (λ target. IsTarget column extreme (cell_at cells.now.cells cell) target.gain target.pick) }
+{
+    let chosen = cells.cells.as_slice()[cell].chosen;
+    let held = held_at(cells, cell, column, extreme);
+    let gain = gain_of(chosen, held.number, extreme);
+    let pick = cells.row_at(alloc, cell, held.leaf, column, held.number)?;
+    Ok(Target { gain, pick })
+}
+
+fn gain_of(chosen: bool, number: i64, extreme: Extreme) -> i128
+    ensures gain { result ≡ cond chosen (signed extreme number) (pos 0) }
+    ensures small { nat_abs result ≤ 2 ^ 63 }
+{
+    if !chosen {
+        return 0;
+    }
+    match extreme {
+        Extreme::Low => -i128::from(number),
+        Extreme::High => i128::from(number),
+    }
+}
+
+/// What a row adds at an end of a cell, and the place of a leaf with such a row.
+#[derive(Clone, Copy)]
+struct Held {
+    number: i64,
+    leaf: u32,
+}
+
+fn held_at(cells: &Cells, cell: usize, column: Option<u8>, extreme: Extreme) -> Held
+    requires there { cell < length cells.now.cells }
+    requires filled { All IsFilled cells.now.cells }
+    requires numbers { IfSome column (λ named. All (HasNumbers named) cells.now.cells) }
+    ensures number { result.number ≡ number_in column extreme (leaves_at cells.now.cells cell) }
+    ensures leaf { result.leaf < length (leaves_at cells.now.cells cell) }
+    ensures held { IfSome column (λ named. HoldsNumber (leaves_at cells.now.cells cell) result.leaf named result.number) }
+{
+    match column {
+        None => Held { number: 1, leaf: 0 },
+        Some(named) => held_end(cells, cell, named, extreme),
+    }
+}
+
+fn held_end(cells: &Cells, cell: usize, column: u8, extreme: Extreme) -> Held
+    requires there { cell < length cells.now.cells }
+    requires filled { All IsFilled cells.now.cells }
+    requires numbers { All (HasNumbers column) cells.now.cells }
+    ensures number { result.number ≡ number_in (Some column) extreme (leaves_at cells.now.cells cell) }
+    ensures held { HoldsNumber (leaves_at cells.now.cells cell) result.leaf column result.number }
+{
+    let ends = cells.extreme(cell, column);
+    match extreme {
+        Extreme::Low => Held {
+            number: ends.low,
+            leaf: ends.low_leaf,
+        },
+        Extreme::High => Held {
+            number: ends.high,
+            leaf: ends.high_leaf,
+        },
+    }
+}

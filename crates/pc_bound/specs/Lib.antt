@@ -1,6 +1,0 @@
-pub mod Allocation
-pub mod Bound
-pub mod CellPrograms
-pub mod Parts
-pub mod SplitTrees
-pub mod Sums

@@ -1,0 +1,71 @@
+-- How a box stands to a region, its open faces, and the cuts along the region.
+use Rattle.std.specs.Prelude.{◌≡◌, ℕ, ◌+◌, ◌<◌, ℤ, pos, ◌-ℤ◌, int_lt, ◌==◌, cond, if◌then◌else◌, List, [], ◌∷◌, length, Option, Some, None}
+use Rattle.pc_model.specs.declared.region.Side.{Side}
+use Rattle.pc_model.specs.declared.region.Side.TheVariants.{Span, Names}
+use Rattle.pc_model.specs.declared.region.Region.{Region}
+use Rattle.pc_model.specs.declared.tree.Cut.{Cut}
+use Rattle.pc_model.specs.declared.tree.Cut.TheVariants.{At, Among}
+use Rattle.pc_model.specs.CutTrees.{IsInside, IsApart, side_at}
+use Rattle.pc_model.specs.Places.{places_outside}
+use Rattle.pc_cells_tree.specs.declared.stance.Stance.{Stance}
+use Rattle.pc_cells_tree.specs.declared.stance.Stance.TheVariants.{Inside, Apart, Across}
+
+-- a schema has at most so many columns
+abbrev pub column_limit : ℕ
+column_limit = 12
+
+-- ---- open faces
+
+-- at how many of its ends a side reaches beyond another; a set does so once
+unfoldable pub side_faces : Side → Side → ℕ
+side_faces (Span low high) (Span other_low other_high) = cond (int_lt low other_low) 1 0 + cond (int_lt other_high high) 1 0
+side_faces (Span low high) (Names bits) = 0
+side_faces (Names bits) (Span low high) = 0
+side_faces (Names bits) (Names other_bits) = cond (places_outside bits other_bits == 0) 0 1
+
+abbrev pub faces_of : List Side → List Side → ℕ
+faces_of [] others = 0
+faces_of (side ∷ sides) [] = 0
+faces_of (side ∷ sides) (other ∷ others) = side_faces side other + faces_of sides others
+
+-- the open faces of a box: the ends and the sets along which it reaches beyond a region
+abbrev pub open_faces : Region → Region → ℕ
+open_faces part region = faces_of part.sides region.sides
+
+-- ---- cuts along a region
+
+-- the cut below the other span, or the one above it, if the span reaches that far
+abbrev pub span_cut : ℕ → ℤ → ℤ → ℤ → ℤ → Option Cut
+span_cut column low high other_low other_high =
+    if int_lt low other_low then Some (At column (other_low -ℤ pos 1)) else (if int_lt other_high high then Some (At column other_high) else None)
+
+-- the cut between the names that are in the other set and those that are not, if there are any
+abbrev pub set_cut : ℕ → ℕ → ℕ → Option Cut
+set_cut column bits other = if places_outside bits other == 0 then None else Some (Among column other)
+
+unfoldable pub side_cut : ℕ → Side → Side → Option Cut
+side_cut column (Span low high) (Span other_low other_high) = span_cut column low high other_low other_high
+side_cut column (Span low high) (Names bits) = None
+side_cut column (Names bits) (Span low high) = None
+side_cut column (Names bits) (Names other_bits) = set_cut column bits other_bits
+
+-- the cut is along an open face
+abbrev pub IsAlong : Region → Region → Cut → Type 0
+IsAlong part region cut = (column : ℕ) × (column < length part.sides) × (side_cut column (side_at part column) (side_at region column) ≡ Some cut)
+
+-- ---- a box and a region
+
+-- some rows of the box are in the region and some are not
+pub record IsAcross (part region : Region) : Type 0 where
+  pub not_inside : IsInside part region → ⊥
+  pub not_apart : IsApart part region → ⊥
+
+-- .. and the cut is along one of its open faces
+pub record IsCutThrough (part region : Region) (cut : Cut) : Type 0 where
+  pub across : IsAcross part region
+  pub along : IsAlong part region cut
+
+abbrev pub IsStance : Region → Region → Stance → Type 0
+IsStance part region Inside = IsInside part region
+IsStance part region Apart = IsApart part region
+IsStance part region (Across faces) = IsAcross part region

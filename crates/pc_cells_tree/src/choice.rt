@@ -1,0 +1,144 @@
+ghost use Rattle.std.specs.Prelude.{◌≡◌, ◌≤◌, ◌<◌, ◌⊎◌, true, length, All, MatchOption};
+ghost use Rattle.pc_model.specs.CutTrees.{IsInside};
+ghost use Rattle.pc_box.specs.Boxes.{AreAlike};
+ghost use Rattle.pc_box.specs.Sides.{region_within};
+ghost use Rattle.pc_cells_tree.specs.Decisions.{IsAlikeTo};
+ghost use Rattle.pc_cells_tree.specs.Stances.{column_limit, span_cut, set_cut, side_cut, IsAlong};
+
+use pc_box::apart;
+use pc_model::{Constraint, Cut, Region, Side};
+
+/// A cut, and through how many predicates it passes.
+#[derive(Clone, Copy, Debug, PartialEq, Eq)]
+struct Candidate {
+    cut: Cut,
+    passed: usize,
+}
+
+/// A cut through a region that a box crosses: of one for each column, the first of those that pass through the
+/// fewest predicates.
+#[tactic(auto, using(crate::proofs::Choices::ends))]
+pub(crate) fn cut_through(part: &Region, region: &Region, constraints: &[Constraint]) -> Cut
+    requires few { length part.now.sides ≤ column_limit }
+    requires alike { AreAlike part.now region.now }
+    requires all_alike { All (IsAlikeTo part.now) constraints.now }
+    requires not_inside { IsInside part.now region.now → ⊥ }
+    ensures { IsAlong part.now region.now result }
+{
+    match cut_along(part, region, constraints) {
+        Some(candidate) => candidate.cut,
+        None => unreachable!(),
+    }
+}
+
+#[tactic(auto, using(crate::proofs::Choices::cuts))]
+fn cut_along(part: &Region, region: &Region, constraints: &[Constraint]) -> Option<Candidate>
+    requires few { length part.now.sides ≤ column_limit }
+    requires alike { AreAlike part.now region.now }
+    requires all_alike { All (IsAlikeTo part.now) constraints.now }
+    ensures { MatchOption result (region_within part.now region.now ≡ true) (λ candidate. IsAlong part.now region.now candidate.cut) }
+{
+    let sides = part.sides.as_slice();
+    let others = region.sides.as_slice();
+    let mut best = None;
+    for (place, side) in sides.iter().enumerate() {
+        if let Some(cut) = side_cut(place as u8, side, &others[place]) {
+            let passed = passed_by(part, constraints, &cut);
+            best = Some(fewer(best, Candidate { cut, passed }));
+        }
+    }
+    best
+}
+
+// The best so far, or another that passes through fewer.
+fn fewer(best: Option<Candidate>, other: Candidate) -> Candidate
+    ensures { MatchOption best (result ≡ other) (λ before. (result ≡ before) ⊎ (result ≡ other)) }
+{
+    match best {
+        Some(best) if best.passed <= other.passed => best,
+        _ => other,
+    }
+}
+
+/// How many predicates have rows of the box on either hand of the cut, as far as its column tells.
+fn passed_by(part: &Region, constraints: &[Constraint], cut: &Cut) -> usize
+    requires alike { All (IsAlikeTo part.now) constraints.now }
+{
+    let mut passed = 0;
+    for constraint in constraints {
+        if is_split(part, &constraint.when, cut) && !apart(part, &constraint.when) {
+            passed += 1;
+        }
+    }
+    passed
+}
+
+fn is_split(part: &Region, region: &Region, cut: &Cut) -> bool {
+    match *cut {
+        Cut::At { column, at } => match region.sides.as_slice().get(column as usize) {
+            Some(Side::Span { low, high }) => *low <= at && at < *high,
+            _ => false,
+        },
+        Cut::Among { column, bits } => {
+            let side = part.sides.as_slice().get(column as usize);
+            let other = region.sides.as_slice().get(column as usize);
+            match (side, other) {
+                (Some(Side::Names { bits: held }), Some(Side::Names { bits: others })) => {
+                    let common = held & others;
+                    common & bits != 0 && common & bits != common
+                }
+                _ => false,
+            }
+        }
+    }
+}
+
+// The cut between the numbers of a side that are in another and those that are not, if there are any.
+#[tactic(auto, unfolding(crate::specs::Stances::side_cut))]
+fn side_cut(column: u8, side: &Side, other: &Side) -> Option<Cut>
+    ensures { result ≡ side_cut column side.now other.now }
+{
+    match (*side, *other) {
+        (
+            Side::Span { low, high },
+            Side::Span {
+                low: other_low,
+                high: other_high,
+            },
+        ) => span_cut(column, (low, high), (other_low, other_high)),
+        (Side::Names { bits }, Side::Names { bits: other_bits }) => {
+            set_cut(column, bits, other_bits)
+        }
+        _ => None,
+    }
+}
+
+fn span_cut(column: u8, span: (i64, i64), other: (i64, i64)) -> Option<Cut>
+    ensures { result ≡ span_cut column span.0 span.1 other.0 other.1 }
+{
+    if span.0 < other.0 {
+        return Some(Cut::At {
+            column,
+            at: other.0 - 1,
+        });
+    }
+    if other.1 < span.1 {
+        return Some(Cut::At {
+            column,
+            at: other.1,
+        });
+    }
+    None
+}
+
+fn set_cut(column: u8, bits: u128, other: u128) -> Option<Cut>
+    ensures { result ≡ set_cut column bits other }
+{
+    if bits ^ (bits & other) == 0 {
+        return None;
+    }
+    Some(Cut::Among {
+        column,
+        bits: other,
+    })
+}

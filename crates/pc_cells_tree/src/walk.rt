@@ -1,0 +1,182 @@
+ghost use Rattle.std.specs.Prelude.{◌≡◌, ◌≤◌, ◌<◌, ◌^◌, true, length, All, IfOk};
+ghost use Rattle.pc_model.specs.declared.tree.CutNode.TheVariants.{Inner};
+ghost use Rattle.pc_model.specs.Accepted.{constraint_limit};
+ghost use Rattle.pc_model.specs.Boxes.{IsServable};
+ghost use Rattle.pc_model.specs.Regions.{is_region_of};
+ghost use Rattle.pc_model.specs.WellFormed.{IsWellFormed};
+ghost use Rattle.pc_model.specs.Cells.{IsSettledTree, IsSettledAs, leaves_in};
+ghost use Rattle.pc_model.specs.CutTrees.{shape_of};
+ghost use Rattle.pc_box.specs.Boxes.{IsBox};
+ghost use Rattle.pc_box.specs.Cuts.{Divides};
+ghost use Rattle.pc_cells_tree.specs.declared.walk.Task.TheVariants.{Visit, Close};
+ghost use Rattle.pc_cells_tree.specs.Decisions.{IsComparable, CanBeSettled};
+ghost use Rattle.pc_cells_tree.specs.Linked.{IsTree, IsDividedFor, node_at};
+ghost use Rattle.pc_cells_tree.specs.Walking.{HasCutsAt, HasWalked, IsVisit, IsTask, IsStep, IsOpened, nothing};
+
+use crate::decision::{Decision, decide};
+use crate::growth::{Growth, number};
+use pc_box::cut;
+use pc_list::Seq;
+use pc_model::{Constraint, Cut, CutNode, LeafMark, Region, Schema};
+use pc_num::Memory;
+use std::alloc::Global;
+
+/// What is still to be done: to go through the nodes from a number on, over their box, or to set a cut into the
+/// place that was kept for it.
+#[derive(Clone, Debug, PartialEq, Eq, Drop)]
+enum Task {
+    Visit { number: usize, part: Region },
+    Close { place: usize, cut: Cut },
+}
+
+/// What has grown, and the tasks that are left: the last one is next.
+#[derive(Drop)]
+struct Walk {
+    growth: Growth,
+    tasks: Vec<Task>,
+}
+
+/// The tree with a mark at each leaf, its nodes numbered anew in preorder, and its leaves.
+#[tactic(auto, using(crate::proofs::Grown::whole))]
+pub fn marked(
+    alloc: Global,
+    schema: &Schema,
+    constraints: &[Constraint],
+    chosen: &Region,
+    nodes: &[CutNode],
+) -> Result<Growth, Memory>
+    requires well_formed { IsWellFormed schema.now }
+    requires few { length constraints.now ≤ constraint_limit }
+    requires servable { All (IsServable schema.now) constraints.now }
+    requires chosen { is_region_of schema.now chosen.now ≡ true }
+    requires tree { IsTree schema.now nodes.now }
+    requires divided { IsDividedFor schema.now constraints.now chosen.now nodes.now }
+    ensures settled { IfOk result (λ growth. IsSettledTree schema.now constraints.now chosen.now growth.nodes) }
+    ensures leaves { IfOk result (λ growth. growth.leaves ≡ leaves_in schema.now growth.nodes) }
+    ensures few { IfOk result (λ growth. length growth.leaves < 2 ^ 32) }
+    ensures same { IfOk result (λ growth. HasCutsAt nodes.now 0 (shape_of growth.nodes)) }
+{
+    let whole = schema.whole(alloc)?;
+    let growth = walked(alloc, constraints, chosen, nodes, whole)?;
+    // Whoever reads the leaves numbers them too.
+    number(growth.leaves.len())?;
+    Ok(growth)
+}
+
+fn walked(
+    alloc: Global,
+    constraints: &[Constraint],
+    chosen: &Region,
+    nodes: &[CutNode],
+    whole: Region,
+) -> Result<Growth, Memory>
+    requires few { length constraints.now ≤ constraint_limit }
+    requires visit { IsVisit nodes.now constraints.now chosen.now 0 whole }
+    ensures { IfOk result (HasWalked nodes.now constraints.now chosen.now 0 whole nothing) }
+{
+    let growth = Growth {
+        nodes: Seq::new(alloc),
+        leaves: Seq::new(alloc),
+    };
+    let start = Task::Visit {
+        number: 0,
+        part: whole,
+    };
+    let tasks = vec![in alloc; start]?;
+    let mut walk = Walk { growth, tasks };
+    while let Some(task) = walk.tasks.pop() {
+        walk = stepped(alloc, constraints, chosen, nodes, walk, task)?;
+    }
+    Ok(walk.growth)
+}
+
+fn stepped(
+    alloc: Global,
+    constraints: &[Constraint],
+    chosen: &Region,
+    nodes: &[CutNode],
+    walk: Walk,
+    task: Task,
+) -> Result<Walk, Memory>
+    requires few { length constraints.now ≤ constraint_limit }
+    requires task { IsTask nodes.now constraints.now chosen.now (length walk.growth.nodes) task }
+    ensures { IfOk result (IsStep nodes.now constraints.now chosen.now task walk) }
+{
+    match task {
+        Task::Visit { number, part } => {
+            visited(alloc, constraints, chosen, nodes, walk, number, part)
+        }
+        Task::Close { place, cut } => {
+            let Walk { growth, tasks } = walk;
+            let growth = growth.with_inner(place, cut)?;
+            Ok(Walk { growth, tasks })
+        }
+    }
+}
+
+fn visited(
+    alloc: Global,
+    constraints: &[Constraint],
+    chosen: &Region,
+    nodes: &[CutNode],
+    walk: Walk,
+    number: usize,
+    part: Region,
+) -> Result<Walk, Memory>
+    requires few { length constraints.now ≤ constraint_limit }
+    requires visit { IsVisit nodes.now constraints.now chosen.now number part }
+    ensures { IfOk result (IsStep nodes.now constraints.now chosen.now (Visit number part) walk) }
+{
+    match nodes[number] {
+        CutNode::Leaf { .. } => {
+            let mark = mark_of(&part, constraints, chosen);
+            let Walk { growth, tasks } = walk;
+            let growth = growth.with_leaf(part, mark)?;
+            Ok(Walk { growth, tasks })
+        }
+        CutNode::Inner { cut, first, second } => {
+            opened(alloc, walk, part, cut, first as usize, second as usize)
+        }
+    }
+}
+
+fn mark_of(part: &Region, constraints: &[Constraint], chosen: &Region) -> LeafMark
+    requires few { length constraints.now ≤ constraint_limit }
+    requires comparable { IsComparable constraints.now chosen.now part.now }
+    requires settled { CanBeSettled constraints.now chosen.now part.now }
+    ensures { IsSettledAs constraints.now chosen.now part.now result }
+{
+    match decide(part, constraints, chosen) {
+        Decision::Settled(mark) => mark,
+        Decision::Divided(_) => unreachable!(),
+    }
+}
+
+// A place is kept for the cut, which is set into it once its first part stands; the second part comes after that.
+fn opened(
+    alloc: Global,
+    walk: Walk,
+    part: Region,
+    at: Cut,
+    first: usize,
+    second: usize,
+) -> Result<Walk, Memory>
+    requires filled { IsBox part }
+    requires divided { Divides part at }
+    ensures { IfOk result (IsOpened at part first second walk) }
+{
+    let halves = cut(alloc, &part, &at)?;
+    let Walk { growth, mut tasks } = walk;
+    let place = growth.nodes.len();
+    let growth = growth.with_place()?;
+    tasks.push(Task::Visit {
+        number: second,
+        part: halves.second,
+    })?;
+    tasks.push(Task::Close { place, cut: at })?;
+    tasks.push(Task::Visit {
+        number: first,
+        part: halves.first,
+    })?;
+    Ok(Walk { growth, tasks })
+}

@@ -1,0 +1,66 @@
+-- A walk over the lines of a tree of cuts, and the verdict on them.
+use Rattle.std.specs.Prelude.{◌≡◌, ℕ, List, [], ◌∷◌, ◌++◌, Option, Some, None, MatchOption}
+use Rattle.pc_model.specs.declared.schema.Schema.{Schema}
+use Rattle.pc_model.specs.declared.region.Region.{Region}
+use Rattle.pc_model.specs.declared.constraint.Constraint.{Constraint}
+use Rattle.pc_model.specs.declared.tree.Cut.{Cut}
+use Rattle.pc_model.specs.declared.tree.LeafMark.{LeafMark}
+use Rattle.pc_model.specs.declared.tree.CutNode.{CutNode}
+use Rattle.pc_model.specs.declared.tree.CutNode.TheVariants as nodes
+use Rattle.pc_model.specs.Regions.{whole_region}
+use Rattle.pc_model.specs.CutTrees.{shape_of, first_part, second_part, IsProper}
+use Rattle.pc_model.specs.Cells.{IsSettledAs, leaves_in}
+use Rattle.pc_proof.specs.Setting.{Setting, region_of}
+use Rattle.pc_proof.specs.Demands.{Placed, cut_demands, Judges}
+use Rattle.pc_check_rules.specs.declared.cuts.CutWalk.{CutWalk}
+use Rattle.pc_check_rules.specs.declared.cuts.CutFinding.{CutFinding}
+use Rattle.pc_check_rules.specs.declared.cuts.CutFinding.TheVariants as verdicts
+
+-- ---- the whole tree
+
+-- a question with these constraints, whose region is this one
+pub record IsAsked (constraints : List Constraint) (region : Region) (s : Setting) : Type 0 where
+  pub constraints_are : s.question.constraints ≡ constraints
+  pub region_is : region_of s.question ≡ region
+
+abbrev pub cut_lines : ℕ → Schema → List CutNode → List Placed
+cut_lines line schema list = cut_demands line (whole_region schema) (shape_of list)
+
+-- the verdict on the lines of the tree, and its leaves where none is broken
+abbrev pub IsCutFinding : ℕ → Schema → List Constraint → Region → List CutNode → CutFinding → Type 0
+IsCutFinding line schema constraints region list (verdicts.Broken at rule) =
+    (s : Setting) → IsAsked constraints region s → Judges s (cut_lines line schema list) (Some (at, rule))
+IsCutFinding line schema constraints region list (verdicts.Settled leaves) =
+    ((s : Setting) → IsAsked constraints region s → Judges s (cut_lines line schema list) None) × (leaves ≡ leaves_in schema list)
+
+-- ---- one line
+
+-- the number of the rule of a line
+abbrev pub rule_of_cut : CutNode → ℕ
+rule_of_cut (nodes.Inner cut first second) = 3
+rule_of_cut (nodes.Leaf mark) = 4
+
+-- what a line asks over the box of its node
+abbrev pub IsKept : List Constraint → Region → Region → CutNode → Type 0
+IsKept constraints region part (nodes.Inner cut first second) = IsProper part cut
+IsKept constraints region part (nodes.Leaf mark) = IsSettledAs constraints region part mark
+
+-- past a leaf
+pub record IsGathered (part : Region) (mark : LeafMark) (before after : CutWalk) : Type 0 where
+  pub parts : after.parts.items ≡ before.parts.items
+  pub leaves : after.leaves ≡ before.leaves ++ record { region = part; mark = mark } ∷ []
+
+-- before the two parts of a box, of which the first comes next
+pub record IsCutInTwo (part : Region) (cut : Cut) (before after : CutWalk) : Type 0 where
+  pub parts : after.parts.items ≡ (before.parts.items ++ second_part part cut ∷ []) ++ first_part part cut ∷ []
+  pub leaves : after.leaves ≡ before.leaves
+
+-- past a line
+abbrev pub HasMoved : Region → CutNode → CutWalk → CutWalk → Type 0
+HasMoved part (nodes.Inner cut first second) before after = IsCutInTwo part cut before after
+HasMoved part (nodes.Leaf mark) before after = IsGathered part mark before after
+
+-- past a line that keeps its rule, or at one that breaks it
+abbrev pub IsCutStep : List Constraint → Region → Region → CutNode → CutWalk → Option CutWalk → Type 0
+IsCutStep constraints region part node before after =
+    MatchOption after (IsKept constraints region part node → ⊥) (λ (w : CutWalk). IsKept constraints region part node × HasMoved part node before w)

@@ -1,0 +1,28 @@
+//! The judgement of the parts of a block: its tree of cuts, the cells of it, and the proof of each statement.
+#![tactic(auto)]
+
+mod bounds;
+mod cells;
+mod cuts;
+mod ends;
+mod extreme;
+mod finding;
+mod fractions;
+mod gains;
+mod numbers;
+mod programs;
+mod ratios;
+mod scene;
+mod settled;
+mod shown;
+mod statements;
+mod tree_line;
+mod trees;
+mod walk;
+
+pub use cells::{GatheredCell, cells_of};
+pub use cuts::{CutFinding, judge_cuts};
+pub use ends::{judge_high, judge_low};
+pub use finding::ProofFinding;
+pub use scene::Scene;
+pub use statements::{judge_always, judge_never, judge_why};

@@ -1,5 +1,0 @@
-use Rattle.pc_class.proofs.LeafRows.{row_of_leaf}
-use Rattle.pc_class.proofs.laws.settled_rows_can_be_lost.Goals as goal
-
-pub returns : goal.returns
-returns c = row_of_leaf

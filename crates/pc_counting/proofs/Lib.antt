@@ -1,5 +1,0 @@
-pub mod Allocations
-pub mod Caps
-pub mod Counts
-pub mod PossibleRows
-pub mod Sums

@@ -1,5 +1,0 @@
-use Rattle.pc_counting.proofs.PossibleRows.{rows_are_allocation}
-use Rattle.pc_counting.proofs.laws.possible_rows_are_an_allocation.Goals as goal
-
-pub returns : goal.returns
-returns c = rows_are_allocation

@@ -1,5 +1,0 @@
-use Rattle.pc_format.proofs.SampleLaws.{sample_tells}
-use Rattle.pc_format.proofs.laws.samples_tell.Goals as goal
-
-pub returns : goal.returns
-returns c = sample_tells

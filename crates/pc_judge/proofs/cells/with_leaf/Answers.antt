@@ -1,5 +1,0 @@
-use Rattle.pc_judge.proofs.Gathered.{gathered_barren}
-use Rattle.pc_judge.proofs.cells.with_leaf.Goals as goal
-
-pub returns-in-Barren : goal.returns-in-Barren
-returns-in-Barren c = λ leaves gathered. gathered_barren c.args.gathering c.args.column leaves c.args.leaf.now c.in-Barren.is gathered

@@ -1,5 +1,0 @@
-use Rattle.pc_judge.proofs.CutWalking.{IsAt}
-use Rattle.pc_judge.proofs.cuts.judge_cuts.Given as goal
-
-abbrev pub invariant-loop-place : goal.invariant-loop-place
-invariant-loop-place l = IsAt l.schema l.constraints l.region l.nodes l.line l.place l.walk.areas.items l.walk.leaves

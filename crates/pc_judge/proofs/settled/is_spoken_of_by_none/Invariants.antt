@@ -1,6 +1,0 @@
-use Rattle.std.proofs.Common.{All, take}
-use Rattle.pc_model.specs.Cells.{SpeaksOfNone}
-use Rattle.pc_judge.proofs.settled.is_spoken_of_by_none.Given as goal
-
-abbrev pub invariant-loop-constraint : goal.invariant-loop-constraint
-invariant-loop-constraint l = All (SpeaksOfNone l.area) (take l.constraint-index l.constraints)

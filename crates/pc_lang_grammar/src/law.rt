@@ -1,0 +1,24 @@
+ghost use Rattle.std.specs.Prelude.{◌≡◌, ◌≢◌, List, Ok, Err};
+ghost use Rattle.pc_model.specs.declared.fault.Reason.{Reason};
+ghost use Rattle.pc_model.specs.declared.fault.Reason.TheVariants.{Unexpected};
+ghost use Rattle.pc_lang_tokens.specs.declared.token.Token.{Token};
+ghost use Rattle.pc_lang_grammar.specs.declared.syntax.Line.{Line};
+ghost use Rattle.pc_lang_grammar.specs.declared.syntax.Question.{Question};
+ghost use Rattle.pc_lang_grammar.specs.Grammar.{line_tokens, question_tokens};
+ghost use Rattle.pc_lang_grammar.specs.Parsing.{line_of, question_of};
+
+/// The reader of lines takes what the grammar spells and nothing else.
+#[tactic(auto, using(crate::proofs::Laws::line_laws))]
+pub fn lines_follow_the_grammar()
+    ensures spelled { (list : List Token) (line : Line) → line_of list ≡ Ok line → line_tokens line ≡ list }
+    ensures read { (line : Line) → line_of (line_tokens line) ≡ Ok line }
+    ensures refused { (list : List Token) (reason : Reason) → line_of list ≡ Err reason → (reason ≡ Unexpected) × ((line : Line) → line_tokens line ≢ list) }
+{}
+
+/// The reader of queries takes what the grammar spells and nothing else.
+#[tactic(auto, using(crate::proofs::Laws::question_laws))]
+pub fn questions_follow_the_grammar()
+    ensures spelled { (list : List Token) (question : Question) → question_of list ≡ Ok question → question_tokens question ≡ list }
+    ensures read { (question : Question) → question_of (question_tokens question) ≡ Ok question }
+    ensures refused { (list : List Token) (reason : Reason) → question_of list ≡ Err reason → (reason ≡ Unexpected) × ((question : Question) → question_tokens question ≢ list) }
+{}

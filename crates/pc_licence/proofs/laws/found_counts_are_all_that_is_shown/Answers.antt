@@ -1,5 +1,0 @@
-use Rattle.pc_licence.proofs.Found.{shown-found}
-use Rattle.pc_licence.proofs.laws.found_counts_are_all_that_is_shown.Goals as goal
-
-pub returns : goal.returns
-returns c = shown-found

@@ -1,5 +1,0 @@
-use Rattle.pc_licence.proofs.RunCounts.{runs-counted}
-use Rattle.pc_licence.proofs.laws.runs_have_their_counts.Goals as goal
-
-pub returns : goal.returns
-returns c = runs-counted

@@ -1,5 +1,0 @@
-use Rattle.pc_licence.proofs.Trees.{search-free}
-use Rattle.pc_licence.proofs.laws.search_trees_need_no_value.Goals as goal
-
-pub returns : goal.returns
-returns c = search-free

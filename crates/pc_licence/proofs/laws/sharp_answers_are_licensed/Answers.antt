@@ -1,5 +1,0 @@
-use Rattle.pc_licence.proofs.Sharp.{sharp-licensed}
-use Rattle.pc_licence.proofs.laws.sharp_answers_are_licensed.Goals as goal
-
-pub returns : goal.returns
-returns c = sharp-licensed

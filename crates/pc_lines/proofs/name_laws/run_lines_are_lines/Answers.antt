@@ -1,5 +1,0 @@
-use Rattle.pc_lines.proofs.RunsBack.{run_line}
-use Rattle.pc_lines.proofs.name_laws.run_lines_are_lines.Goals as goal
-
-pub returns : goal.returns
-returns c = run_line

@@ -1,5 +1,0 @@
-use Rattle.pc_lines.proofs.NumbersInUnits.{averages_again}
-use Rattle.pc_lines.proofs.number_laws.averages_are_read_back.Goals as goal
-
-pub returns : goal.returns
-returns c = averages_again

@@ -1,0 +1,14 @@
+pub mod Around
+pub mod CellPlaces
+pub mod Duality
+pub mod Ring
+pub mod Steps
+pub mod SumBelow
+pub mod Totals
+pub mod TreeBounds
+pub mod TreeNodes
+pub mod WalkLeft
+pub mod WalkParts
+pub mod WalkShown
+pub mod WalkSteps
+pub mod Widths

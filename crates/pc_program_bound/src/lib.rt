@@ -1,0 +1,26 @@
+//! Programs of counts: which counts they allow, what these are worth, and the bound that multipliers prove.
+#![tactic(auto)]
+
+mod allocation;
+mod bound;
+#[cfg(test)]
+mod bound_tests;
+mod laws;
+mod program;
+mod rest;
+mod running;
+#[cfg(test)]
+mod tests;
+mod walk;
+#[cfg(test)]
+mod walk_tests;
+mod width;
+
+pub use allocation::{lawful, total_of};
+pub use bound::dual_bound;
+pub use laws::{
+    bounds_hold, nodes_spell_their_splits, relaxed_bounds_hold, trees_bound_allocations,
+    void_means_none,
+};
+pub use program::{Program, is_box, is_program};
+pub use walk::tree_bound;

@@ -1,7 +1,0 @@
-use Rattle.std.proofs.Common.{◌≡◌, pos}
-use Rattle.std.specs.Prelude.{◌*ℤ◌}
-use Rattle.pc_bound.specs.Sums.{sum_below, nat_at, int_at}
-use Rattle.pc_search.proofs.reached.worth.Given as goal
-
-abbrev pub invariant-loop-cell : goal.invariant-loop-cell
-invariant-loop-cell l = l.total ≡ sum_below l.cell (λ i. int_at l.fn.p.gain i *ℤ pos (nat_at l.fn.counts i))

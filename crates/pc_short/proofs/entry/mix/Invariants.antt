@@ -1,5 +1,0 @@
-use Rattle.pc_short.proofs.Mixing.{IsMixTo}
-use Rattle.pc_short.proofs.entry.mix.Given as goal
-
-abbrev pub invariant-loop-place : goal.invariant-loop-place
-invariant-loop-place l = IsMixTo l.places l.numbers l.sum l.place-index

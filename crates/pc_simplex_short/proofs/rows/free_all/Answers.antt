@@ -1,0 +1,14 @@
+use Rattle.std.proofs.Common.{◌<◌, length, arith, refl}
+use Rattle.pc_simplex_short.specs.Short.{freed_short}
+use Rattle.pc_simplex_short.specs.Kept.{IsShortRow}
+use Rattle.pc_simplex_short.proofs.Made.{made_more}
+use Rattle.pc_simplex_short.proofs.rows.free_all.Goals as goal
+
+pub loop-row-preserved : goal.loop-row-preserved
+loop-row-preserved c =
+    let l = c.loop-row in
+    let f = c.args.setting.now in
+    let inside : l.row-index < length l.rows = omega (arith, l.auto.rows, c.loop-row-test.true) in
+    let found = c.if-not-free.ensures in
+    made_more (freed_short f c.args.turned.now c.args.column c.args.other.now) (IsShortRow f) c.args.rows.now l.rows l.row-index
+    c.row-item.result c.free.new.self c.loop-row-test.true inside l.invariant (found.freed refl) (found.short refl)

@@ -1,0 +1,69 @@
+ghost use Rattle.std.specs.Prelude.{◌≡◌, ◌<◌, ◌≤◌, ◌+◌, ◌*ℤ◌, length, All, IsTrue};
+ghost use Rattle.pc_program_bound.specs.Bound.{IsFit};
+ghost use Rattle.pc_simplex_tableau.specs.Tableau.{freed_aim};
+ghost use Rattle.pc_simplex_tableau.specs.Conditions.{aim_alone, freed_entries, freed_weight};
+ghost use Rattle.pc_simplex_short.specs.Short.{spelled_numbers, spelled_aim};
+ghost use Rattle.pc_simplex_short.specs.Kept.{IsWithin, IsSetting, IsShortAim};
+
+use crate::entry::{aim_entry, entry};
+use crate::row::combine;
+use crate::setting::ShortSetting;
+use crate::small::is_small_aim;
+use pc_simplex_tableau::divide_together;
+
+/// Frees the objective row of a column by a row that has an entry there. It answers false where a number is no longer small,
+/// and the objective row and its weight are then of no more use.
+pub(crate) fn free(
+    aim: &mut [i128],
+    weight: &mut i128,
+    setting: &ShortSetting,
+    turned: &[bool],
+    column: usize,
+    other: &[i128],
+) -> bool
+    requires setting { IsSetting setting.now }
+    requires short { IsShortAim setting.now weight.old aim.old }
+    requires turned { length turned.now ≡ setting.now.columns.count }
+    requires column { column < setting.now.columns.count }
+    requires other { length other.now ≡ setting.now.constraints + 1 }
+    requires small { All (IsWithin 50) other.now }
+    ensures aim { IsTrue result → spelled_aim setting.now turned.now weight.new aim.new ≡ (freed_aim column (spelled_numbers setting.now turned.now other.now) (aim_alone (spelled_aim setting.now turned.now weight.old aim.old) weight.old)).aim }
+    ensures weight { IsTrue result → weight.new ≡ (freed_aim column (spelled_numbers setting.now turned.now other.now) (aim_alone (spelled_aim setting.now turned.now weight.old aim.old) weight.old)).weight }
+    ensures short { IsTrue result → IsShortAim setting.now weight.new aim.new }
+{
+    let own = aim_entry(setting, turned, *weight, aim, column);
+    if own == 0 {
+        return true;
+    }
+    let scale = entry(setting, turned, other, column);
+    free_entries(aim, weight, own, scale, other);
+    is_small_aim(aim, *weight, setting.top)
+}
+
+/// Combines the entries with another row, which has numbers after them, and divides them and the weight, which takes part by
+/// the other's entry alone, by what they have in common.
+fn free_entries(entries: &mut [i128], weight: &mut i128, entry: i128, scale: i128, other: &[i128])
+    requires entries { All (IsWithin 64) entries.old }
+    requires weight { IsWithin 69 weight.old }
+    requires entry { IsWithin 70 entry }
+    requires scale { IsWithin 55 scale }
+    requires other { All (IsWithin 50) other.now }
+    requires sized { length entries.old ≤ length other.now }
+    ensures entries { entries.new ≡ freed_entries scale entries.old entry other.now weight.old }
+    ensures weight { weight.new ≡ freed_weight scale entries.old entry other.now weight.old }
+    ensures weight_fits { IsFit weight.new }
+{
+    let count = entries.len();
+    combine(entries, scale, entry, &other[..count]);
+    let product = weighed(scale, *weight);
+    *weight = divide_together(product, entries);
+}
+
+fn weighed(scale: i128, weight: i128) -> i128
+    requires scale { IsWithin 55 scale }
+    requires weight { IsWithin 69 weight }
+    ensures value { result ≡ scale *ℤ weight }
+    ensures fits { IsFit result }
+{
+    scale * weight
+}

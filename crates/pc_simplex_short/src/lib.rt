@@ -1,0 +1,23 @@
+//! The steps of a relaxation over rows in short form: a number for each constraint in place of one for each column.
+#![tactic(auto)]
+
+mod aim;
+mod change;
+mod choice;
+mod entry;
+mod limit;
+mod row;
+mod rows;
+mod run;
+mod setting;
+mod small;
+mod spell;
+mod tableau;
+#[cfg(test)]
+mod tests;
+
+pub use row::ShortRow;
+pub use run::{ShortRun, take_steps};
+pub use setting::ShortSetting;
+pub use spell::spell_out;
+pub use tableau::ShortTableau;

@@ -1,5 +1,0 @@
-use Rattle.pc_tableau.proofs.Deciding.{IsLeastTo}
-use Rattle.pc_tableau.proofs.choice.deciding.Given as goal
-
-abbrev pub invariant-loop-at : goal.invariant-loop-at
-invariant-loop-at l = IsLeastTo l.columns l.column l.tableau l.best l.at

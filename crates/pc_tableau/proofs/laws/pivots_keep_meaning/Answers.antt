@@ -1,5 +1,0 @@
-use Rattle.pc_tableau.proofs.Pivoted.{IsMeant-pivoted}
-use Rattle.pc_tableau.proofs.laws.pivots_keep_meaning.Goals as goal
-
-pub returns : goal.returns
-returns c = IsMeant-pivoted

@@ -1,5 +1,0 @@
-use Rattle.pc_tableau.proofs.Steps.{IsStanding-step}
-use Rattle.pc_tableau.proofs.laws.steps_keep_standing.Goals as goal
-
-pub returns : goal.returns
-returns c = IsStanding-step

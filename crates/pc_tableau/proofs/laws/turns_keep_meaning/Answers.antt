@@ -1,5 +1,0 @@
-use Rattle.pc_tableau.proofs.Turned.{IsMeant-turned}
-use Rattle.pc_tableau.proofs.laws.turns_keep_meaning.Goals as goal
-
-pub returns : goal.returns
-returns c = IsMeant-turned

@@ -1,5 +1,0 @@
-use Rattle.pc_tableau.proofs.Freed.{IsStanding-freed}
-use Rattle.pc_tableau.proofs.start_laws.freed_rows_stand.Goals as goal
-
-pub returns : goal.returns
-returns c = IsStanding-freed

@@ -1,5 +1,0 @@
-use Rattle.pc_tableau.proofs.StartSecond.{IsStanding-second}
-use Rattle.pc_tableau.proofs.start_laws.second_phase_stands.Goals as goal
-
-pub returns : goal.returns
-returns c = IsStanding-second

@@ -1,5 +1,0 @@
-use Rattle.pc_tableau.proofs.WholeEnds.{vertex_stands}
-use Rattle.pc_tableau.proofs.whole_laws.vertices_stand.Goals as goal
-
-pub returns : goal.returns
-returns c = vertex_stands

@@ -1,5 +1,0 @@
-use Rattle.pc_tableau.proofs.WholeEnds.{void_of}
-use Rattle.pc_tableau.proofs.whole_laws.voids_hold_nothing.Goals as goal
-
-pub returns : goal.returns
-returns c = void_of

@@ -1,5 +1,0 @@
-use Rattle.pc_tree.specs.Decisions.{IsFound}
-use Rattle.pc_tree.proofs.decision.find.Given as goal
-
-abbrev pub invariant-loop-place : goal.invariant-loop-place
-invariant-loop-place l = IsFound l.area l.constraints l.place l.finding

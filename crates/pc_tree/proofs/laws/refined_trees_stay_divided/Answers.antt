@@ -1,5 +1,0 @@
-use Rattle.pc_tree.proofs.TreeLaws.{refined_stays_divided}
-use Rattle.pc_tree.proofs.laws.refined_trees_stay_divided.Goals as goal
-
-pub returns : goal.returns
-returns c = refined_stays_divided

@@ -1,4 +1,0 @@
-pub mod Left
-pub mod Parts
-pub mod Shown
-pub mod Steps
