@@ -5,8 +5,6 @@ mod memory_shelf;
 mod memory_sink;
 mod outside;
 mod status;
-#[cfg(test)]
-mod tests;
 
 pub use memory_shelf::MemShelf;
 pub use memory_sink::MemSink;

@@ -6,8 +6,6 @@ mod compare;
 mod halves;
 mod rest;
 mod sides;
-#[cfg(test)]
-mod tests;
 
 pub use common::meet;
 pub use compare::{apart, are_alike, inside};

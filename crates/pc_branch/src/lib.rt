@@ -11,8 +11,6 @@ mod round;
 mod search;
 mod solving;
 mod start;
-#[cfg(test)]
-mod tests;
 mod tree;
 mod visit;
 mod visited;

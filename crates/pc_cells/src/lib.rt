@@ -9,8 +9,6 @@ mod gather;
 mod numbered;
 mod pick;
 mod shared;
-#[cfg(test)]
-mod tests;
 
 pub use cells::{Cell, Cells, decompose};
 pub use disjoint::pairwise_apart;

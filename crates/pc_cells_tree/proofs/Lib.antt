@@ -5,7 +5,6 @@ pub mod Decisions
 pub mod Ends
 pub mod Faces
 pub mod Grown
-pub mod Month
 pub mod Parts
 pub mod Passes
 pub mod Peeled

@@ -1,4 +1,3 @@
-pub mod Days
 pub mod Decisions
 pub mod Faces
 pub mod Growing

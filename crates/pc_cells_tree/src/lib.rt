@@ -8,8 +8,6 @@ mod laws;
 mod marks;
 mod refine;
 mod stance;
-#[cfg(test)]
-mod tests;
 mod walk;
 
 pub use growth::Growth;

@@ -1,10 +1,8 @@
 //! The program `pc`: it runs a command over files and standard output, and ends with its status.
 #![tactic(auto)]
 
-mod host;
-
-use host::{HostShelf, HostSink};
 use pc_base::Status;
+use pc_cli_host::{HostShelf, HostSink};
 use pc_run::run;
 use std::alloc::AllocError;
 use std::process::ExitCode;

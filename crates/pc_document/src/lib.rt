@@ -9,8 +9,6 @@ mod ends;
 mod halt;
 mod lack;
 mod laws;
-#[cfg(test)]
-mod line_tests;
 mod placed;
 mod placed_cuts;
 mod places;
@@ -21,8 +19,6 @@ mod relation;
 mod runs;
 mod spans;
 mod tags;
-#[cfg(test)]
-mod tests;
 mod tree;
 mod words;
 mod writer;

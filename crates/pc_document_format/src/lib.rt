@@ -3,8 +3,6 @@
 
 mod laws;
 mod lines;
-#[cfg(test)]
-mod tests;
 
 pub use laws::{
     bytes_have_lines, line_feeds_count_lines, line_feeds_number_lines, lines_read_back,

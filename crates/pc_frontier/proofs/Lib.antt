@@ -7,6 +7,5 @@ pub mod Orders
 pub mod Parting
 pub mod Placing
 pub mod Pruning
-pub mod Samples
 pub mod Sound
 pub mod Trees

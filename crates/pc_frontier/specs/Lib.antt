@@ -2,4 +2,3 @@ pub mod Boxes
 pub mod Frontier
 pub mod Inside
 pub mod Rings
-pub mod Samples

@@ -6,8 +6,6 @@ mod frontier;
 mod laws;
 mod node;
 mod ring;
-#[cfg(test)]
-mod tests;
 
 pub use frontier::Frontier;
 pub use laws::{

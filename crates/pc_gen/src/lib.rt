@@ -7,8 +7,6 @@ mod draws;
 mod laws;
 mod rows;
 mod schema;
-#[cfg(test)]
-mod tests;
 
 pub use case::generate;
 pub use laws::{generated_cases_are_accepted, hidden_rows_are_possible};

@@ -1,5 +1,4 @@
 pub mod Lines
-pub mod WholeRegions
 pub mod NamedSets
 pub mod SidesAgain
 pub mod RegionsAgain
@@ -11,7 +10,6 @@ pub mod CanonicalLength
 pub mod Atoms
 pub mod Stated
 pub mod NamesAt
-pub mod Orders
 pub mod Appending
 pub mod ReadBack
 pub mod Bits

@@ -115,6 +115,3 @@ fn name_at(alloc: Global, columns: &[Column], place: u8) -> Result<Text, Memory>
         None => Ok(no_text(alloc)),
     }
 }
-
-#[cfg(test)]
-mod tests;

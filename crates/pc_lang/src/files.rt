@@ -15,9 +15,6 @@ use pc_list::Seq;
 use pc_model::{Constraint, FileKind, Query, ReadStop, Refusal, Schema, text_of};
 use std::alloc::Global;
 
-#[cfg(test)]
-mod tests;
-
 /// Reads the constraints of a file. The place of a fault is the number of its line, and 0 for the file as a whole.
 #[tactic(auto, using(crate::proofs::Lines::texts))]
 pub fn read_constraints(

@@ -13,9 +13,6 @@ use pc_list::Text;
 use pc_model::{Constraint, ReadStop, Reason, Region, Schema, read_number};
 use std::alloc::Global;
 
-#[cfg(test)]
-mod tests;
-
 const MOST_CONSTRAINTS: usize = 20;
 
 const MOST_ROWS: u64 = 10_000_000;

@@ -13,9 +13,6 @@ use pc_model::{Constraint, Query, Schema};
 use pc_num::Memory;
 use std::alloc::Global;
 
-#[cfg(test)]
-mod tests;
-
 /// Appends the canonical text of constraints, one line for each.
 #[tactic(auto, using(crate::proofs::ReadBack::constraints_read_back))]
 pub fn put_constraints(

@@ -8,8 +8,6 @@ mod part;
 mod question;
 mod spell;
 mod syntax;
-#[cfg(test)]
-mod tests;
 
 pub use law::{lines_follow_the_grammar, questions_follow_the_grammar};
 pub use line::read_line;

@@ -8,9 +8,6 @@ use pc_model::is_name;
 use pc_num::Memory;
 use std::alloc::{AllocError, Global};
 
-#[cfg(test)]
-mod tests;
-
 // The most bytes that are written for a name: 64 quotes, each twice, between quotes.
 const LONGEST_WRITTEN: usize = 130;
 

@@ -12,9 +12,6 @@ use pc_num::digits_len;
 use std::alloc::{AllocError, Global};
 use std::str;
 
-#[cfg(test)]
-mod tests;
-
 /// Reads the tokens of a line, or tells that a place of it begins none.
 #[tactic(auto, using(crate::proofs::Reading::steps))]
 pub fn read_tokens(alloc: Global, text: &[u8]) -> Result<Seq<Token>, ReadStop>

@@ -5,8 +5,6 @@ mod again;
 mod front;
 mod lexer;
 mod put;
-#[cfg(test)]
-mod tests;
 mod texts;
 mod token;
 mod word;

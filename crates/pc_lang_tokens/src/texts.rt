@@ -6,9 +6,6 @@ use crate::token::{Symbol, Token, Word};
 use pc_num::Memory;
 use std::alloc::Global;
 
-#[cfg(test)]
-mod tests;
-
 /// Appends the tokens one after another, with a space between two that do not stand close.
 pub fn put_tokens(alloc: Global, out: &mut Vec<u8>, tokens: &[Token]) -> Result<(), Memory>
     ensures ok { OnOk result (out.new.items ≡ out.old.items ++ tokens_text tokens.now) }

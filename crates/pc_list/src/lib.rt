@@ -2,8 +2,6 @@
 #![tactic(auto)]
 
 mod list;
-#[cfg(test)]
-mod tests;
 mod text;
 
 pub use list::Seq;

@@ -2,7 +2,7 @@ use crate::region::Region;
 use pc_list::Text;
 
 /// Each lost row in `when` is in `values`, and there are from `least` to `most` lost rows in `when`.
-#[derive(Clone, Debug, PartialEq, Eq, Drop)]
+#[derive(Debug, PartialEq, Eq, Drop)]
 pub struct Constraint {
     pub name: Text,
     pub when: Region,

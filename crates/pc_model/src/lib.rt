@@ -8,8 +8,6 @@ mod query;
 mod region;
 mod row;
 mod schema;
-#[cfg(test)]
-mod tests;
 mod text;
 mod tree;
 

@@ -25,14 +25,14 @@ pub enum CutNode {
 }
 
 /// A leaf of a cut tree: the region that the cuts on the way to it leave, and its mark.
-#[derive(Clone, Debug, PartialEq, Eq, Drop)]
+#[derive(Debug, PartialEq, Eq, Drop)]
 pub struct Leaf {
     pub region: Region,
     pub mark: LeafMark,
 }
 
 /// A tree of cuts. Node 0 is the root, and children stand after their parent.
-#[derive(Clone, Debug, PartialEq, Eq, Drop)]
+#[derive(Debug, PartialEq, Eq, Drop)]
 pub struct CutTree {
     pub nodes: Seq<CutNode>,
 }

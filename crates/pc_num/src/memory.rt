@@ -21,15 +21,3 @@ impl<T: Drop> From<AllocFailed<T>> for Memory {
         Memory
     }
 }
-
-#[cfg(test)]
-mod tests {
-    use super::*;
-
-    #[test]
-    fn refused_memory_is_memory(rt: HostRuntime) {
-        let refused: AllocFailed<u8> = AllocFailed { value: 7 };
-        assert_eq!(rt; Memory::from(refused), Memory);
-        assert_eq!(rt; Memory::from(AllocError), Memory);
-    }
-}

@@ -6,6 +6,5 @@ pub mod Optimal
 pub mod Slack
 pub mod Spikes
 pub mod Void
-pub mod WholeBox
 pub mod Widths
 pub mod Fitting

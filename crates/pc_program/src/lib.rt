@@ -6,8 +6,6 @@ mod members;
 mod settling;
 mod sharing;
 mod solving;
-#[cfg(test)]
-mod tests;
 
 pub use conditions::has_one_bits;
 pub use pc_program_bound::{Program, dual_bound, lawful};

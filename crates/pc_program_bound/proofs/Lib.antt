@@ -9,6 +9,5 @@ pub mod TreeBounds
 pub mod TreeNodes
 pub mod WalkLeft
 pub mod WalkParts
-pub mod WalkShown
 pub mod WalkSteps
 pub mod Widths

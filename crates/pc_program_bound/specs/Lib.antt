@@ -2,7 +2,6 @@ pub mod Allocation
 pub mod Bound
 pub mod CellPrograms
 pub mod Parts
-pub mod Shown
 pub mod SplitTrees
 pub mod Sums
 pub mod Walk

@@ -3,17 +3,11 @@
 
 mod allocation;
 mod bound;
-#[cfg(test)]
-mod bound_tests;
 mod laws;
 mod program;
 mod rest;
 mod running;
-#[cfg(test)]
-mod tests;
 mod walk;
-#[cfg(test)]
-mod walk_tests;
 mod width;
 
 pub use allocation::{lawful, total_of};

@@ -25,7 +25,7 @@ pub struct Bounded {
 
 /// Why no lost rows meet the constraints: a tree whose leaves are void, a greatest number of lost rows that is below
 /// the least one, or a low end above the high one.
-#[derive(Clone, Debug, PartialEq, Eq, Drop)]
+#[derive(Debug, PartialEq, Eq, Drop)]
 pub enum Why {
     Void(Tree),
     Cross(Tree, Tree),
@@ -33,7 +33,7 @@ pub enum Why {
 }
 
 /// Whether lost rows can meet the constraints, with runs of such rows.
-#[derive(Clone, Debug, PartialEq, Eq, Drop)]
+#[derive(Debug, PartialEq, Eq, Drop)]
 pub enum Relation {
     Possible(Seq<Run>),
     Impossible(Why),
@@ -57,14 +57,14 @@ pub enum NeverBy {
 }
 
 /// What shows that the aggregate never has a value.
-#[derive(Clone, Debug, PartialEq, Eq, Drop)]
+#[derive(Debug, PartialEq, Eq, Drop)]
 pub enum AlwaysBy {
     Tree(Tree),
     Ends(Bounded, Bounded),
 }
 
 /// Whether the aggregate can lack a value. An aggregate that always has one is silent of it.
-#[derive(Clone, Debug, PartialEq, Eq, Drop)]
+#[derive(Debug, PartialEq, Eq, Drop)]
 pub enum Lack {
     Silent,
     Never(NeverBy),
@@ -93,14 +93,14 @@ pub fn always_has_value(agg: Agg) -> bool
 }
 
 /// Whether an end is reached, with runs of lost rows that reach it.
-#[derive(Clone, Debug, PartialEq, Eq, Drop)]
+#[derive(Debug, PartialEq, Eq, Drop)]
 pub enum Mark {
     Exact(Seq<Run>),
     Outer,
 }
 
 /// An end of a range, in units of the last place of the query's column.
-#[derive(Clone, Debug, PartialEq, Eq, Drop)]
+#[derive(Debug, PartialEq, Eq, Drop)]
 pub struct End {
     pub value: Frac,
     pub mark: Mark,
@@ -108,7 +108,7 @@ pub struct End {
 }
 
 /// The answer to a query. There are no ends where the relation is impossible or the aggregate never has a value.
-#[derive(Clone, Debug, PartialEq, Eq, Drop)]
+#[derive(Debug, PartialEq, Eq, Drop)]
 pub struct Answer {
     pub relation: Relation,
     pub lack: Lack,

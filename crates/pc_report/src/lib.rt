@@ -6,8 +6,6 @@ mod laws;
 mod report;
 mod runs;
 mod summary;
-#[cfg(test)]
-mod tests;
 mod value;
 
 pub use laws::reports_tell_their_blocks;

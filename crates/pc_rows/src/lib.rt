@@ -11,8 +11,6 @@ mod numbers;
 mod plain;
 mod read;
 mod rows;
-#[cfg(test)]
-mod tests;
 
 pub use case::Case;
 pub use plain::{reads_plain_fields, reads_plain_text};

@@ -167,6 +167,3 @@ fn is_narrow(kind: &Kind) -> bool {
 fn are_narrow(low: i64, high: i64) -> bool {
     i64::from(i32::MIN) <= low && high <= i64::from(i32::MAX)
 }
-
-#[cfg(test)]
-mod tests;

@@ -6,6 +6,3 @@ mod given;
 mod number;
 
 pub use command::{Bound, Check, Command, Gen, Show, USUAL_NODES, read_command};
-
-#[cfg(test)]
-mod tests;

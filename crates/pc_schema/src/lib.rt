@@ -6,8 +6,6 @@ mod domain;
 mod kind;
 mod plain;
 mod schema;
-#[cfg(test)]
-mod tests;
 
 pub use domain::whole;
 pub use plain::{reads_plain_fields, reads_plain_text};

@@ -13,8 +13,6 @@ mod relaxed;
 mod setting;
 mod short_first;
 mod short_phases;
-#[cfg(test)]
-mod tests;
 
 pub use laws::{
     boxes_have_one_relaxation, vertices_are_greatest_points, vertices_are_worth_most,

@@ -10,7 +10,6 @@ pub mod Mixing
 pub mod Multiples
 pub mod Replaced
 pub mod Running
-pub mod Samples
 pub mod ShortPivots
 pub mod Sizes
 pub mod Spelled

@@ -1,4 +1,3 @@
 pub mod Kept
 pub mod Runs
-pub mod Sample
 pub mod Short

@@ -13,8 +13,6 @@ mod setting;
 mod small;
 mod spell;
 mod tableau;
-#[cfg(test)]
-mod tests;
 
 pub use row::ShortRow;
 pub use run::{ShortRun, take_steps};

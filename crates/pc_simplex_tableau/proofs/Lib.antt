@@ -6,7 +6,6 @@ pub mod Deciding
 pub mod Divisors
 pub mod Ends
 pub mod Entering
-pub mod Examples
 pub mod Feasible
 pub mod Frames
 pub mod Freed
@@ -35,7 +34,6 @@ pub mod StartMeant
 pub mod StartRows
 pub mod StartSecond
 pub mod StartTables
-pub mod Starting
 pub mod Steps
 pub mod Tables
 pub mod Turned

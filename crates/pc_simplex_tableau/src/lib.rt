@@ -15,8 +15,6 @@ mod run;
 mod start_laws;
 mod step;
 mod tableau;
-#[cfg(test)]
-mod tests;
 mod whole_laws;
 
 pub use aim::divide_together;

@@ -4,8 +4,6 @@
 mod fold;
 mod laws;
 mod rebuilt;
-#[cfg(test)]
-mod tests;
 mod witness;
 
 pub use fold::{fold_runs, total_times};

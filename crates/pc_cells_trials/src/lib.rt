@@ -1,0 +1,11 @@
+//! Tests of boxes, trees of cuts, cells and runs.
+#![tactic(auto)]
+
+#[cfg(test)]
+mod boxes;
+#[cfg(test)]
+mod cells;
+#[cfg(test)]
+mod runs;
+#[cfg(test)]
+mod trees;

@@ -1,0 +1,7 @@
+mod divisor;
+mod fit;
+mod fraction;
+mod memory;
+mod order;
+mod put;
+mod scaled;

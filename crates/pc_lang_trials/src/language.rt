@@ -1,0 +1,4 @@
+mod canonical;
+mod files;
+mod meaning;
+mod put;

@@ -1,0 +1,6 @@
+pub mod Examples
+pub mod FrontierSamples
+pub mod ShortSamples
+pub mod ShownWalks
+pub mod Starting
+pub mod WholeBox

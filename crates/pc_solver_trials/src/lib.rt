@@ -1,0 +1,21 @@
+//! Tests of programs and their bounds, of relaxations, frontiers and searches.
+#![tactic(auto)]
+
+#[cfg(test)]
+mod bounds;
+#[cfg(test)]
+mod branch;
+#[cfg(test)]
+mod frontier;
+#[cfg(test)]
+mod greedy;
+#[cfg(test)]
+mod programs;
+#[cfg(test)]
+mod relaxed;
+#[cfg(test)]
+mod short;
+#[cfg(test)]
+mod tableau;
+#[cfg(test)]
+mod walks;
