@@ -12,7 +12,7 @@ use pc_num::Memory;
 use std::alloc::Global;
 
 /// The two parts of a box that was cut.
-#[derive(Clone, Debug, PartialEq, Eq, Drop)]
+#[derive(Debug, PartialEq, Eq, Drop)]
 pub struct Halves {
     pub first: Region,
     pub second: Region,

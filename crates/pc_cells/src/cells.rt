@@ -19,7 +19,7 @@ use std::alloc::Global;
 
 /// The rows that can be lost of one class: those that the constraints of `mask` speak of, bit j for constraint j,
 /// and no other constraint, which the query chooses or not. They are the rows of its leaves.
-#[derive(Clone, Debug, PartialEq, Eq, Drop)]
+#[derive(Debug, PartialEq, Eq, Drop)]
 pub struct Cell {
     pub mask: u32,
     pub chosen: bool,
@@ -27,7 +27,7 @@ pub struct Cell {
 }
 
 /// A settled tree of cuts, and its cells in order of their first leaf.
-#[derive(Clone, Debug, PartialEq, Eq, Drop)]
+#[derive(Debug, PartialEq, Eq, Drop)]
 pub struct Cells {
     pub tree: CutTree,
     pub cells: Seq<Cell>,

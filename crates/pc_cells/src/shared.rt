@@ -26,7 +26,7 @@ use std::alloc::Global;
 
 /// A tree of cuts for many regions: it is linked by the numbers of its nodes and grows only at its end, and its
 /// leaves have no marks.
-#[derive(Clone, Debug, PartialEq, Eq, Drop)]
+#[derive(Debug, PartialEq, Eq, Drop)]
 pub struct Shared {
     pub nodes: Seq<CutNode>,
 }

@@ -6,7 +6,7 @@ use pc_model::{Cut, CutNode, Leaf, LeafMark, Region};
 use pc_num::Memory;
 
 /// A settled tree of cuts: its nodes in preorder, and its leaves with their regions in the same order.
-#[derive(Clone, Debug, PartialEq, Eq, Drop)]
+#[derive(Debug, PartialEq, Eq, Drop)]
 pub struct Growth {
     pub nodes: Seq<CutNode>,
     pub leaves: Seq<Leaf>,

@@ -18,7 +18,7 @@ use pc_num::Memory;
 use std::alloc::Global;
 
 /// A tree that was cut on, and by how many cuts.
-#[derive(Clone, Debug, PartialEq, Eq, Drop)]
+#[derive(Debug, PartialEq, Eq, Drop)]
 pub struct Refinement {
     pub nodes: Seq<CutNode>,
     pub cuts: u64,

@@ -23,7 +23,7 @@ use std::alloc::Global;
 
 /// What is still to be done: to go through the nodes from a number on, over their box, or to set a cut into the
 /// place that was kept for it.
-#[derive(Clone, Debug, PartialEq, Eq, Drop)]
+#[derive(Debug, PartialEq, Eq, Drop)]
 enum Task {
     Visit { number: usize, part: Region },
     Close { place: usize, cut: Cut },

@@ -47,7 +47,7 @@ pub enum TreeLine {
 }
 
 /// What is said after the relation: the lack and the ends.
-#[derive(Clone, Debug, PartialEq, Eq, Drop)]
+#[derive(Debug, PartialEq, Eq, Drop)]
 pub struct After {
     pub lack: Lack,
     pub ends: Option<(End, End)>,

@@ -1,7 +1,7 @@
 use pc_list::{Seq, Text};
 
 /// What an atom says of its column. Numbers are texts, which the column's scale gives their values.
-#[derive(Clone, Debug, PartialEq, Eq, Drop)]
+#[derive(Debug, PartialEq, Eq, Drop)]
 pub enum Claim {
     /// `= NUMBER`
     Number(Seq<u8>),
@@ -22,20 +22,20 @@ pub enum Claim {
 }
 
 /// A condition on one column.
-#[derive(Clone, Debug, PartialEq, Eq, Drop)]
+#[derive(Debug, PartialEq, Eq, Drop)]
 pub struct Atom {
     pub column: Text,
     pub claim: Claim,
 }
 
 /// Atoms that all hold: joined by `and`, or `true` where there is none.
-#[derive(Clone, Debug, PartialEq, Eq, Drop)]
+#[derive(Debug, PartialEq, Eq, Drop)]
 pub struct Part {
     pub atoms: Seq<Atom>,
 }
 
 /// A line of a constraint: `NAME: WHEN => VALUES, LEAST..MOST`.
-#[derive(Clone, Debug, PartialEq, Eq, Drop)]
+#[derive(Debug, PartialEq, Eq, Drop)]
 pub struct Line {
     pub name: Text,
     pub when: Part,
@@ -45,7 +45,7 @@ pub struct Line {
 }
 
 /// What a query measures. A number of rows is spelled `count` or `count(*)`.
-#[derive(Clone, Debug, PartialEq, Eq, Drop)]
+#[derive(Debug, PartialEq, Eq, Drop)]
 pub enum Measure {
     Count,
     CountOfAll,
@@ -56,7 +56,7 @@ pub enum Measure {
 }
 
 /// A query: `MEASURE where PART group by COLUMN`, in which the last two may be left out.
-#[derive(Clone, Debug, PartialEq, Eq, Drop)]
+#[derive(Debug, PartialEq, Eq, Drop)]
 pub struct Question {
     pub measure: Measure,
     pub chosen: Option<Part>,
