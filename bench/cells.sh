@@ -10,13 +10,13 @@ set -eu
 top=$(cd "$(dirname "$0")/.." && pwd)
 [ -x /usr/bin/time ] || { echo "bench/cells.sh: it needs /usr/bin/time" >&2; exit 1; }
 cd "$top/crates/pc_bench"
-rt run -- nested 1 1 > /dev/null 2>&1
+rt run -- cells nested 1 1 > /dev/null 2>&1
 work=$(mktemp -d)
 trap 'rm -rf "$work"' EXIT
 
 # a family, a number of constraints, and how often the domain is divided in one run
 while read -r family constraints times; do
-  said=$(/usr/bin/time -f '%e %M' -o "$work/used" out/pc_bench "$family" "$constraints" "$times")
+  said=$(/usr/bin/time -f '%e %M' -o "$work/used" out/pc_bench cells "$family" "$constraints" "$times")
   read -r seconds memory < "$work/used"
   echo "$family $constraints $times $seconds $memory $said"
 done <<'PLANS' | tee "$work/all" | awk '{
@@ -46,7 +46,7 @@ awk '{ leaf[$1 " " $2] = $4 / $3 / $7 } END {
   printf "a leaf of twelve 20 over one of twelve 12: %.2f\n", leaf["twelve 20"] / leaf["twelve 12"]
 }' "$work/all"
 while read -r family constraints; do
-  echo "$family $constraints $(out/pc_bench "$family" "$constraints" 0)"
+  echo "$family $constraints $(out/pc_bench cells "$family" "$constraints" 0)"
 done <<'PLANS' | awk '{ printf "%s %d: the last one takes %d cuts in %d leaves, %.4f of what it may take\n", $1, $2, $4, $6, $4 / (4 * $8 * $6) }'
 nested 20
 three 20

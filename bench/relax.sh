@@ -3,9 +3,9 @@
 # of reading the program alone, by callgrind, which no other work on the machine disturbs. In the same run it counts those of
 # glpsol for the same program with counts that may be fractions, less those of a program with one cell. For each it prints
 # the cells, the constraints, the steps (of bench/programs/STEPS.txt, by the reference), thousands of instructions, those
-# of a step, glpsol's, and the ratio of ours to glpsol's. It proves and builds crates/pc_search_bench first, and counts with
+# of a step, glpsol's, and the ratio of ours to glpsol's. It proves and builds crates/pc_bench first, and counts with
 # Debian's valgrind; the peer is Debian's glpk-utils.
-# Usage: bench/relax.sh [BINARY]   (BINARY: another build of pc_search_bench, which is counted in place of this one)
+# Usage: bench/relax.sh [BINARY]   (BINARY: another build of pc_bench, which is counted in place of this one)
 set -eu
 export LC_ALL=C
 top=$(cd "$(dirname "$0")/.." && pwd)
@@ -13,13 +13,13 @@ command -v valgrind > /dev/null || { echo "bench/relax.sh: it needs valgrind" >&
 if [ $# -gt 0 ]; then
   ours=$(realpath "$1")
 else
-  cd "$top/crates/pc_search_bench"
-  if ! said=$(rt run -- data/six-triangles.prog 10000 2>&1); then
+  cd "$top/crates/pc_bench"
+  if ! said=$(rt run -- search data/six-triangles.prog 10000 2>&1); then
     printf '%s\n' "$said" >&2
-    echo "bench/relax.sh: pc_search_bench was not proved or not built" >&2
+    echo "bench/relax.sh: pc_bench was not proved or not built" >&2
     exit 1
   fi
-  ours=$PWD/out/pc_search_bench
+  ours=$PWD/out/pc_bench
 fi
 work=$(mktemp -d)
 trap 'rm -rf "$work"' EXIT
@@ -41,7 +41,7 @@ while read -r name steps; do
   cp "$top/bench/programs/$name.prog" .
   python3 "$top/bench/convert.py" relaxed "$name.prog" > "$name.lp"
   read -r cells constraints <<< "$(python3 "$top/bench/convert.py" size "$name.prog")"
-  mine=$(($(count "$ours" "$name.prog" 1) - $(count "$ours" "$name.prog" 0)))
+  mine=$(($(count "$ours" search "$name.prog" 1) - $(count "$ours" search "$name.prog" 0)))
   line="$name: $cells cells, $constraints constraints, $steps steps; $((mine / 1000)) thousand, $((mine / steps)) a step"
   if [ -n "$peer" ]; then
     theirs=$(($(count glpsol --lp "$name.lp") - start))

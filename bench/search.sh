@@ -3,7 +3,7 @@
 # most 10,000 nodes, and given to glpsol, cbc and z3 in the same run. For each it prints the cells, the constraints, the
 # answer, the nodes, seconds, peak memory, the peers' seconds, the ratio of ours to the lesser of glpsol's and cbc's, and
 # whether the answer agrees with bench/programs/EXPECT.txt and with cbc. Then it searches a made program of 200 cells and
-# 20 constraints with 100,000 nodes, and prints its time and peak memory. It proves and builds crates/pc_search_bench
+# 20 constraints with 100,000 nodes, and prints its time and peak memory. It proves and builds crates/pc_bench
 # first, and measures with Debian's `time`; the peers are Debian's glpk-utils, coinor-cbc and z3.
 # Seconds are of the processor, so that other work on the machine counts little: the least of five runs, or the first where
 # that takes a second, less those of a program with one cell and one constraint, which are those of starting. Less than a
@@ -13,13 +13,13 @@ set -eu
 export LC_ALL=C
 top=$(cd "$(dirname "$0")/.." && pwd)
 [ -x /usr/bin/time ] || { echo "bench/search.sh: it needs /usr/bin/time" >&2; exit 1; }
-cd "$top/crates/pc_search_bench"
-if ! said=$(rt run -- data/six-triangles.prog 10000 2>&1); then
+cd "$top/crates/pc_bench"
+if ! said=$(rt run -- search data/six-triangles.prog 10000 2>&1); then
   printf '%s\n' "$said" >&2
-  echo "bench/search.sh: pc_search_bench was not proved or not built" >&2
+  echo "bench/search.sh: pc_bench was not proved or not built" >&2
   exit 1
 fi
-ours=$PWD/out/pc_search_bench
+ours=$PWD/out/pc_bench
 work=$(mktemp -d)
 trap 'rm -rf "$work"' EXIT
 cd "$work"
@@ -55,7 +55,7 @@ ratio() { awk -v one="$1" -v other="$2" 'BEGIN { printf "%.2f", one / other }'; 
 solve() {
   rm -f answer
   case $1 in
-    ours) measure "$4" "$ours" "$2.prog" "$3" ;;
+    ours) measure "$4" "$ours" search "$2.prog" "$3" ;;
     glpsol) measure "$4" glpsol --lp "$2.lp" -o answer ;;
     cbc) measure "$4" cbc "$2.lp" solve ;;
     z3) measure "$4" z3 "$2.smt" ;;

@@ -1,16 +1,22 @@
 use pc_model::Refusal;
 use pc_num::Memory;
-use std::alloc::AllocError;
+use std::alloc::{AllocError, AllocFailed};
 use std::io;
 use thiserror::Error;
 
 /// Why a run ends without its line.
 #[derive(Clone, Copy, Debug, PartialEq, Eq, Error)]
 pub(crate) enum Trouble {
-    #[error("usage: pc_bench nested|three|twelve CONSTRAINTS TIMES")]
+    #[error("usage: pc_bench cells FAMILY CONSTRAINTS TIMES | search FILE NODES [then ..], with 1 to 100000 nodes")]
     Usage,
     #[error("a generated file is refused")]
     Refused,
+    #[error("the file is no text of a program")]
+    Text,
+    #[error("the program has ends out of order or too great, or more than 20 constraints")]
+    Program,
+    #[error("the gains are too great")]
+    Gains,
     #[error("out of memory")]
     Memory,
     #[error("input or output failed")]
@@ -22,7 +28,7 @@ impl Trouble {
     pub(crate) fn status(&self) -> u8 {
         match self {
             Trouble::Usage => 2,
-            Trouble::Refused => 3,
+            Trouble::Refused | Trouble::Text | Trouble::Program | Trouble::Gains => 3,
             Trouble::Host => 5,
             Trouble::Memory => 6,
         }
@@ -31,6 +37,12 @@ impl Trouble {
 
 impl From<AllocError> for Trouble {
     fn from(_: AllocError) -> Self {
+        Trouble::Memory
+    }
+}
+
+impl<T: Drop> From<AllocFailed<T>> for Trouble {
+    fn from(_: AllocFailed<T>) -> Self {
         Trouble::Memory
     }
 }

@@ -1,51 +1,28 @@
-//! What `bench/search.sh` measures: it searches for the greatest worth of the program of a file, and prints what was
-//! found and how many nodes the tree has. Its words are the file and the greatest number of nodes.
-#![tactic(auto)]
-
-mod reading;
-mod trouble;
-
+use crate::reading::read_program;
+use crate::trouble::Trouble;
 use pc_branch::{Outcome, has_fit_gains, solve};
 use pc_program_bound::{Program, is_program};
-use reading::read_program;
 use std::alloc::Global;
-use std::process::ExitCode;
-use std::rt::{Env, Files};
-use std::{env, fs};
-use trouble::Trouble;
+use std::fs;
+use std::rt::Files;
 
 /// The greatest number of nodes that a search may be given.
 const GREATEST: u32 = 100_000;
 
-fn main(rt: HostRuntime) -> ExitCode {
-    match report(&rt) {
-        Ok(()) => ExitCode::from(0),
-        Err(trouble) => {
-            let _ = eprintln!(rt; "pc_search_bench: {trouble}");
-            ExitCode::from(trouble.status())
-        }
-    }
-}
-
-fn report<R: Env + Files + Print + AllocGlobal>(rt: &R) -> Result<(), Trouble> {
-    let (program, nodes) = asked(rt)?;
-    let outcome = search(rt.alloc(), &program, nodes)?;
-    tell(rt, &program, &outcome)
-}
-
-/// The program of the file, and the greatest number of nodes.
-fn asked<R: Env + Files + AllocGlobal>(rt: &R) -> Result<(Program, u32), Trouble> {
-    let words: Vec<String> = env::args(rt)?.skip(1).collect(rt.alloc())?;
-    let [file, nodes] = words.as_slice() else {
-        return Err(Trouble::Usage);
-    };
+/// Searches for the greatest worth of the program of a file, and prints what came of it.
+pub(crate) fn tell<R: Files + Print + AllocGlobal>(
+    rt: &R,
+    file: &str,
+    nodes: &str,
+) -> Result<(), Trouble> {
     let nodes = nodes.parse::<u32>().map_err(|_| Trouble::Usage)?;
-    let text = fs::read_to_string(rt, file.as_str())?;
+    let text = fs::read_to_string(rt, file)?;
     let program = read_program(rt.alloc(), text.as_str())?;
-    Ok((program, nodes))
+    let outcome = search(rt.alloc(), &program, nodes)?;
+    tell_outcome(rt, &program, &outcome)
 }
 
-fn tell(rt: &impl Print, program: &Program, outcome: &Outcome) -> Result<(), Trouble> {
+fn tell_outcome(rt: &impl Print, program: &Program, outcome: &Outcome) -> Result<(), Trouble> {
     match outcome {
         Outcome::Best { value, tree, .. } => {
             let nodes = tree.nodes.len();
