@@ -55,6 +55,45 @@ fn run_words(
     Ok(run(alloc, owned.as_slice(), shelf, sink))
 }
 
+/// The text that a run is to write, and the status that it is to end with.
+type Ending<'a> = (&'a str, Status);
+
+/// Whether a run of the words over a shelf and a sink, which it uses up, ends so.
+fn ends_in(
+    alloc: Global,
+    words: &[&str],
+    mut shelf: MemShelf,
+    mut sink: MemSink,
+    ending: Ending<'_>,
+) -> Result<bool, Fail> {
+    let status = run_words(alloc, words, &mut shelf, &mut sink)?;
+    let (text, wanted) = ending;
+    Ok(status == wanted && sink.kept.as_slice() == text.as_bytes())
+}
+
+/// Whether a run of the words over a shelf ends so.
+fn ends(alloc: Global, words: &[&str], shelf: MemShelf, ending: Ending<'_>) -> Result<bool, Fail> {
+    ends_in(alloc, words, shelf, MemSink::new(alloc, 0), ending)
+}
+
+/// Whether it ends so, by so many loads and puts.
+fn ends_after(
+    alloc: Global,
+    words: &[&str],
+    mut shelf: MemShelf,
+    ending: Ending<'_>,
+    calls: (u64, u64),
+) -> Result<bool, Fail> {
+    let mut sink = MemSink::new(alloc, 0);
+    let status = run_words(alloc, words, &mut shelf, &mut sink)?;
+    let (text, wanted) = ending;
+    Ok(
+        status == wanted
+            && sink.kept.as_slice() == text.as_bytes()
+            && (shelf.calls, sink.calls) == calls,
+    )
+}
+
 #[test]
 fn counts(rt: HostRuntime) -> Result<(), Fail> {
     let table = [
@@ -76,12 +115,11 @@ fn counts(rt: HostRuntime) -> Result<(), Fail> {
         ),
     ];
     for (constraints, want) in table {
-        let mut shelf = shelf_of(rt.alloc(), SCHEMA, ROWS, constraints)?;
-        let mut sink = MemSink::new(rt.alloc(), 0);
-        let ended = run_words(rt.alloc(), &WORDS, &mut shelf, &mut sink)?;
-        assert_eq!(rt; ended, Status::Done, "at {constraints}");
-        assert_eq!(rt; sink.kept.as_slice(), want.as_bytes(), "at {constraints}");
-        assert_eq!(rt; (shelf.calls, sink.calls), (3, 1));
+        let shelf = shelf_of(rt.alloc(), SCHEMA, ROWS, constraints)?;
+        assert!(rt;
+            ends_after(rt.alloc(), &WORDS, shelf, (want, Status::Done), (3, 1))?,
+            "at {constraints}"
+        );
     }
     Ok(())
 }
@@ -137,11 +175,11 @@ fn counts_of_a_shop(rt: HostRuntime) -> Result<(), Fail> {
         ),
     ];
     for (schema, rows, constraints, want) in table {
-        let mut shelf = shelf_of(rt.alloc(), schema, rows, constraints)?;
-        let mut sink = MemSink::new(rt.alloc(), 0);
-        let ended = run_words(rt.alloc(), &WORDS, &mut shelf, &mut sink)?;
-        assert_eq!(rt; sink.kept.as_slice(), want.as_bytes(), "want {want}");
-        assert_eq!(rt; ended, Status::Done);
+        let shelf = shelf_of(rt.alloc(), schema, rows, constraints)?;
+        assert!(rt;
+            ends(rt.alloc(), &WORDS, shelf, (want, Status::Done))?,
+            "want {want}"
+        );
     }
     Ok(())
 }
@@ -159,12 +197,10 @@ fn faults(rt: HostRuntime) -> Result<(), Fail> {
     for (words, call, want) in table {
         let mut shelf = shelf_of(rt.alloc(), SCHEMA, ROWS, APART)?;
         shelf.fail(call)?;
-        let mut sink = MemSink::new(rt.alloc(), 0);
-        assert_eq!(rt;
-            run_words(rt.alloc(), words, &mut shelf, &mut sink)?,
-            Status::ReadFault
+        assert!(rt;
+            ends(rt.alloc(), words, shelf, (want, Status::ReadFault))?,
+            "want {want}"
         );
-        assert_eq!(rt; sink.kept.as_slice(), want.as_bytes());
     }
     // the shelf holds nothing but the schema
     let table: [(&[&str], &str); 2] = [
@@ -174,14 +210,26 @@ fn faults(rt: HostRuntime) -> Result<(), Fail> {
     for (words, want) in table {
         let mut shelf = MemShelf::new(rt.alloc());
         shelf.add("s", SCHEMA.as_bytes())?;
-        let mut sink = MemSink::new(rt.alloc(), 0);
-        assert_eq!(rt;
-            run_words(rt.alloc(), words, &mut shelf, &mut sink)?,
-            Status::ReadFault
+        assert!(rt;
+            ends(rt.alloc(), words, shelf, (want, Status::ReadFault))?,
+            "want {want}"
         );
-        assert_eq!(rt; sink.kept.as_slice(), want.as_bytes());
     }
     Ok(())
+}
+
+/// Whether a run whose put keeps so many bytes and fails ends so.
+fn is_cut_off(
+    alloc: Global,
+    words: &[&str],
+    constraints: &str,
+    short: u64,
+    ending: Ending<'_>,
+) -> Result<bool, Fail> {
+    let shelf = shelf_of(alloc, SCHEMA, ROWS, constraints)?;
+    let mut sink = MemSink::new(alloc, short);
+    sink.fail(0)?;
+    ends_in(alloc, words, shelf, sink, ending)
 }
 
 #[test]
@@ -196,14 +244,10 @@ fn cut_off_texts(rt: HostRuntime) -> Result<(), Fail> {
         (&["show"], APART, 5, "usage", Status::Usage),
     ];
     for (words, constraints, short, want, status) in table {
-        let mut shelf = shelf_of(rt.alloc(), SCHEMA, ROWS, constraints)?;
-        let mut sink = MemSink::new(rt.alloc(), short);
-        sink.fail(0)?;
-        assert_eq!(rt;
-            run_words(rt.alloc(), words, &mut shelf, &mut sink)?,
-            status
+        assert!(rt;
+            is_cut_off(rt.alloc(), words, constraints, short, (want, status))?,
+            "want {want}"
         );
-        assert_eq!(rt; sink.kept.as_slice(), want.as_bytes());
     }
     Ok(())
 }

@@ -75,11 +75,11 @@ fn files(rt: HostRuntime) -> Result<(), Fail> {
         ),
     ];
     for (schema, rows, constraints, want) in table {
-        let mut shelf = shelf_of(rt.alloc(), schema, rows, constraints)?;
-        let mut sink = MemSink::new(rt.alloc(), 0);
-        let ended = run_words(rt.alloc(), &WORDS, &mut shelf, &mut sink)?;
-        assert_eq!(rt; sink.kept.as_slice(), want.as_bytes(), "want {want}");
-        assert_eq!(rt; ended, Status::Malformed);
+        let shelf = shelf_of(rt.alloc(), schema, rows, constraints)?;
+        assert!(rt;
+            ends(rt.alloc(), &WORDS, shelf, (want, Status::Malformed))?,
+            "want {want}"
+        );
     }
     Ok(())
 }
@@ -205,15 +205,16 @@ fn lines(rt: HostRuntime) -> Result<(), Fail> {
         ),
     ];
     for (constraints, want) in table {
-        let mut shelf = shelf_of(rt.alloc(), SHOP, SALES, constraints)?;
-        let mut sink = MemSink::new(rt.alloc(), 0);
-        let ended = run_words(rt.alloc(), &WORDS, &mut shelf, &mut sink)?;
-        assert_eq!(rt; sink.kept.as_slice(), want.as_bytes(), "want {want}");
-        assert_eq!(rt; ended, Status::Malformed);
-        let mut sink = MemSink::new(rt.alloc(), 0);
-        let ended = run_words(rt.alloc(), &SHOW, &mut shelf, &mut sink)?;
-        assert_eq!(rt; sink.kept.as_slice(), want.as_bytes());
-        assert_eq!(rt; ended, Status::Malformed);
+        let shelf = shelf_of(rt.alloc(), SHOP, SALES, constraints)?;
+        assert!(rt;
+            ends(rt.alloc(), &WORDS, shelf, (want, Status::Malformed))?,
+            "want {want}"
+        );
+        let shelf = shelf_of(rt.alloc(), SHOP, SALES, constraints)?;
+        assert!(rt;
+            ends(rt.alloc(), &SHOW, shelf, (want, Status::Malformed))?,
+            "want {want}"
+        );
     }
     Ok(())
 }
@@ -293,12 +294,12 @@ fn queries(rt: HostRuntime) -> Result<(), Fail> {
         ),
     ];
     for (query, want, status) in table {
-        let mut shelf = shelf_of(rt.alloc(), SHOP, SALES, "")?;
-        let mut sink = MemSink::new(rt.alloc(), 0);
+        let shelf = shelf_of(rt.alloc(), SHOP, SALES, "")?;
         let words = ["bound", "s", "r", "c", query];
-        let ended = run_words(rt.alloc(), &words, &mut shelf, &mut sink)?;
-        assert_eq!(rt; sink.kept.as_slice(), want.as_bytes(), "at {query}");
-        assert_eq!(rt; ended, status);
+        assert!(rt;
+            ends(rt.alloc(), &words, shelf, (want, status))?,
+            "at {query}"
+        );
     }
     Ok(())
 }
@@ -306,42 +307,40 @@ fn queries(rt: HostRuntime) -> Result<(), Fail> {
 #[test]
 fn constraints_that_are_no_text(rt: HostRuntime) -> Result<(), Fail> {
     let not_text = b"\xffc: true => true, 0..1\n".as_slice();
-    let want = b"malformed constraints at 0: reason 1 NotUtf8\n".as_slice();
+    let ending = (
+        "malformed constraints at 0: reason 1 NotUtf8\n",
+        Status::Malformed,
+    );
     let table: [&[&str]; 2] = [&WORDS, &SHOW];
     for words in table {
         let mut shelf = shelf_of(rt.alloc(), SHOP, SALES, "")?;
         shelf.add("c", not_text)?;
-        let mut sink = MemSink::new(rt.alloc(), 0);
-        let ended = run_words(rt.alloc(), words, &mut shelf, &mut sink)?;
-        assert_eq!(rt; sink.kept.as_slice(), want);
-        assert_eq!(rt; ended, Status::Malformed);
+        assert!(rt; ends(rt.alloc(), words, shelf, ending)?);
     }
     Ok(())
 }
 
+/// A shelf on which the file of this name is a byte too long.
+fn shelf_with_long(alloc: Global, name: &str) -> Result<MemShelf, Fail> {
+    let mut shelf = shelf_of(alloc, SCHEMA, ROWS, APART)?;
+    let long = vec![in alloc; b'\n'; 67_108_865]?;
+    shelf.add(name, long.as_slice())?;
+    Ok(shelf)
+}
+
 #[test]
 fn long_files(rt: HostRuntime) -> Result<(), Fail> {
-    let mut shelf = shelf_of(rt.alloc(), SCHEMA, ROWS, APART)?;
-    let long = vec![in rt.alloc(); b'\n'; 67_108_865]?;
-    shelf.add("r", long.as_slice())?;
-    let mut sink = MemSink::new(rt.alloc(), 0);
-    assert_eq!(rt;
-        run_words(rt.alloc(), &WORDS, &mut shelf, &mut sink)?,
-        Status::Malformed
+    let shelf = shelf_with_long(rt.alloc(), "r")?;
+    let ending = (
+        "malformed rows at 0: reason 20 TooLong\n",
+        Status::Malformed,
     );
-    assert_eq!(rt;
-        sink.kept.as_slice(),
-        b"malformed rows at 0: reason 20 TooLong\n".as_slice()
+    assert!(rt; ends(rt.alloc(), &WORDS, shelf, ending)?);
+    let shelf = shelf_with_long(rt.alloc(), "c")?;
+    let ending = (
+        "malformed constraints at 0: reason 20 TooLong\n",
+        Status::Malformed,
     );
-    shelf.add("c", long.as_slice())?;
-    let mut sink = MemSink::new(rt.alloc(), 0);
-    assert_eq!(rt;
-        run_words(rt.alloc(), &SHOW, &mut shelf, &mut sink)?,
-        Status::Malformed
-    );
-    assert_eq!(rt;
-        sink.kept.as_slice(),
-        b"malformed constraints at 0: reason 20 TooLong\n".as_slice()
-    );
+    assert!(rt; ends(rt.alloc(), &SHOW, shelf, ending)?);
     Ok(())
 }

@@ -48,11 +48,11 @@ fn listings(rt: HostRuntime) -> Result<(), Fail> {
         let mut shelf = MemShelf::new(rt.alloc());
         shelf.add("s", schema.as_bytes())?;
         shelf.add("c", constraints.as_bytes())?;
-        let mut sink = MemSink::new(rt.alloc(), 0);
-        let ended = run_words(rt.alloc(), &SHOW, &mut shelf, &mut sink)?;
-        assert_eq!(rt; sink.kept.as_slice(), want.as_bytes(), "want {want}");
-        assert_eq!(rt; ended, Status::Done);
-        assert_eq!(rt; (shelf.calls, sink.calls), (2, 1));
+        let ending = (want, Status::Done);
+        assert!(rt;
+            ends_after(rt.alloc(), &SHOW, shelf, ending, (2, 1))?,
+            "want {want}"
+        );
     }
     Ok(())
 }
@@ -73,11 +73,11 @@ fn refused_files(rt: HostRuntime) -> Result<(), Fail> {
         ),
     ];
     for (schema, constraints, want) in table {
-        let mut shelf = shelf_of(rt.alloc(), schema, ROWS, constraints)?;
-        let mut sink = MemSink::new(rt.alloc(), 0);
-        let ended = run_words(rt.alloc(), &SHOW, &mut shelf, &mut sink)?;
-        assert_eq!(rt; sink.kept.as_slice(), want.as_bytes(), "want {want}");
-        assert_eq!(rt; ended, Status::Malformed);
+        let shelf = shelf_of(rt.alloc(), schema, ROWS, constraints)?;
+        assert!(rt;
+            ends(rt.alloc(), &SHOW, shelf, (want, Status::Malformed))?,
+            "want {want}"
+        );
     }
     Ok(())
 }

@@ -129,13 +129,18 @@ fn values_that_are_a_budget(rt: HostRuntime) -> Result<(), Fail> {
         "00000000000000000000000000000000000000000000000007",
     ];
     for value in table {
-        let mut shelf = shelf_of(rt.alloc(), SCHEMA, ROWS, "")?;
-        let mut sink = MemSink::new(rt.alloc(), 0);
+        let shelf = shelf_of(rt.alloc(), SCHEMA, ROWS, "")?;
         let words = ["bound", "--nodes", value, "s", "r", "c", "count"];
-        let ended = run_words(rt.alloc(), &words, &mut shelf, &mut sink)?;
-        assert_eq!(rt; sink.kept.as_slice(), NOTHING_LOST.as_bytes(), "at {value}");
-        assert_eq!(rt; ended, Status::Done);
-        assert_eq!(rt; (shelf.calls, sink.calls), (3, 1));
+        assert!(rt;
+            ends_after(
+                rt.alloc(),
+                &words,
+                shelf,
+                (NOTHING_LOST, Status::Done),
+                (3, 1)
+            )?,
+            "at {value}"
+        );
     }
     Ok(())
 }
