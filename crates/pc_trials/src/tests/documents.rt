@@ -9,6 +9,10 @@ const CHECK: [&str; 5] = ["check", "s", "r", "c", "d"];
 const FRONT: &str =
     "pc 1\nquery sum(price)\ntree own\ncut branch {Chicago}\ncut price 149.99\nleaf 1 in\nleaf barren\nleaf barren\nrelation possible\nlow 150.00 exact\nby tree\nbound 1 0\n";
 
+/// A front without the second cut.
+const SHORTER: &str =
+    "pc 1\nquery sum(price)\ntree own\ncut branch {Chicago}\nleaf 1 in\nleaf barren\nrelation possible\nlow 150.00 exact\nby tree\nbound 1 0\n";
+
 const BACK: &str = "by tree\nbound 1 14999\n";
 
 const HIGH: &str = "high 899.95 exact\n";
@@ -26,46 +30,46 @@ fn shelf_with(alloc: Global, parts: &[&str]) -> Result<MemShelf, Fail> {
     Ok(shelf)
 }
 
+static DOCUMENTS_CASES: [(&[&str], &str, Status); 9] = [
+    (&[FRONT, HIGH, RUN, BACK, "end\n"], "yes\n", Status::Done),
+    (
+        &[FRONT, HIGH, "run 5: Chicago, 1, 149.98\n", BACK, "end\n"],
+        "no line 13 rule 6\n",
+        Status::SaidNo,
+    ),
+    (
+        &[FRONT, HIGH, RUN, BACK],
+        "no line 17 rule 1\n",
+        Status::SaidNo,
+    ),
+    (
+        &[SHORTER, HIGH, RUN, BACK, "end\n"],
+        "no line 5 rule 4\n",
+        Status::SaidNo,
+    ),
+    (
+        &[FRONT, "high 899.94 outer\n", BACK, "end\n"],
+        "no line 13 rule 12\n",
+        Status::SaidNo,
+    ),
+    (
+        &[FRONT, HIGH, "run 0: Chicago, 1, 149.99\n", BACK, "end\n"],
+        "no line 13 rule 5\n",
+        Status::SaidNo,
+    ),
+    (
+        &[FRONT, HIGH, RUN, BACK, "end\n\n"],
+        "no line 18 rule 1\n",
+        Status::SaidNo,
+    ),
+    (&["pc 1\nend\n"], "yes\n", Status::Done),
+    (&[], "no line 1 rule 1\n", Status::SaidNo),
+];
+
 #[test]
 fn documents(rt: HostRuntime) -> Result<(), Fail> {
-    let shorter =
-        "pc 1\nquery sum(price)\ntree own\ncut branch {Chicago}\nleaf 1 in\nleaf barren\nrelation possible\nlow 150.00 exact\nby tree\nbound 1 0\n";
-    let table: [(&[&str], &str, Status); 9] = [
-        (&[FRONT, HIGH, RUN, BACK, "end\n"], "yes\n", Status::Done),
-        (
-            &[FRONT, HIGH, "run 5: Chicago, 1, 149.98\n", BACK, "end\n"],
-            "no line 13 rule 6\n",
-            Status::SaidNo,
-        ),
-        (
-            &[FRONT, HIGH, RUN, BACK],
-            "no line 17 rule 1\n",
-            Status::SaidNo,
-        ),
-        (
-            &[shorter, HIGH, RUN, BACK, "end\n"],
-            "no line 5 rule 4\n",
-            Status::SaidNo,
-        ),
-        (
-            &[FRONT, "high 899.94 outer\n", BACK, "end\n"],
-            "no line 13 rule 12\n",
-            Status::SaidNo,
-        ),
-        (
-            &[FRONT, HIGH, "run 0: Chicago, 1, 149.99\n", BACK, "end\n"],
-            "no line 13 rule 5\n",
-            Status::SaidNo,
-        ),
-        (
-            &[FRONT, HIGH, RUN, BACK, "end\n\n"],
-            "no line 18 rule 1\n",
-            Status::SaidNo,
-        ),
-        (&["pc 1\nend\n"], "yes\n", Status::Done),
-        (&[], "no line 1 rule 1\n", Status::SaidNo),
-    ];
-    for (parts, want, status) in table {
+    for case in &DOCUMENTS_CASES {
+        let (parts, want, status) = *case;
         let shelf = shelf_with(rt.alloc(), parts)?;
         assert!(rt;
             ends_after(rt.alloc(), &CHECK, shelf, (want, status), (4, 1))?,
@@ -90,23 +94,24 @@ fn is_taken(alloc: Global, document: &[u8]) -> Result<bool, Fail> {
     ends(alloc, &CHECK, shelf, ("yes\n", Status::Done))
 }
 
+static PROOFS_THAT_ARE_CHECKED_CASES: [&[&str]; 5] = [
+    &["prove", "s", "r", "c", "sum(price)"],
+    &["prove", "s", "r", "c", "count", "sum(price)"],
+    &["prove", "--nodes", "1", "s", "r", "c", "avg(price)"],
+    &[
+        "prove",
+        "s",
+        "r",
+        "c",
+        "max(price) where day <= 3 group by branch",
+    ],
+    &["prove", "s", "r", "c", "min(price) where branch = Trenton"],
+];
+
 #[test]
 fn proofs_that_are_checked(rt: HostRuntime) -> Result<(), Fail> {
-    let table: [&[&str]; 5] = [
-        &["prove", "s", "r", "c", "sum(price)"],
-        &["prove", "s", "r", "c", "count", "sum(price)"],
-        &["prove", "--nodes", "1", "s", "r", "c", "avg(price)"],
-        &[
-            "prove",
-            "s",
-            "r",
-            "c",
-            "max(price) where day <= 3 group by branch",
-        ],
-        &["prove", "s", "r", "c", "min(price) where branch = Trenton"],
-    ];
-    for words in table {
-        let proof = proof_for(rt.alloc(), words)?;
+    for words in &PROOFS_THAT_ARE_CHECKED_CASES {
+        let proof = proof_for(rt.alloc(), *words)?;
         assert!(rt; is_taken(rt.alloc(), proof.as_slice())?);
     }
     Ok(())
@@ -144,24 +149,26 @@ fn fails_so(
     ends_in(alloc, &CHECK, shelf, sink, ending)
 }
 
+static CHECKS_THAT_FAIL_CASES: [(Option<u64>, Option<u64>, &str, Status); 8] = [
+    (Some(0), None, "read fault: schema\n", Status::ReadFault),
+    (Some(1), None, "read fault: rows\n", Status::ReadFault),
+    (
+        Some(2),
+        None,
+        "read fault: constraints\n",
+        Status::ReadFault,
+    ),
+    (Some(3), None, "read fault: document\n", Status::ReadFault),
+    (Some(3), Some(7), "read fa", Status::ReadFault),
+    (None, Some(0), "", Status::WriteFault),
+    (None, Some(7), "no line", Status::WriteFault),
+    (None, None, "no line 17 rule 1\n", Status::SaidNo),
+];
+
 #[test]
 fn checks_that_fail(rt: HostRuntime) -> Result<(), Fail> {
-    let table = [
-        (Some(0), None, "read fault: schema\n", Status::ReadFault),
-        (Some(1), None, "read fault: rows\n", Status::ReadFault),
-        (
-            Some(2),
-            None,
-            "read fault: constraints\n",
-            Status::ReadFault,
-        ),
-        (Some(3), None, "read fault: document\n", Status::ReadFault),
-        (Some(3), Some(7), "read fa", Status::ReadFault),
-        (None, Some(0), "", Status::WriteFault),
-        (None, Some(7), "no line", Status::WriteFault),
-        (None, None, "no line 17 rule 1\n", Status::SaidNo),
-    ];
-    for (load, put, want, status) in table {
+    for case in &CHECKS_THAT_FAIL_CASES {
+        let (load, put, want, status) = *case;
         assert!(rt;
             fails_so(rt.alloc(), load, put, (want, status))?,
             "at {want}"
