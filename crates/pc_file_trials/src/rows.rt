@@ -4,6 +4,7 @@ ghost use Rattle.pc_model.specs.WellFormed.{HasFewNames, HaveFewNames};
 mod each_group;
 pub(crate) mod folds;
 
+use crate::stored::numbers as numbers_of_pairs;
 use pc_list::{Seq, Text};
 use pc_model::{Column, Kind, Reason, Refusal, Row, Schema};
 use pc_rows::{Case, Rows, read_rows, reads_plain_fields, reads_plain_text};
@@ -30,27 +31,13 @@ pub(crate) fn three_rows(alloc: Global) -> Result<Rows, Fail>
     Ok(rows)
 }
 
-// The numbers of a column of rows of two.
-fn in_column(alloc: Global, rows: &Rows, column: u8) -> Result<Vec<i64>, AllocError>
-    requires wide { All (λ row. length row.cells ≡ 2) rows.now }
-    requires inside { column < 2 }
-{
-    let mut numbers = Vec::new(alloc);
-    for place in 0..rows.count() {
-        numbers.push(rows.cell(place, column))?;
-    }
-    Ok(numbers)
-}
-
 #[test]
 fn cells_stay_in_order(rt: HostRuntime) -> Result<(), Fail> {
     let alloc = rt.alloc();
     let rows = three_rows(alloc)?;
     assert_eq!(rt; rows.count(), 3);
-    let first = in_column(alloc, &rows, 0)?;
-    let second = in_column(alloc, &rows, 1)?;
-    assert!(rt; first.as_slice() == [3, 7, 9].as_slice());
-    assert!(rt; second.as_slice() == [1, 4, 4].as_slice());
+    let found = numbers_of_pairs(alloc, &rows)?;
+    assert!(rt; found.as_slice() == [3, 1, 7, 4, 9, 4].as_slice());
     Ok(())
 }
 
