@@ -84,30 +84,39 @@ fn files_that_are_refused(rt: HostRuntime) {
     }
 }
 
+// A column of the names from 0 to 127, and of those in `more`.
+fn many_names(alloc: Global, more: &str) -> Result<String, AllocError> {
+    let mut text = String::from_str(alloc, "a,cat")?;
+    for number in 0..128 {
+        let name = format!(in alloc; ",{number}")?;
+        text.push_str(name.as_str())?;
+    }
+    text.push_str(more)?;
+    Ok(text)
+}
+
+// The same of a text that ends here.
+fn outcome_of(alloc: Global, text: String) -> Result<usize, (u64, Reason)> {
+    outcome(alloc, text.as_str())
+}
+
 #[test]
 fn limits(rt: HostRuntime) -> Result<(), Fail> {
     let alloc = rt.alloc();
 
     // The thirteenth column is too many, whatever it is.
     let thirteen = format!(in alloc; "{TWELVE},wide\n")?;
-    assert_eq!(rt;
-        outcome(alloc, thirteen.as_str()),
-        Err((13, Reason::TooMany))
-    );
+    let too_many = Err((13, Reason::TooMany));
+    assert_eq!(rt; outcome_of(alloc, thirteen), too_many);
     let longest = format!(in alloc; "{LONGEST_NAME},cat,{LONGEST_NAME}\n")?;
-    assert_eq!(rt; outcome(alloc, longest.as_str()), Ok(1));
+    assert_eq!(rt; outcome_of(alloc, longest), Ok(1));
     let longer = format!(in alloc; "a,cat,{LONGEST_NAME}?\n")?;
-    assert_eq!(rt; outcome(alloc, longer.as_str()), Err((1, Reason::BadName)));
+    assert_eq!(rt; outcome_of(alloc, longer), Err((1, Reason::BadName)));
 
-    // The names from 0 on, and then one more, which stands there already.
-    let mut text = String::from_str(alloc, "a,cat")?;
-    for number in 0..128 {
-        let name = format!(in alloc; ",{number}")?;
-        text.push_str(name.as_str())?;
-    }
-    assert_eq!(rt; outcome(alloc, text.as_str()), Ok(1));
-    text.push_str(",0")?;
-    assert_eq!(rt; outcome(alloc, text.as_str()), Err((1, Reason::TooMany)));
+    // One name more is too many, also where it stands there already.
+    assert_eq!(rt; outcome_of(alloc, many_names(alloc, "")?), Ok(1));
+    let past = many_names(alloc, ",0")?;
+    assert_eq!(rt; outcome_of(alloc, past), Err((1, Reason::TooMany)));
     Ok(())
 }
 

@@ -1,7 +1,7 @@
 ghost use Rattle.std.specs.Prelude.{◌<◌, ◌≢◌, ℕ, All, AllPairs};
 ghost use Rattle.pc_rows.specs.Groups.{name_limit};
 
-use super::folds::folded;
+use super::folds::{Fold, folded};
 use super::{branches, sales};
 use pc_list::Seq;
 use pc_model::{Agg, Folded, Query, Region, Side};
@@ -58,28 +58,41 @@ fn fold_to(
     Ok(folds.as_slice() == wanted)
 }
 
+const NONE: Fold = (0, 0, None, None);
+
+const CHICAGO: Fold = (1, 10_000, Some(10_000), Some(10_000));
+
+const ALL_CHICAGO: Fold = (2, 10_100, Some(100), Some(10_000));
+
+const NEW_YORK: Fold = (1, 5_000, Some(5_000), Some(5_000));
+
+// Whether the sales of a week come to this, with each group in its place.
+fn week_folds(alloc: Global, rows: &Rows) -> Result<bool, Fail> {
+    let week = (7, 0b111);
+    let folds = [folded(CHICAGO), folded(NEW_YORK), folded(NONE)];
+    let turned = [folded(NONE), folded(CHICAGO)];
+    Ok(
+        fold_to(alloc, rows, week, &[0, 1, 2], &folds)?
+            && fold_to(alloc, rows, week, &[2, 0], &turned)?
+            && fold_to(alloc, rows, week, &[], &[])?,
+    )
+}
+
+// Whether the sales of two branches come to this, with groups that are not chosen or stand for no name.
+fn others_fold(alloc: Global, rows: &Rows) -> Result<bool, Fail> {
+    let folds = [folded(NONE), folded(NONE), folded(ALL_CHICAGO)];
+    fold_to(alloc, rows, (31, 0b101), &[1, 127, 0], &folds)
+}
+
+fn no_rows_fold(alloc: Global) -> Result<bool, Fail> {
+    fold_to(alloc, &Rows::new(alloc), (31, 0b101), &[0], &[folded(NONE)])
+}
+
 #[test]
 fn one_fold_for_each_group(rt: HostRuntime) -> Result<(), Fail> {
-    let alloc = rt.alloc();
-    let rows = three_sales(alloc)?;
-    let none = folded((0, 0, None, None));
-    let chicago = folded((1, 10_000, Some(10_000), Some(10_000)));
-    let all_chicago = folded((2, 10_100, Some(100), Some(10_000)));
-    let new_york = folded((1, 5_000, Some(5_000), Some(5_000)));
-    let week = (7, 0b111);
-    let others = (31, 0b101);
-    assert!(rt; fold_to(alloc, &rows, week, &[0, 1, 2], &[chicago, new_york, none])?);
-    assert!(rt; fold_to(alloc, &rows, week, &[2, 0], &[none, chicago])?);
-    assert!(rt; fold_to(alloc, &rows, week, &[], &[])?);
-    assert!(rt;
-        fold_to(
-            alloc,
-            &rows,
-            others,
-            &[1, 127, 0],
-            &[none, none, all_chicago]
-        )?
-    );
-    assert!(rt; fold_to(alloc, &Rows::new(alloc), others, &[0], &[none])?);
+    let rows = three_sales(rt.alloc())?;
+    assert!(rt; week_folds(rt.alloc(), &rows)?);
+    assert!(rt; others_fold(rt.alloc(), &rows)?);
+    assert!(rt; no_rows_fold(rt.alloc())?);
     Ok(())
 }
