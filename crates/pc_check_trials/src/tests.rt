@@ -1,6 +1,8 @@
 mod averages;
 mod blocks;
 mod checking;
+mod document_lines;
+mod documents;
 mod edits;
 mod elsewhere;
 mod extremes;

@@ -19,3 +19,5 @@ mod rows;
 mod schema;
 #[cfg(test)]
 mod stored;
+#[cfg(test)]
+mod stored_numbers;

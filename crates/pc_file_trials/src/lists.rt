@@ -1,4 +1,4 @@
-use crate::{Seq, Text};
+use pc_list::{Seq, Text};
 use std::test::Fail;
 
 #[test]

@@ -1,8 +1,8 @@
-use crate::{
+use pc_list::{Seq, Text};
+use pc_model::{
     Column, Fault, FileKind, Kind, ReadStop, Reason, Refusal, Region, Row, Schema, Side, is_name,
     read_number, text_of,
 };
-use pc_list::{Seq, Text};
 use pc_num::Memory;
 use std::alloc::{AllocError, Global};
 use std::test::Fail;

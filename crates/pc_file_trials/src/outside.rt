@@ -1,4 +1,4 @@
-use crate::{Loaded, MemShelf, MemSink, Put, Shelf, Sink, Status};
+use pc_base::{Loaded, MemShelf, MemSink, Put, Shelf, Sink, Status};
 use std::test::Fail;
 
 // Each case loads once more from a shelf whose load number 4 is to fail.

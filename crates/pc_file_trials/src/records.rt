@@ -1,5 +1,5 @@
-use crate::{Table, field};
 use csv::ByteRecord;
+use pc_records::{Table, field};
 use std::alloc::Global;
 use std::test::Fail;
 
@@ -27,35 +27,36 @@ fn put_record(out: &mut Vec<u8>, row: &ByteRecord) -> Result<(), Fail> {
     Ok(())
 }
 
+static RECORDS: [(&str, &str); 23] = [
+    ("", ""),
+    ("\n", ""),
+    ("a,b\nc,d\n", "[a][b];[c][d];"),
+    ("a,b\nc,d", "[a][b];[c][d];"),
+    ("a\r\nb\r\n", "[a];[b];"),
+    ("a\rb\r", "[a];[b];"),
+    ("a\n\n\r\n\nb", "[a];[b];"),
+    ("a,b\nc\nd,e,f\n", "[a][b];[c];[d][e][f];"),
+    (" a , b \n", "[ a ][ b ];"),
+    ("\"a,b\",\"c\nd\"\n", "[a,b][c\nd];"),
+    ("\"a\"\"b\"\n", "[a\"b];"),
+    ("a\"b\"\n", "[a\"b\"];"),
+    ("\"a\"b,c\n", "[ab][c];"),
+    ("\"\"\n", "[];"),
+    (",\n", "[][];"),
+    ("a,", "[a][];"),
+    ("\"open,\n", "[open,\n];"),
+    ("# a\n", "[# a];"),
+    ("a;b\tc\n", "[a;b\tc];"),
+    ("\u{feff}a,b\n", "[a][b];"),
+    ("\u{feff}\u{feff}a\n", "[\u{feff}a];"),
+    ("a\n\u{feff}b\n", "[a];[\u{feff}b];"),
+    ("\u{feff}\"a,b\"\n", "[a,b];"),
+];
+
 #[test]
 fn reads_records(rt: HostRuntime) -> Result<(), Fail> {
     let alloc = rt.alloc();
-    let cases: [(&str, &str); 23] = [
-        ("", ""),
-        ("\n", ""),
-        ("a,b\nc,d\n", "[a][b];[c][d];"),
-        ("a,b\nc,d", "[a][b];[c][d];"),
-        ("a\r\nb\r\n", "[a];[b];"),
-        ("a\rb\r", "[a];[b];"),
-        ("a\n\n\r\n\nb", "[a];[b];"),
-        ("a,b\nc\nd,e,f\n", "[a][b];[c];[d][e][f];"),
-        (" a , b \n", "[ a ][ b ];"),
-        ("\"a,b\",\"c\nd\"\n", "[a,b][c\nd];"),
-        ("\"a\"\"b\"\n", "[a\"b];"),
-        ("a\"b\"\n", "[a\"b\"];"),
-        ("\"a\"b,c\n", "[ab][c];"),
-        ("\"\"\n", "[];"),
-        (",\n", "[][];"),
-        ("a,", "[a][];"),
-        ("\"open,\n", "[open,\n];"),
-        ("# a\n", "[# a];"),
-        ("a;b\tc\n", "[a;b\tc];"),
-        ("\u{feff}a,b\n", "[a][b];"),
-        ("\u{feff}\u{feff}a\n", "[\u{feff}a];"),
-        ("a\n\u{feff}b\n", "[a];[\u{feff}b];"),
-        ("\u{feff}\"a,b\"\n", "[a,b];"),
-    ];
-    for (text, want) in cases {
+    for (text, want) in RECORDS.iter() {
         let out = laid_out(alloc, text.as_bytes())?;
         assert!(rt; out.as_slice() == want.as_bytes(), "{text}");
     }

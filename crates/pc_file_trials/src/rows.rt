@@ -1,17 +1,26 @@
-ghost use Rattle.std.specs.Prelude.{◌≡◌, [], ◌∷◌, length, map, IfOk, All};
+ghost use Rattle.std.specs.Prelude.{◌≡◌, [], length, IfOk, All};
 ghost use Rattle.pc_model.specs.WellFormed.{HasFewNames, HaveFewNames};
 
 mod each_group;
+pub(crate) mod folds;
 
-use crate::{Case, Rows, read_rows, reads_plain_fields, reads_plain_text};
+use crate::stored::numbers as numbers_of_pairs;
 use pc_list::{Seq, Text};
-use pc_model::{Agg, Column, Folded, Kind, Query, Reason, Refusal, Region, Row, Schema, Side};
+use pc_model::{Column, Kind, Reason, Refusal, Row, Schema};
+use pc_rows::{Case, Rows, read_rows, reads_plain_fields, reads_plain_text};
 use std::alloc::{AllocError, Global};
+use std::process::Abort;
 use std::test::Fail;
 
+/// Texts with the numbers of their rows, row by row.
+type Read = (&'static str, &'static [i64]);
+
+/// Texts with the place and the reason of their first fault.
+type Refused = (&'static str, u64, Reason);
+
 // The rows (3, 1), (7, 4) and (9, 4).
-fn three_rows(alloc: Global) -> Result<Rows, Fail>
-    ensures { IfOk result (λ rows. map (λ row. length row.cells) rows ≡ 2 ∷ 2 ∷ 2 ∷ []) }
+pub(crate) fn three_rows(alloc: Global) -> Result<Rows, Fail>
+    ensures { IfOk result (λ rows. All (λ row. length row.cells ≡ 2) rows) }
 {
     let mut rows = Rows::new(alloc);
     rows.push_cells(&[3, 1])?;
@@ -22,87 +31,13 @@ fn three_rows(alloc: Global) -> Result<Rows, Fail>
     Ok(rows)
 }
 
-pub(crate) fn query(
-    alloc: Global,
-    column: Option<u8>,
-    first: (i64, i64),
-    second: (i64, i64),
-) -> Result<Query, AllocError> {
-    let sides = [
-        Side::Span {
-            low: first.0,
-            high: first.1,
-        },
-        Side::Span {
-            low: second.0,
-            high: second.1,
-        },
-    ];
-    Ok(Query {
-        agg: Agg::Count,
-        column,
-        chosen: Region {
-            sides: Seq::from_slice(alloc, &sides)?,
-        },
-        group: None,
-    })
-}
-
-pub(crate) fn folded(count: u64, sum: i128, least: Option<i64>, greatest: Option<i64>) -> Folded {
-    Folded {
-        count,
-        sum,
-        least,
-        greatest,
-    }
-}
-
 #[test]
 fn cells_stay_in_order(rt: HostRuntime) -> Result<(), Fail> {
-    let rows = three_rows(rt.alloc())?;
-    assert_eq!(rt; rows.count(), 3);
-    let first = [rows.cell(0, 0), rows.cell(1, 0), rows.cell(2, 0)];
-    let second = [rows.cell(0, 1), rows.cell(1, 1), rows.cell(2, 1)];
-    assert_eq!(rt; first, [3, 7, 9]);
-    assert_eq!(rt; second, [1, 4, 4]);
-    Ok(())
-}
-
-#[test]
-fn folds(rt: HostRuntime) -> Result<(), Fail> {
     let alloc = rt.alloc();
     let rows = three_rows(alloc)?;
-    let any = (i64::MIN, i64::MAX);
-    let cases = [
-        (Some(0), any, any, folded(3, 19, Some(3), Some(9))),
-        (Some(1), any, any, folded(3, 9, Some(1), Some(4))),
-        (Some(0), any, (4, 4), folded(2, 16, Some(7), Some(9))),
-        (Some(1), (4, 8), any, folded(1, 4, Some(4), Some(4))),
-        (Some(0), (3, 7), (1, 1), folded(1, 3, Some(3), Some(3))),
-        (Some(0), any, (2, 3), folded(0, 0, None, None)),
-        (None, any, any, folded(3, 0, None, None)),
-        (None, (4, 9), any, folded(2, 0, None, None)),
-        (Some(2), any, any, folded(3, 0, Some(0), Some(0))),
-    ];
-    for (number, (column, first, second, wanted)) in cases.into_iter().enumerate() {
-        let query = query(alloc, column, first, second)?;
-        assert!(rt; rows.fold(&query) == wanted, "case {number}");
-        assert!(rt; Rows::new(alloc).fold(&query) == folded(0, 0, None, None));
-    }
-    Ok(())
-}
-
-#[test]
-fn extreme_numbers(rt: HostRuntime) -> Result<(), Fail> {
-    let alloc = rt.alloc();
-    let mut rows = Rows::new(alloc);
-    rows.push_cells(&[i64::MIN, i64::MAX])?;
-    rows.push_cells(&[i64::MIN, i64::MAX])?;
-    let any = (i64::MIN, i64::MAX);
-    let lowest = rows.fold(&query(alloc, Some(0), any, any)?);
-    let highest = rows.fold(&query(alloc, Some(1), any, any)?);
-    assert!(rt; lowest == folded(2, -18446744073709551616, Some(i64::MIN), Some(i64::MIN)));
-    assert!(rt; highest == folded(2, 18446744073709551614, Some(i64::MAX), Some(i64::MAX)));
+    assert_eq!(rt; rows.count(), 3);
+    let found = numbers_of_pairs(alloc, &rows)?;
+    assert!(rt; found.as_slice() == [3, 1, 7, 4, 9, 4].as_slice());
     Ok(())
 }
 
@@ -187,195 +122,233 @@ fn outcome(
     }
 }
 
-#[test]
-fn files_that_are_read(rt: HostRuntime) -> Result<(), Fail> {
-    let alloc = rt.alloc();
-    let schema = sales(alloc, branches(alloc)?)?;
-    let two_rows = [0, 3, 10000, 1, 5, 5000];
-    let cases: [(&str, &[i64]); 12] = [
-        (
-            "branch,day,price\nChicago,3,100.00\nNewYork,5,50.00\n",
-            &two_rows,
-        ),
-        (
-            "\u{feff}branch,day,price\nChicago,3,100.00\nNewYork,5,50.00\n",
-            &two_rows,
-        ),
-        (
-            "price,branch,day\n100.00,Chicago,3\n50.00,NewYork,5\n",
-            &two_rows,
-        ),
-        (
-            "branch,note,day,price,note\nChicago,,3,100.00,x\nNewYork,a b,5,50.00,\n",
-            &two_rows,
-        ),
-        (
-            "branch,day,price\r\nChicago,3,100.00\r\nNewYork,5,50.00\r\n",
-            &two_rows,
-        ),
-        (
-            "branch,day,price\n\nChicago,3,100\n\nNewYork,+5,50.0",
-            &two_rows,
-        ),
-        (
-            "\"branch\",day,price\n\"Chicago\",\"3\",100\nNewYork,05,50\n",
-            &two_rows,
-        ),
-        ("branch,day,price\nTrenton, 3 ,  0.5\n", &[2, 3, 50]),
-        (
-            "branch,day,price\nTrenton,1,0\nTrenton,31,1000\n",
-            &[2, 1, 0, 2, 31, 100000],
-        ),
-        ("branch,day,price\nTrenton,3.0,-0\n", &[2, 3, 0]),
-        ("branch,day,price\n", &[]),
-        ("day,price,branch", &[]),
-    ];
+// Asserts that each text is read, and its rows have these numbers.
+fn are_read(rt: &impl Abort, alloc: Global, schema: &Schema, cases: &[Read]) -> Result<(), Fail>
+    requires few { HaveFewNames schema.now.columns }
+    requires three { length schema.now.columns ≡ 3 }
+{
     for (text, wanted) in cases {
-        match outcome(alloc, &schema, text.as_bytes())? {
-            Ok(numbers) => assert!(rt; numbers.as_slice() == wanted, "{text}"),
+        match outcome(alloc, schema, text.as_bytes())? {
+            Ok(numbers) => assert!(rt; numbers.as_slice() == *wanted, "{text}"),
             Err(_) => assert!(rt; false, "{text}"),
         }
     }
     Ok(())
 }
+
+// Asserts that a text is refused at this place for this reason.
+fn is_refused(
+    rt: &impl Abort,
+    alloc: Global,
+    schema: &Schema,
+    text: &[u8],
+    place: u64,
+    reason: Reason,
+) -> Result<(), Fail>
+    requires few { HaveFewNames schema.now.columns }
+    requires three { length schema.now.columns ≡ 3 }
+{
+    match outcome(alloc, schema, text)? {
+        Ok(_) => assert!(rt; false, "no rows are wanted"),
+        Err(fault) => assert_eq!(rt; fault, (place, reason)),
+    }
+    Ok(())
+}
+
+// Asserts that each text is refused where it follows this one.
+fn are_refused(
+    rt: &impl Abort,
+    alloc: Global,
+    schema: &Schema,
+    head: &str,
+    cases: &[Refused],
+) -> Result<(), Fail>
+    requires few { HaveFewNames schema.now.columns }
+    requires three { length schema.now.columns ≡ 3 }
+{
+    for (text, place, reason) in cases {
+        let file = format!(in alloc; "{head}{text}")?;
+        match outcome(alloc, schema, file.as_bytes())? {
+            Ok(_) => assert!(rt; false, "{text}"),
+            Err(fault) => assert_eq!(rt; fault, (*place, *reason), "{text}"),
+        }
+    }
+    Ok(())
+}
+
+static READ: [Read; 12] = [
+    (
+        "branch,day,price\nChicago,3,100.00\nNewYork,5,50.00\n",
+        &[0, 3, 10000, 1, 5, 5000],
+    ),
+    (
+        "\u{feff}branch,day,price\nChicago,3,100.00\nNewYork,5,50.00\n",
+        &[0, 3, 10000, 1, 5, 5000],
+    ),
+    (
+        "price,branch,day\n100.00,Chicago,3\n50.00,NewYork,5\n",
+        &[0, 3, 10000, 1, 5, 5000],
+    ),
+    (
+        "branch,note,day,price,note\nChicago,,3,100.00,x\nNewYork,a b,5,50.00,\n",
+        &[0, 3, 10000, 1, 5, 5000],
+    ),
+    (
+        "branch,day,price\r\nChicago,3,100.00\r\nNewYork,5,50.00\r\n",
+        &[0, 3, 10000, 1, 5, 5000],
+    ),
+    (
+        "branch,day,price\n\nChicago,3,100\n\nNewYork,+5,50.0",
+        &[0, 3, 10000, 1, 5, 5000],
+    ),
+    (
+        "\"branch\",day,price\n\"Chicago\",\"3\",100\nNewYork,05,50\n",
+        &[0, 3, 10000, 1, 5, 5000],
+    ),
+    ("branch,day,price\nTrenton, 3 ,  0.5\n", &[2, 3, 50]),
+    (
+        "branch,day,price\nTrenton,1,0\nTrenton,31,1000\n",
+        &[2, 1, 0, 2, 31, 100000],
+    ),
+    ("branch,day,price\nTrenton,3.0,-0\n", &[2, 3, 0]),
+    ("branch,day,price\n", &[]),
+    ("day,price,branch", &[]),
+];
+
+#[test]
+fn files_that_are_read(rt: HostRuntime) -> Result<(), Fail> {
+    let schema = sales(rt.alloc(), branches(rt.alloc())?)?;
+    are_read(&rt, rt.alloc(), &schema, &READ)
+}
+
+static HEADERS: [Refused; 8] = [
+    ("", 1, Reason::NoHeader),
+    ("\n\r\n", 1, Reason::NoHeader),
+    ("branch,day\n", 1, Reason::MissingColumn),
+    ("branch,day, price\n", 1, Reason::MissingColumn),
+    ("branch,Day,price\n", 1, Reason::MissingColumn),
+    ("branch,day,price,day\n", 1, Reason::RepeatedName),
+    // The columns come in the order of the schema.
+    ("day,day,price\n", 1, Reason::MissingColumn),
+    ("branch,branch,day\nBoston\n", 1, Reason::RepeatedName),
+];
 
 #[test]
 fn headers_that_are_refused(rt: HostRuntime) -> Result<(), Fail> {
-    let alloc = rt.alloc();
-    let schema = sales(alloc, branches(alloc)?)?;
-    let cases = [
-        ("", Reason::NoHeader),
-        ("\n\r\n", Reason::NoHeader),
-        ("branch,day\n", Reason::MissingColumn),
-        ("branch,day, price\n", Reason::MissingColumn),
-        ("branch,Day,price\n", Reason::MissingColumn),
-        ("branch,day,price,day\n", Reason::RepeatedName),
-        // The columns come in the order of the schema.
-        ("day,day,price\n", Reason::MissingColumn),
-        ("branch,branch,day\nBoston\n", Reason::RepeatedName),
-    ];
-    for (text, reason) in cases {
-        match outcome(alloc, &schema, text.as_bytes())? {
-            Ok(_) => assert!(rt; false, "{text}"),
-            Err(fault) => assert_eq!(rt; fault, (1, reason), "{text}"),
-        }
-    }
-    Ok(())
+    let schema = sales(rt.alloc(), branches(rt.alloc())?)?;
+    are_refused(&rt, rt.alloc(), &schema, "", &HEADERS)
 }
+
+static RECORDS: [Refused; 31] = [
+    ("Chicago,3\n", 2, Reason::FieldCount),
+    ("Chicago,3,1,\n", 2, Reason::FieldCount),
+    ("Chicago,3,100.001\n", 2, Reason::TooManyDecimals),
+    ("Chicago,3.5,1\n", 2, Reason::TooManyDecimals),
+    ("Chicago,3,2000\n", 2, Reason::OutsideDomain),
+    ("Chicago,3,1000.01\n", 2, Reason::OutsideDomain),
+    ("Chicago,3,-0.01\n", 2, Reason::OutsideDomain),
+    ("Chicago,0,1\n", 2, Reason::OutsideDomain),
+    ("Chicago,32,1\n", 2, Reason::OutsideDomain),
+    ("Chicago,3,10000000000000.01\n", 2, Reason::PastLimit),
+    ("Boston,3,1\n", 2, Reason::UnknownName),
+    ("Chicago ,3,1\n", 2, Reason::UnknownName),
+    (" Chicago,3,1\n", 2, Reason::UnknownName),
+    ("Chicag,3,1\n", 2, Reason::UnknownName),
+    ("Chicagos,3,1\n", 2, Reason::UnknownName),
+    ("chicago,3,1\n", 2, Reason::UnknownName),
+    (",3,1\n", 2, Reason::UnknownName),
+    ("Chicago,,1\n", 2, Reason::BadNumber),
+    ("Chicago,  ,1\n", 2, Reason::BadNumber),
+    ("Chicago,\t3,1\n", 2, Reason::BadNumber),
+    ("Chicago,3\t,1\n", 2, Reason::BadNumber),
+    ("Chicago,1 2,1\n", 2, Reason::BadNumber),
+    ("Chicago,3.,1\n", 2, Reason::BadNumber),
+    ("Chicago,3,.5\n", 2, Reason::BadNumber),
+    ("Chicago,1000000000000000,1\n", 2, Reason::OutsideDomain),
+    ("Chicago,1000000000000001,1\n", 2, Reason::PastLimit),
+    ("Chicago,3,1\nNewYork,3\n", 3, Reason::FieldCount),
+    // The number of fields comes before the fields, and these come in the order of the schema.
+    ("Boston,x\n", 2, Reason::FieldCount),
+    ("Boston,x,2000\n", 2, Reason::UnknownName),
+    ("Chicago,x,2000\n", 2, Reason::BadNumber),
+    (
+        "Chicago,3,1\n\nChicago,32,1\nBoston\n",
+        3,
+        Reason::OutsideDomain,
+    ),
+];
 
 #[test]
 fn records_that_are_refused(rt: HostRuntime) -> Result<(), Fail> {
-    let alloc = rt.alloc();
-    let schema = sales(alloc, branches(alloc)?)?;
-    let cases = [
-        ("Chicago,3\n", 2, Reason::FieldCount),
-        ("Chicago,3,1,\n", 2, Reason::FieldCount),
-        ("Chicago,3,100.001\n", 2, Reason::TooManyDecimals),
-        ("Chicago,3.5,1\n", 2, Reason::TooManyDecimals),
-        ("Chicago,3,2000\n", 2, Reason::OutsideDomain),
-        ("Chicago,3,1000.01\n", 2, Reason::OutsideDomain),
-        ("Chicago,3,-0.01\n", 2, Reason::OutsideDomain),
-        ("Chicago,0,1\n", 2, Reason::OutsideDomain),
-        ("Chicago,32,1\n", 2, Reason::OutsideDomain),
-        ("Chicago,3,10000000000000.01\n", 2, Reason::PastLimit),
-        ("Boston,3,1\n", 2, Reason::UnknownName),
-        ("Chicago ,3,1\n", 2, Reason::UnknownName),
-        (" Chicago,3,1\n", 2, Reason::UnknownName),
-        ("Chicag,3,1\n", 2, Reason::UnknownName),
-        ("Chicagos,3,1\n", 2, Reason::UnknownName),
-        ("chicago,3,1\n", 2, Reason::UnknownName),
-        (",3,1\n", 2, Reason::UnknownName),
-        ("Chicago,,1\n", 2, Reason::BadNumber),
-        ("Chicago,  ,1\n", 2, Reason::BadNumber),
-        ("Chicago,\t3,1\n", 2, Reason::BadNumber),
-        ("Chicago,3\t,1\n", 2, Reason::BadNumber),
-        ("Chicago,1 2,1\n", 2, Reason::BadNumber),
-        ("Chicago,3.,1\n", 2, Reason::BadNumber),
-        ("Chicago,3,.5\n", 2, Reason::BadNumber),
-        ("Chicago,1000000000000000,1\n", 2, Reason::OutsideDomain),
-        ("Chicago,1000000000000001,1\n", 2, Reason::PastLimit),
-        ("Chicago,3,1\nNewYork,3\n", 3, Reason::FieldCount),
-        // The number of fields comes before the fields, and these come in the order of the schema.
-        ("Boston,x\n", 2, Reason::FieldCount),
-        ("Boston,x,2000\n", 2, Reason::UnknownName),
-        ("Chicago,x,2000\n", 2, Reason::BadNumber),
-        (
-            "Chicago,3,1\n\nChicago,32,1\nBoston\n",
-            3,
-            Reason::OutsideDomain,
-        ),
-    ];
-    for (text, place, reason) in cases {
-        let file = format!(in alloc; "branch,day,price\n{text}")?;
-        match outcome(alloc, &schema, file.as_bytes())? {
-            Ok(_) => assert!(rt; false, "{text}"),
-            Err(fault) => assert_eq!(rt; fault, (place, reason), "{text}"),
-        }
-    }
-    Ok(())
+    let schema = sales(rt.alloc(), branches(rt.alloc())?)?;
+    are_refused(&rt, rt.alloc(), &schema, "branch,day,price\n", &RECORDS)
 }
+
+static ODD_NAMES_READ: [Read; 7] = [
+    // The first place of the name that comes twice.
+    ("branch,day,price\n\"A,B\",3,1\n", &[0, 3, 100]),
+    ("branch,day,price\n\"say \"\"hi\"\"\",3,1\n", &[1, 3, 100]),
+    ("branch,day,price\nsay \"hi\",3,1\n", &[1, 3, 100]),
+    ("branch,day,price\n Paris,3,1\n", &[2, 3, 100]),
+    ("branch,day,price\ngröße,3,1\n", &[3, 3, 100]),
+    (
+        "branch,\"day\",price\r\n\"A,B\",\" 3\",\"1.00 \"",
+        &[0, 3, 100],
+    ),
+    (
+        "\"x,\"\"y\"\"\",branch,day,price\n\"a\"\"b,\",\"A,B\",3,1\n",
+        &[0, 3, 100],
+    ),
+];
 
 #[test]
 fn odd_names_that_are_read(rt: HostRuntime) -> Result<(), Fail> {
-    let alloc = rt.alloc();
-    let schema = sales(alloc, odd_names(alloc)?)?;
-    let cases: [(&str, i64); 7] = [
-        // The first place of the name that comes twice.
-        ("branch,day,price\n\"A,B\",3,1\n", 0),
-        ("branch,day,price\n\"say \"\"hi\"\"\",3,1\n", 1),
-        ("branch,day,price\nsay \"hi\",3,1\n", 1),
-        ("branch,day,price\n Paris,3,1\n", 2),
-        ("branch,day,price\ngröße,3,1\n", 3),
-        ("branch,\"day\",price\r\n\"A,B\",\" 3\",\"1.00 \"", 0),
-        (
-            "\"x,\"\"y\"\"\",branch,day,price\n\"a\"\"b,\",\"A,B\",3,1\n",
-            0,
-        ),
-    ];
-    for (text, place) in cases {
-        match outcome(alloc, &schema, text.as_bytes())? {
-            Ok(numbers) => assert!(rt; numbers.as_slice() == [place, 3, 100].as_slice(), "{text}"),
-            Err(_) => assert!(rt; false, "{text}"),
-        }
-    }
-    Ok(())
+    let schema = sales(rt.alloc(), odd_names(rt.alloc())?)?;
+    are_read(&rt, rt.alloc(), &schema, &ODD_NAMES_READ)
 }
+
+static ODD_NAMES_REFUSED: [Refused; 7] = [
+    ("A,B,3,1\n", 2, Reason::FieldCount),
+    ("A,3,1\n", 2, Reason::UnknownName),
+    ("\"A,B \",3,1\n", 2, Reason::UnknownName),
+    ("\"A,\"\"B\",3,1\n", 2, Reason::UnknownName),
+    ("say hi,3,1\n", 2, Reason::UnknownName),
+    ("Paris,3,1\n", 2, Reason::UnknownName),
+    ("größ,3,1\n", 2, Reason::UnknownName),
+];
 
 #[test]
 fn odd_names_that_are_refused(rt: HostRuntime) -> Result<(), Fail> {
-    let alloc = rt.alloc();
-    let schema = sales(alloc, odd_names(alloc)?)?;
-    let cases = [
-        ("A,B,3,1\n", Reason::FieldCount),
-        ("A,3,1\n", Reason::UnknownName),
-        ("\"A,B \",3,1\n", Reason::UnknownName),
-        ("\"A,\"\"B\",3,1\n", Reason::UnknownName),
-        ("say hi,3,1\n", Reason::UnknownName),
-        ("Paris,3,1\n", Reason::UnknownName),
-        ("größ,3,1\n", Reason::UnknownName),
-    ];
-    for (text, reason) in cases {
-        let file = format!(in alloc; "branch,day,price\n{text}")?;
-        match outcome(alloc, &schema, file.as_bytes())? {
-            Ok(_) => assert!(rt; false, "{text}"),
-            Err(fault) => assert_eq!(rt; fault, (2, reason), "{text}"),
-        }
-    }
-    Ok(())
+    let schema = sales(rt.alloc(), odd_names(rt.alloc())?)?;
+    are_refused(
+        &rt,
+        rt.alloc(),
+        &schema,
+        "branch,day,price\n",
+        &ODD_NAMES_REFUSED,
+    )
 }
 
-#[test]
-fn as_many_names_as_may_be(rt: HostRuntime) -> Result<(), Fail> {
-    let alloc = rt.alloc();
+// As many names as may be.
+fn most_names(rt: &impl Abort, alloc: Global) -> Result<Kind, AllocError>
+    ensures { IfOk result HasFewNames }
+{
     let mut names = Seq::new(alloc);
     for number in 0..128_i64 {
         names.push(Text::from_string(format!(in alloc; "n{number}")?))?;
     }
     assert!(rt; names.len() <= 128);
-    let schema = sales(alloc, Kind::Cat { names })?;
+    Ok(Kind::Cat { names })
+}
+
+// Asserts that the name of each number from 0 on is read as its place.
+fn names_are_read(rt: &impl Abort, alloc: Global, schema: &Schema) -> Result<(), Fail>
+    requires few { HaveFewNames schema.now.columns }
+    requires three { length schema.now.columns ≡ 3 }
+{
     for number in 0..128_i64 {
         let file = format!(in alloc; "branch,day,price\nn{number},3,1\n")?;
-        match outcome(alloc, &schema, file.as_bytes())? {
+        match outcome(alloc, schema, file.as_bytes())? {
             Ok(numbers) => {
                 assert!(rt;
                     numbers.as_slice() == [number, 3, 100].as_slice(),
@@ -389,51 +362,66 @@ fn as_many_names_as_may_be(rt: HostRuntime) -> Result<(), Fail> {
 }
 
 #[test]
+fn as_many_names_as_may_be(rt: HostRuntime) -> Result<(), Fail> {
+    let names = most_names(&rt, rt.alloc())?;
+    let schema = sales(rt.alloc(), names)?;
+    names_are_read(&rt, rt.alloc(), &schema)
+}
+
+#[test]
 fn fields_in_the_order_of_the_schema(rt: HostRuntime) -> Result<(), Fail> {
-    let alloc = rt.alloc();
-    let schema = sales(alloc, branches(alloc)?)?;
-    match outcome(alloc, &schema, b"price,day,branch\nx,y,Boston\n")? {
-        Ok(_) => assert!(rt; false, "no rows are wanted"),
-        Err(fault) => assert_eq!(rt; fault, (2, Reason::UnknownName)),
-    }
-    Ok(())
+    let schema = sales(rt.alloc(), branches(rt.alloc())?)?;
+    let text = b"price,day,branch\nx,y,Boston\n";
+    is_refused(&rt, rt.alloc(), &schema, text, 2, Reason::UnknownName)
 }
 
 #[test]
 fn bytes_that_are_no_text(rt: HostRuntime) -> Result<(), Fail> {
-    let alloc = rt.alloc();
-    let schema = sales(alloc, branches(alloc)?)?;
-    match outcome(alloc, &schema, b"branch\nBoston\xff\n")? {
-        Ok(_) => assert!(rt; false, "no rows are wanted"),
-        Err(fault) => assert_eq!(rt; fault, (0, Reason::NotUtf8)),
+    let schema = sales(rt.alloc(), branches(rt.alloc())?)?;
+    let text = b"branch\nBoston\xff\n";
+    is_refused(&rt, rt.alloc(), &schema, text, 0, Reason::NotUtf8)
+}
+
+// A schema of one column, a day of a month.
+fn days(alloc: Global) -> Result<Schema, AllocError>
+    ensures { IfOk result (λ schema. HaveFewNames schema.columns) }
+{
+    let mut columns = Seq::new(alloc);
+    columns.push(column(alloc, "day", Kind::Int { low: 1, high: 31 })?)?;
+    Ok(Schema { columns })
+}
+
+// How many rows a text has, or its first fault.
+fn count_of(alloc: Global, schema: &Schema, text: &[u8]) -> Result<u64, (u64, Reason)>
+    requires { HaveFewNames schema.now.columns }
+{
+    match read_rows(alloc, schema, text) {
+        Ok(rows) => Ok(rows.count()),
+        Err(Refusal::Fault(fault)) => Err((fault.place, fault.reason)),
+        Err(Refusal::Memory) => Ok(0),
     }
-    Ok(())
+}
+
+// The header, and as many rows as may be.
+fn most_rows(alloc: Global) -> Result<String, AllocError> {
+    let mut text = String::from_str(alloc, "day\n")?;
+    for _ in 0..1_000_000 {
+        text.push_str("7\n")?;
+    }
+    Ok(text)
 }
 
 #[test]
 fn as_many_rows_as_may_be(rt: HostRuntime) -> Result<(), Fail> {
     let alloc = rt.alloc();
-    let mut columns = Seq::new(alloc);
-    columns.push(column(alloc, "day", Kind::Int { low: 1, high: 31 })?)?;
-    let schema = Schema { columns };
-    let mut text = String::from_str(alloc, "day\n")?;
-    for _ in 0..1_000_000 {
-        text.push_str("7\n")?;
-    }
-    match read_rows(alloc, &schema, text.as_bytes()) {
-        Ok(rows) => assert_eq!(rt; rows.count(), 1_000_000),
-        Err(_) => assert!(rt; false, "rows are wanted"),
-    }
+    let schema = days(alloc)?;
+    let mut text = most_rows(alloc)?;
+    assert_eq!(rt; count_of(alloc, &schema, text.as_bytes()), Ok(1_000_000));
 
     // A row more is too many, whatever it is.
     text.push_str("x,y\n")?;
-    match read_rows(alloc, &schema, text.as_bytes()) {
-        Err(Refusal::Fault(fault)) => {
-            assert_eq!(rt; fault.place, 1_000_002);
-            assert_eq!(rt; fault.reason, Reason::TooMany);
-        }
-        _ => assert!(rt; false, "no rows are wanted"),
-    }
+    let refused = Err((1_000_002, Reason::TooMany));
+    assert_eq!(rt; count_of(alloc, &schema, text.as_bytes()), refused);
     Ok(())
 }
 
@@ -464,17 +452,16 @@ fn a_case_has_its_parts(rt: HostRuntime) -> Result<(), Fail> {
     Ok(())
 }
 
+static PLAIN: [Read; 1] = [(
+    "branch,day,price\n\"A,B\",31,1000.00\n\"say \"\"hi\"\"\",1,0.05\n",
+    &[0, 31, 100_000, 1, 1, 5],
+)];
+
 // The laws say of all rows what this says of two.
 #[test]
 fn plain_rows_are_read(rt: HostRuntime) -> Result<(), Fail> {
     reads_plain_fields();
     reads_plain_text();
-    let alloc = rt.alloc();
-    let schema = sales(alloc, odd_names(alloc)?)?;
-    let text = "branch,day,price\n\"A,B\",31,1000.00\n\"say \"\"hi\"\"\",1,0.05\n";
-    match outcome(alloc, &schema, text.as_bytes())? {
-        Ok(numbers) => { assert!(rt; numbers.as_slice() == [0, 31, 100_000, 1, 1, 5].as_slice()) }
-        Err(_) => assert!(rt; false, "rows are wanted"),
-    }
-    Ok(())
+    let schema = sales(rt.alloc(), odd_names(rt.alloc())?)?;
+    are_read(&rt, rt.alloc(), &schema, &PLAIN)
 }

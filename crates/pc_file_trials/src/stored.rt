@@ -1,17 +1,19 @@
-ghost use Rattle.std.specs.Prelude.{◌≡◌, [], ◌∷◌, length, map, IfOk, All};
-ghost use Rattle.pc_model.specs.WellFormed.{HaveFewNames};
+ghost use Rattle.std.specs.Prelude.{◌≡◌, ◌<◌, length, IfOk, All};
+ghost use Rattle.pc_model.specs.WellFormed.{HasFewNames, HaveFewNames};
+ghost use Rattle.pc_rows.specs.Stored.{row_limit};
 
-use super::*;
-use crate::read_rows;
-use crate::tests::{column, folded, query};
-use pc_list::Seq;
-use pc_model::Schema;
-use std::alloc::AllocError;
+use crate::rows::column;
+use crate::rows::folds::{ANY, Fold, folds_to};
+use pc_list::{Seq, Text};
+use pc_model::{Kind, Schema};
+use pc_rows::{Rows, read_rows};
+use std::alloc::{AllocError, Global};
+use std::process::Abort;
 use std::test::Fail;
 
-const LEAST: i64 = -2_147_483_648;
+pub(crate) const LEAST: i64 = -2_147_483_648;
 
-const GREATEST: i64 = 2_147_483_647;
+pub(crate) const GREATEST: i64 = 2_147_483_647;
 
 const LIMIT: i64 = 1_000_000_000_000_000;
 
@@ -34,32 +36,8 @@ fn schema(alloc: Global, low: i64, high: i64) -> Result<Schema, AllocError>
     Ok(Schema { columns })
 }
 
-#[test]
-fn columns_whose_numbers_fit_four_bytes(rt: HostRuntime) {
-    let cases = [
-        (0, 9, true),
-        (LEAST, GREATEST, true),
-        (LEAST - 1, GREATEST, false),
-        (LEAST, GREATEST + 1, false),
-        (GREATEST + 1, LIMIT, false),
-        (-LIMIT, LEAST - 1, false),
-    ];
-    for (low, high, wanted) in cases {
-        assert_eq!(rt; is_narrow(&Kind::Int { low, high }), wanted);
-        assert_eq!(rt;
-            is_narrow(&Kind::Dec {
-                scale: 2,
-                low,
-                high
-            }),
-            wanted
-        );
-    }
-    let names = Seq::new(rt.alloc());
-    assert!(rt; is_narrow(&Kind::Cat { names }));
-}
-
-fn numbers(alloc: Global, rows: &Rows) -> Result<Vec<i64>, AllocError>
+// The numbers of rows of two, row by row.
+pub(crate) fn numbers(alloc: Global, rows: &Rows) -> Result<Vec<i64>, AllocError>
     requires { All (λ row. length row.cells ≡ 2) rows.now }
 {
     let mut numbers = Vec::new(alloc);
@@ -70,103 +48,157 @@ fn numbers(alloc: Global, rows: &Rows) -> Result<Vec<i64>, AllocError>
     Ok(numbers)
 }
 
+// The rows of a file of two columns whose numbers are from `low` to `high`.
+pub(crate) fn rows_within(alloc: Global, low: i64, high: i64, text: &str) -> Result<Rows, Fail>
+    ensures { IfOk result (λ rows. All (λ row. length row.cells ≡ 2) rows) }
+{
+    let schema = schema(alloc, low, high)?;
+    Ok(read_rows(alloc, &schema, text.as_bytes())?)
+}
+
+// The least and the greatest number of both columns, a text, and its numbers. Four bytes serve the numbers of a column
+// where they serve both ends.
+static READ: [(i64, i64, &str, &[i64]); 7] = [
+    (0, 9, "a,b\n0,0.09\n9,0\n", &[0, 9, 9, 0]),
+    (
+        LEAST,
+        GREATEST,
+        "a,b\n-2147483648,-21474836.48\n2147483647,21474836.47\n7,-0.08\n",
+        &[LEAST, LEAST, GREATEST, GREATEST, 7, -8],
+    ),
+    (
+        LEAST - 1,
+        GREATEST,
+        "a,b\n7,-0.08\n-2147483649,-21474836.49\n2147483647,21474836.47\n",
+        &[7, -8, LEAST - 1, LEAST - 1, GREATEST, GREATEST],
+    ),
+    (
+        LEAST,
+        GREATEST + 1,
+        "a,b\n7,-0.08\n-2147483648,-21474836.48\n2147483648,21474836.48\n",
+        &[7, -8, LEAST, LEAST, GREATEST + 1, GREATEST + 1],
+    ),
+    (
+        GREATEST + 1,
+        LIMIT,
+        "a,b\n2147483648,21474836.48\n1000000000000000,10000000000000\n",
+        &[GREATEST + 1, GREATEST + 1, LIMIT, LIMIT],
+    ),
+    (
+        -LIMIT,
+        LEAST - 1,
+        "a,b\n-1000000000000000,-10000000000000\n-2147483649,-21474836.49\n",
+        &[-LIMIT, -LIMIT, LEAST - 1, LEAST - 1],
+    ),
+    (
+        -LIMIT,
+        LIMIT,
+        "a,b\n7,-0.08\n-1000000000000000,10000000000000\n4294967297,3\n",
+        &[7, -8, -LIMIT, LIMIT, 4_294_967_297, 300],
+    ),
+];
+
 #[test]
 fn numbers_of_four_and_of_eight_bytes_are_read(rt: HostRuntime) -> Result<(), Fail> {
     let alloc = rt.alloc();
-    let cases: [(i64, i64, &str, &[i64]); 4] = [
-        (
-            LEAST,
-            GREATEST,
-            "a,b\n-2147483648,-21474836.48\n2147483647,21474836.47\n7,-0.08\n",
-            &[LEAST, LEAST, GREATEST, GREATEST, 7, -8],
-        ),
-        (
-            LEAST - 1,
-            GREATEST,
-            "a,b\n7,-0.08\n-2147483649,-21474836.49\n2147483647,21474836.47\n",
-            &[7, -8, LEAST - 1, LEAST - 1, GREATEST, GREATEST],
-        ),
-        (
-            LEAST,
-            GREATEST + 1,
-            "a,b\n7,-0.08\n-2147483648,-21474836.48\n2147483648,21474836.48\n",
-            &[7, -8, LEAST, LEAST, GREATEST + 1, GREATEST + 1],
-        ),
-        (
-            -LIMIT,
-            LIMIT,
-            "a,b\n7,-0.08\n-1000000000000000,10000000000000\n4294967297,3\n",
-            &[7, -8, -LIMIT, LIMIT, 4_294_967_297, 300],
-        ),
-    ];
-    for (low, high, text, wanted) in cases {
-        let schema = schema(alloc, low, high)?;
-        match read_rows(alloc, &schema, text.as_bytes()) {
-            Ok(rows) => assert!(rt; numbers(alloc, &rows)?.as_slice() == wanted, "{text}"),
-            Err(_) => assert!(rt; false, "{text}"),
-        }
+    for (low, high, text, wanted) in READ.iter() {
+        let rows = rows_within(alloc, *low, *high, text)?;
+        assert!(rt; numbers(alloc, &rows)?.as_slice() == *wanted, "{text}");
     }
     Ok(())
 }
 
-// Four rows of two numbers, of which the second has a number that does not fit four bytes.
-fn widened(alloc: Global) -> Result<Rows, Fail>
-    ensures { IfOk result (λ rows. map (λ row. length row.cells) rows ≡ 2 ∷ 2 ∷ 2 ∷ 2 ∷ []) }
+// Two columns of the names `north` and `south`.
+fn schema_of_names(alloc: Global) -> Result<Schema, AllocError>
+    ensures few { IfOk result (λ schema. HaveFewNames schema.columns) }
+    ensures two { IfOk result (λ schema. length schema.columns ≡ 2) }
 {
-    let mut rows = Rows::for_columns(alloc, &[]);
-    rows.push_cells(&[LEAST, GREATEST])?;
-    rows.push_cells(&[3, GREATEST + 1])?;
-    rows.push_cells(&[i64::MIN, i64::MAX])?;
-    rows.push_cells(&[5, 6])?;
+    let mut columns = Seq::new(alloc);
+    columns.push(column(alloc, "a", two_names(alloc)?)?)?;
+    columns.push(column(alloc, "b", two_names(alloc)?)?)?;
+    Ok(Schema { columns })
+}
+
+fn two_names(alloc: Global) -> Result<Kind, AllocError>
+    ensures { IfOk result HasFewNames }
+{
+    let mut names = Seq::new(alloc);
+    names.push(Text::from_text(alloc, "north")?)?;
+    names.push(Text::from_text(alloc, "south")?)?;
+    Ok(Kind::Cat { names })
+}
+
+// Four bytes serve the place of a name.
+#[test]
+fn columns_of_names_are_read(rt: HostRuntime) -> Result<(), Fail> {
+    let alloc = rt.alloc();
+    let schema = schema_of_names(alloc)?;
+    let rows = read_rows(alloc, &schema, b"a,b\nnorth,south\nsouth,south\n")?;
+    assert!(rt; numbers(alloc, &rows)?.as_slice() == [0, 1, 1, 1].as_slice());
+    Ok(())
+}
+
+// Adds a row of two numbers.
+pub(crate) fn with_pair(
+    rt: &impl Abort,
+    mut rows: Rows,
+    first: i64,
+    second: i64,
+) -> Result<Rows, Fail>
+    requires { All (λ row. length row.cells ≡ 2) rows }
+    ensures { IfOk result (λ rows. All (λ row. length row.cells ≡ 2) rows) }
+{
+    assert!(rt; rows.count() < 9);
+    rows.push_cells(&[first, second])?;
     Ok(rows)
 }
+
+// Four rows of two numbers, of which the second has a number that does not fit four bytes. Four bytes serve the
+// numbers that the columns of the first allow.
+fn widened(rt: &impl Abort, alloc: Global) -> Result<Rows, Fail>
+    ensures { IfOk result (λ rows. All (λ row. length row.cells ≡ 2) rows) }
+{
+    let text = "a,b\n-2147483648,21474836.47\n";
+    let rows = rows_within(alloc, LEAST, GREATEST, text)?;
+    let rows = with_pair(rt, rows, 3, GREATEST + 1)?;
+    let rows = with_pair(rt, rows, i64::MIN, i64::MAX)?;
+    with_pair(rt, rows, 5, 6)
+}
+
+static WIDENED: [i64; 8] = [LEAST, GREATEST, 3, GREATEST + 1, i64::MIN, i64::MAX, 5, 6];
+
+static FOLDS: [(Option<u8>, (i64, i64), Fold); 4] = [
+    (
+        Some(0),
+        ANY,
+        (4, -9_223_372_039_002_259_448, Some(i64::MIN), Some(5)),
+    ),
+    (
+        Some(1),
+        (LEAST, GREATEST),
+        (2, 2_147_483_653, Some(6), Some(GREATEST)),
+    ),
+    (
+        Some(1),
+        (GREATEST + 1, i64::MAX),
+        (
+            2,
+            9_223_372_039_002_259_455,
+            Some(GREATEST + 1),
+            Some(i64::MAX),
+        ),
+    ),
+    (None, ANY, (4, 0, None, None)),
+];
 
 #[test]
 fn rows_with_wide_numbers_after_narrow_ones(rt: HostRuntime) -> Result<(), Fail> {
     let alloc = rt.alloc();
-    let rows = widened(alloc)?;
-    assert_eq!(rt; rows.count(), 4);
-    let first = [
-        rows.cell(0, 0),
-        rows.cell(1, 0),
-        rows.cell(2, 0),
-        rows.cell(3, 0),
-    ];
-    let second = [
-        rows.cell(0, 1),
-        rows.cell(1, 1),
-        rows.cell(2, 1),
-        rows.cell(3, 1),
-    ];
-    assert_eq!(rt; first, [LEAST, 3, i64::MIN, 5]);
-    assert_eq!(rt; second, [GREATEST, GREATEST + 1, i64::MAX, 6]);
-    let any = (i64::MIN, i64::MAX);
-    let cases = [
-        (
-            Some(0),
-            any,
-            folded(4, -9_223_372_039_002_259_448, Some(i64::MIN), Some(5)),
-        ),
-        (
-            Some(1),
-            (LEAST, GREATEST),
-            folded(2, 2_147_483_653, Some(6), Some(GREATEST)),
-        ),
-        (
-            Some(1),
-            (GREATEST + 1, i64::MAX),
-            folded(
-                2,
-                9_223_372_039_002_259_455,
-                Some(GREATEST + 1),
-                Some(i64::MAX),
-            ),
-        ),
-        (None, any, folded(4, 0, None, None)),
-    ];
-    for (column, second, wanted) in cases {
-        let query = query(alloc, column, any, second)?;
-        assert!(rt; rows.fold(&query) == wanted);
+    let rows = widened(&rt, alloc)?;
+    assert!(rt; numbers(alloc, &rows)?.as_slice() == WIDENED.as_slice());
+    for (number, (column, second, wanted)) in FOLDS.iter().enumerate() {
+        let found = folds_to(alloc, &rows, *column, ANY, *second, *wanted)?;
+        assert!(rt; found, "case {number}");
     }
     Ok(())
 }

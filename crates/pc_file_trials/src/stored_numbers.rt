@@ -1,60 +1,47 @@
-use super::*;
+ghost use Rattle.std.specs.Prelude.{◌≡◌, length, IfOk, All};
+
+use crate::stored::{GREATEST, LEAST, numbers, rows_within, with_pair};
+use pc_rows::Rows;
+use std::alloc::Global;
+use std::process::Abort;
 use std::test::Fail;
 
-const LEAST: i64 = -2_147_483_648;
-
-const GREATEST: i64 = 2_147_483_647;
-
-// Each with how many of its numbers stand in four bytes, where two are added at a time.
-const CASES: [([i64; 6], usize); 6] = [
-    ([0, 1, -1, 7, LEAST, GREATEST], 6),
-    ([LEAST, GREATEST, GREATEST + 1, 5, 3, 4], 2),
-    ([1, 2, 3, LEAST - 1, 4, 5], 2),
-    ([1, 2, 3, 4, 5, 4_294_967_296], 4),
-    ([1, 2, i64::MIN, i64::MAX, 3, 4], 2),
-    ([i64::MAX, 0, i64::MIN, 1, 2, 3], 0),
+// Of each the numbers up to the first two of which one does not fit may stand in four bytes each, where two are added
+// at a time.
+static CASES: [[i64; 6]; 6] = [
+    [0, 1, -1, 7, LEAST, GREATEST],
+    [LEAST, GREATEST, GREATEST + 1, 5, 3, 4],
+    [1, 2, 3, LEAST - 1, 4, 5],
+    [1, 2, 3, 4, 5, 4_294_967_296],
+    [1, 2, i64::MIN, i64::MAX, 3, 4],
+    [i64::MAX, 0, i64::MIN, 1, 2, 3],
 ];
 
-fn extended(mut numbers: Numbers, cells: &[i64; 6]) -> Result<Numbers, Fail>
-    requires { numbers ≡ [] }
-    ensures { IfOk result (λ numbers. length numbers ≡ 6) }
+// Whether the numbers read back once they are added, two at a time.
+fn read_back(rt: &impl Abort, alloc: Global, rows: Rows, cells: &[i64; 6]) -> Result<bool, Fail>
+    requires { All (λ row. length row.cells ≡ 2) rows }
 {
-    numbers.extend(&cells[..2])?;
-    numbers.extend(&cells[2..4])?;
-    numbers.extend(&cells[4..])?;
-    Ok(numbers)
-}
-
-fn first_six(numbers: &Numbers) -> [i64; 6]
-    requires { length numbers.now ≡ 6 }
-{
-    [
-        numbers.get(0),
-        numbers.get(1),
-        numbers.get(2),
-        numbers.get(3),
-        numbers.get(4),
-        numbers.get(5),
-    ]
+    let [first, second, third, fourth, fifth, sixth] = *cells;
+    let rows = with_pair(rt, rows, first, second)?;
+    let rows = with_pair(rt, rows, third, fourth)?;
+    let rows = with_pair(rt, rows, fifth, sixth)?;
+    Ok(numbers(alloc, &rows)?.as_slice() == cells.as_slice())
 }
 
 #[test]
 fn four_bytes_up_to_the_first_that_does_not_fit(rt: HostRuntime) -> Result<(), Fail> {
-    for (cells, narrow) in CASES {
-        let numbers = extended(Numbers::narrow(rt.alloc()), &cells)?;
-        assert_eq!(rt; first_six(&numbers), cells);
-        assert_eq!(rt; numbers.narrow.len(), narrow);
-        assert_eq!(rt; numbers.wide.len(), 6_usize.saturating_sub(narrow));
+    for (number, cells) in CASES.iter().enumerate() {
+        let rows = rows_within(rt.alloc(), LEAST, GREATEST, "a,b\n")?;
+        assert!(rt; read_back(&rt, rt.alloc(), rows, cells)?, "case {number}");
     }
     Ok(())
 }
 
 #[test]
 fn eight_bytes_from_the_start(rt: HostRuntime) -> Result<(), Fail> {
-    for (cells, _) in CASES {
-        let numbers = extended(Numbers::wide(rt.alloc()), &cells)?;
-        assert_eq!(rt; first_six(&numbers), cells);
-        assert_eq!(rt; numbers.narrow.len(), 0);
+    for (number, cells) in CASES.iter().enumerate() {
+        let rows = Rows::new(rt.alloc());
+        assert!(rt; read_back(&rt, rt.alloc(), rows, cells)?, "case {number}");
     }
     Ok(())
 }

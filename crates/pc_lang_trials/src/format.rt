@@ -1,4 +1,4 @@
-use crate::{line_end, line_of};
+use pc_document_format::{line_end, line_of};
 use std::test::Fail;
 
 #[test]

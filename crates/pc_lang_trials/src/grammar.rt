@@ -1,6 +1,7 @@
-use crate::{
-    Claim, Measure, lines_follow_the_grammar, questions_follow_the_grammar, read_line,
-    read_question, spell_line, spell_question,
+use crate::tokens::lexer::put_tokens;
+use pc_lang_grammar::{
+    Claim, Line, Measure, Question, lines_follow_the_grammar, questions_follow_the_grammar,
+    read_line, read_question, spell_line, spell_question,
 };
 use pc_lang_tokens::{Token, read_tokens};
 use pc_list::Seq;
@@ -8,36 +9,6 @@ use pc_model::{ReadStop, Reason};
 use pc_num::Memory;
 use std::alloc::{AllocError, Global};
 use std::test::Fail;
-
-// A name behind a low quote, a number behind a `#`, and a reserved word behind a `!`.
-fn put_token(alloc: Global, out: &mut Vec<u8>, token: &Token) -> Result<(), AllocError> {
-    match token {
-        Token::Symbol(symbol) => {
-            let shown = format!(in alloc; "{symbol:?}")?;
-            out.extend_from_slice(shown.as_bytes())
-        }
-        Token::Reserved(word) => {
-            let shown = format!(in alloc; "!{word:?}")?;
-            out.extend_from_slice(shown.as_bytes())
-        }
-        Token::Number(text) => {
-            out.extend_from_slice(b"#")?;
-            out.extend_from_slice(text.as_slice())
-        }
-        Token::Name(name) => {
-            out.extend_from_slice(b"'")?;
-            out.extend_from_slice(name.as_bytes())
-        }
-    }
-}
-
-fn put_tokens(alloc: Global, out: &mut Vec<u8>, tokens: &[Token]) -> Result<(), AllocError> {
-    for token in tokens {
-        put_token(alloc, out, token)?;
-        out.extend_from_slice(b" ")?;
-    }
-    Ok(())
-}
 
 // What was read and spelled again, or the number of the fault.
 fn put_spelled(
@@ -53,63 +24,72 @@ fn put_spelled(
     }
 }
 
+fn line_of(alloc: Global, text: &[u8]) -> Result<Line, ReadStop> {
+    let tokens = read_tokens(alloc, text)?;
+    read_line(alloc, tokens.as_slice())
+}
+
+fn question_of(alloc: Global, text: &[u8]) -> Result<Question, ReadStop> {
+    let tokens = read_tokens(alloc, text)?;
+    read_question(alloc, tokens.as_slice())
+}
+
 fn respelled_line(alloc: Global, text: &str) -> Result<Result<Seq<Token>, Memory>, ReadStop> {
-    let tokens = read_tokens(alloc, text.as_bytes())?;
-    let line = read_line(alloc, tokens.as_slice())?;
+    let line = line_of(alloc, text.as_bytes())?;
     Ok(spell_line(alloc, &line))
 }
 
 fn respelled_question(alloc: Global, text: &str) -> Result<Result<Seq<Token>, Memory>, ReadStop> {
-    let tokens = read_tokens(alloc, text.as_bytes())?;
-    let question = read_question(alloc, tokens.as_slice())?;
+    let question = question_of(alloc, text.as_bytes())?;
     Ok(spell_question(alloc, &question))
 }
+
+static LINES: [(&str, &str); 22] = [
+    (
+        "c: true => true, 0..1",
+        "'c Colon !True Arrow !True Comma #0 Dots #1 ",
+    ),
+    (
+        "c: a = 1 and b = x => p in 1..2, 0..5",
+        "'c Colon 'a Equal #1 !And 'b Equal 'x Arrow 'p !In #1 Dots #2 Comma #0 Dots #5 ",
+    ),
+    (
+        "c: a in {x} => true, 3..4",
+        "'c Colon 'a !In OpenSet 'x CloseSet Arrow !True Comma #3 Dots #4 ",
+    ),
+    (
+        "c: a in {x, y} => b in {x, y, z}, 0..1",
+        "'c Colon 'a !In OpenSet 'x Comma 'y CloseSet Arrow 'b !In OpenSet 'x Comma 'y Comma 'z CloseSet Comma #0 Dots #1 ",
+    ),
+    (
+        "\"and\": a >= 1 and b <= -2 and d > 3 and e < 4 => true, 0..1",
+        "'and Colon 'a AtLeast #1 !And 'b AtMost #-2 !And 'd Above #3 !And 'e Below #4 Arrow !True Comma #0 Dots #1 ",
+    ),
+    ("c: a in {} => true, 0..1", "16"),
+    ("c: a in {x,} => true, 0..1", "16"),
+    ("c: a in {x y} => true, 0..1", "16"),
+    ("c: true => true, 0", "16"),
+    ("c: true and a = 1 => true, 0..1", "16"),
+    ("c: a = 1 and => true, 0..1", "16"),
+    ("c: and a = 1 => true, 0..1", "16"),
+    ("c: true => true => true, 0..1", "16"),
+    ("c: a = count => true, 0..1", "16"),
+    ("count: true => true, 0..1", "16"),
+    ("c: => true, 0..1", "16"),
+    ("c true => true, 0..1", "16"),
+    ("c: true => true, 0..1 x", "16"),
+    ("c: a > x => true, 0..1", "16"),
+    ("c: a = 1, 0..1", "16"),
+    ("c:", "16"),
+    ("", "16"),
+];
 
 #[test]
 fn lines(rt: HostRuntime) -> Result<(), Fail> {
     lines_follow_the_grammar();
-    let cases: [(&str, &str); 22] = [
-        (
-            "c: true => true, 0..1",
-            "'c Colon !True Arrow !True Comma #0 Dots #1 ",
-        ),
-        (
-            "c: a = 1 and b = x => p in 1..2, 0..5",
-            "'c Colon 'a Equal #1 !And 'b Equal 'x Arrow 'p !In #1 Dots #2 Comma #0 Dots #5 ",
-        ),
-        (
-            "c: a in {x} => true, 3..4",
-            "'c Colon 'a !In OpenSet 'x CloseSet Arrow !True Comma #3 Dots #4 ",
-        ),
-        (
-            "c: a in {x, y} => b in {x, y, z}, 0..1",
-            "'c Colon 'a !In OpenSet 'x Comma 'y CloseSet Arrow 'b !In OpenSet 'x Comma 'y Comma 'z CloseSet Comma #0 Dots #1 ",
-        ),
-        (
-            "\"and\": a >= 1 and b <= -2 and d > 3 and e < 4 => true, 0..1",
-            "'and Colon 'a AtLeast #1 !And 'b AtMost #-2 !And 'd Above #3 !And 'e Below #4 Arrow !True Comma #0 Dots #1 ",
-        ),
-        ("c: a in {} => true, 0..1", "16"),
-        ("c: a in {x,} => true, 0..1", "16"),
-        ("c: a in {x y} => true, 0..1", "16"),
-        ("c: true => true, 0", "16"),
-        ("c: true and a = 1 => true, 0..1", "16"),
-        ("c: a = 1 and => true, 0..1", "16"),
-        ("c: and a = 1 => true, 0..1", "16"),
-        ("c: true => true => true, 0..1", "16"),
-        ("c: a = count => true, 0..1", "16"),
-        ("count: true => true, 0..1", "16"),
-        ("c: => true, 0..1", "16"),
-        ("c true => true, 0..1", "16"),
-        ("c: true => true, 0..1 x", "16"),
-        ("c: a > x => true, 0..1", "16"),
-        ("c: a = 1, 0..1", "16"),
-        ("c:", "16"),
-        ("", "16"),
-    ];
     let alloc = rt.alloc();
     let mut out = Vec::new(alloc);
-    for (text, want) in cases {
+    for (text, want) in LINES.iter() {
         out.clear();
         put_spelled(alloc, &mut out, respelled_line(alloc, text))?;
         assert!(rt; out.as_slice() == want.as_bytes(), "{text}");
@@ -117,44 +97,45 @@ fn lines(rt: HostRuntime) -> Result<(), Fail> {
     Ok(())
 }
 
+static QUESTIONS: [(&str, &str); 18] = [
+    ("count", "!Count "),
+    ("count(*)", "!Count OpenGroup Star CloseGroup "),
+    ("sum(price)", "!Sum OpenGroup 'price CloseGroup "),
+    (
+        "min(a) where true",
+        "!Min OpenGroup 'a CloseGroup !Where !True ",
+    ),
+    (
+        "max(a) group by c",
+        "!Max OpenGroup 'a CloseGroup !Group !By 'c ",
+    ),
+    (
+        "avg(a) where b >= 2 group by c",
+        "!Avg OpenGroup 'a CloseGroup !Where 'b AtLeast #2 !Group !By 'c ",
+    ),
+    (
+        "count where true group by c",
+        "!Count !Where !True !Group !By 'c ",
+    ),
+    ("count()", "16"),
+    ("count where", "16"),
+    ("sum", "16"),
+    ("sum(*)", "16"),
+    ("outside(a)", "16"),
+    ("count group by", "16"),
+    ("count group by c where true", "16"),
+    ("count where true group by c group by d", "16"),
+    ("count where true where true", "16"),
+    ("count x", "16"),
+    ("", "16"),
+];
+
 #[test]
 fn questions(rt: HostRuntime) -> Result<(), Fail> {
     questions_follow_the_grammar();
-    let cases: [(&str, &str); 18] = [
-        ("count", "!Count "),
-        ("count(*)", "!Count OpenGroup Star CloseGroup "),
-        ("sum(price)", "!Sum OpenGroup 'price CloseGroup "),
-        (
-            "min(a) where true",
-            "!Min OpenGroup 'a CloseGroup !Where !True ",
-        ),
-        (
-            "max(a) group by c",
-            "!Max OpenGroup 'a CloseGroup !Group !By 'c ",
-        ),
-        (
-            "avg(a) where b >= 2 group by c",
-            "!Avg OpenGroup 'a CloseGroup !Where 'b AtLeast #2 !Group !By 'c ",
-        ),
-        (
-            "count where true group by c",
-            "!Count !Where !True !Group !By 'c ",
-        ),
-        ("count()", "16"),
-        ("count where", "16"),
-        ("sum", "16"),
-        ("sum(*)", "16"),
-        ("outside(a)", "16"),
-        ("count group by", "16"),
-        ("count group by c where true", "16"),
-        ("count where true group by c group by d", "16"),
-        ("count where true where true", "16"),
-        ("count x", "16"),
-        ("", "16"),
-    ];
     let alloc = rt.alloc();
     let mut out = Vec::new(alloc);
-    for (text, want) in cases {
+    for (text, want) in QUESTIONS.iter() {
         out.clear();
         put_spelled(alloc, &mut out, respelled_question(alloc, text))?;
         assert!(rt; out.as_slice() == want.as_bytes(), "{text}");
@@ -164,10 +145,7 @@ fn questions(rt: HostRuntime) -> Result<(), Fail> {
 
 #[test]
 fn parts(rt: HostRuntime) -> Result<(), Fail> {
-    let alloc = rt.alloc();
-    let text = b"c: a = 1 and b = x => p in 1..2, 0..5";
-    let tokens = read_tokens(alloc, text.as_slice())?;
-    let line = read_line(alloc, tokens.as_slice())?;
+    let line = line_of(rt.alloc(), b"c: a = 1 and b = x => p in 1..2, 0..5")?;
     assert!(rt; line.name.as_str() == "c");
     assert_eq!(rt; line.when.atoms.len(), 2);
     assert!(rt; line.least.as_slice() == b"0".as_slice());
@@ -178,26 +156,29 @@ fn parts(rt: HostRuntime) -> Result<(), Fail> {
     assert!(rt; atom.column.as_str() == "p");
     assert!(rt; matches!(&atom.claim, Claim::Within { .. }));
 
-    let tokens = read_tokens(alloc, b"count(*) group by c".as_slice())?;
-    let question = read_question(alloc, tokens.as_slice())?;
+    let question = question_of(rt.alloc(), b"count(*) group by c")?;
     assert!(rt; matches!(&question.measure, Measure::CountOfAll));
     assert!(rt; question.chosen.is_none());
     assert!(rt; question.group.is_some());
     Ok(())
 }
 
-// A line of very many atoms takes no deep stack, and time in its length.
-#[test]
-fn many_atoms(rt: HostRuntime) -> Result<(), Fail> {
-    let alloc = rt.alloc();
+// A line with 200,000 atoms in its first part.
+fn long_line(alloc: Global) -> Result<Vec<u8>, AllocError> {
     let mut text = Vec::new(alloc);
     text.extend_from_slice(b"c: a = 1")?;
     for _ in 0..199_999 {
         text.extend_from_slice(b" and a = 1")?;
     }
     text.extend_from_slice(b" => true, 0..1")?;
-    let tokens = read_tokens(alloc, text.as_slice())?;
-    let line = read_line(alloc, tokens.as_slice())?;
+    Ok(text)
+}
+
+// A line of very many atoms takes no deep stack, and time in its length.
+#[test]
+fn many_atoms(rt: HostRuntime) -> Result<(), Fail> {
+    let text = long_line(rt.alloc())?;
+    let line = line_of(rt.alloc(), text.as_slice())?;
     assert_eq!(rt; line.when.atoms.len(), 200_000);
     Ok(())
 }

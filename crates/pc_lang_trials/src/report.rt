@@ -1,8 +1,10 @@
+ghost use Rattle.pc_model.specs.WellFormed.{IsWellFormed};
+
 mod report;
 
-use crate::put_runs;
 use pc_list::Seq;
-use pc_model::{Row, Run};
+use pc_model::{Row, Run, Schema};
+use pc_report::put_runs;
 use pc_schema::read_schema;
 use std::alloc::{AllocError, Global};
 use std::test::Fail;
@@ -23,34 +25,43 @@ pub(crate) fn run_of(alloc: Global, times: u64, cells: [i64; 3]) -> Result<Run, 
     })
 }
 
+static RUNS: [(u64, [i64; 3], &str); 6] = [
+    (1, [0, 3, 10_000], "run 1: Chicago, 3, 100.00\n"),
+    (12, [1, -5, -5], "run 12: \"New York\", -5, -0.05\n"),
+    (3, [2, 0, 0], "run 3: \"in\", 0, 0.00\n"),
+    (
+        10_000_000,
+        [3, 31, 14_999],
+        "run 10000000: \"a\"\"b\", 31, 149.99\n",
+    ),
+    (1, [4, 1, 1], "run 1: \"\", 1, 0.01\n"),
+    (1, [-1, 1, 1], "run 1: \"\", 1, 0.01\n"),
+];
+
+// Whether the line of a run is this one, after a line that stands before it.
+#[tactic(auto, using(pc_report::proofs::Scales::scales))]
+fn is_run_line(
+    alloc: Global,
+    schema: &Schema,
+    times: u64,
+    cells: [i64; 3],
+    want: &str,
+) -> Result<bool, Fail>
+    requires { IsWellFormed schema.now }
+{
+    let run = run_of(alloc, times, cells)?;
+    let mut out = Vec::from_slice(alloc, b"low 3 exact\n")?;
+    put_runs(alloc, schema, &mut out, &[run])?;
+    Ok(out.as_slice().strip_prefix(b"low 3 exact\n") == Some(want.as_bytes()))
+}
+
 #[test]
-#[tactic(auto, using(crate::proofs::Scales::scales))]
 fn puts_run_lines(rt: HostRuntime) -> Result<(), Fail> {
     let alloc = rt.alloc();
-    let cases: [(u64, [i64; 3], &str); 6] = [
-        (1, [0, 3, 10_000], "run 1: Chicago, 3, 100.00\n"),
-        (12, [1, -5, -5], "run 12: \"New York\", -5, -0.05\n"),
-        (3, [2, 0, 0], "run 3: \"in\", 0, 0.00\n"),
-        (
-            10_000_000,
-            [3, 31, 14_999],
-            "run 10000000: \"a\"\"b\", 31, 149.99\n",
-        ),
-        (1, [4, 1, 1], "run 1: \"\", 1, 0.01\n"),
-        (1, [-1, 1, 1], "run 1: \"\", 1, 0.01\n"),
-    ];
-    let Ok(schema) = read_schema(alloc, SCHEMA.as_bytes()) else {
-        assert!(rt; false, "no schema");
-        return Ok(());
-    };
-    let mut out = Vec::new(alloc);
-    for (times, cells, want) in cases {
-        let run = run_of(alloc, times, cells)?;
-        out.clear();
-        out.extend_from_slice(b"low 3 exact\n")?;
-        put_runs(alloc, &schema, &mut out, &[run])?;
+    let schema = read_schema(alloc, SCHEMA.as_bytes())?;
+    for (times, cells, want) in RUNS.iter() {
         assert!(rt;
-            out.as_slice().strip_prefix(b"low 3 exact\n") == Some(want.as_bytes()),
+            is_run_line(alloc, &schema, *times, *cells, want)?,
             "{want}"
         );
     }

@@ -1,35 +1,40 @@
-use crate::{is_bare, put_name};
+mod front;
+pub(crate) mod lexer;
+mod texts;
+
+use pc_lang_tokens::{is_bare, put_name};
 use std::test::Fail;
 
-const LETTERS: &str = "abcdefghijklmnopqrstuvwxyzABCDEFGHIJKLMNOPQRSTUVWXYZ_0123456789_";
+pub(crate) const LETTERS: &str = "abcdefghijklmnopqrstuvwxyzABCDEFGHIJKLMNOPQRSTUVWXYZ_0123456789_";
+
+static NAMES: [(&str, &str); 17] = [
+    ("Chicago", "Chicago"),
+    ("_x9", "_x9"),
+    ("Count", "Count"),
+    (LETTERS, LETTERS),
+    ("New York", "\"New York\""),
+    ("and", "\"and\""),
+    ("true", "\"true\""),
+    ("quantile", "\"quantile\""),
+    ("9x", "\"9x\""),
+    ("a-b", "\"a-b\""),
+    ("a\"b", "\"a\"\"b\""),
+    ("\"", "\"\"\"\""),
+    ("\"\"x", "\"\"\"\"\"x\""),
+    (
+        "abcdefghijklmnopqrstuvwxyzABCDEFGHIJKLMNOPQRSTUVWXYZ_0123456789__",
+        "\"abcdefghijklmnopqrstuvwxyzABCDEFGHIJKLMNOPQRSTUVWXYZ_0123456789__\"",
+    ),
+    ("Zürich", "\"Zürich\""),
+    ("a,b", "\"a,b\""),
+    ("", "\"\""),
+];
 
 #[test]
 fn writes_names(rt: HostRuntime) -> Result<(), Fail> {
     let alloc = rt.alloc();
-    let cases: [(&str, &str); 17] = [
-        ("Chicago", "Chicago"),
-        ("_x9", "_x9"),
-        ("Count", "Count"),
-        (LETTERS, LETTERS),
-        ("New York", "\"New York\""),
-        ("and", "\"and\""),
-        ("true", "\"true\""),
-        ("quantile", "\"quantile\""),
-        ("9x", "\"9x\""),
-        ("a-b", "\"a-b\""),
-        ("a\"b", "\"a\"\"b\""),
-        ("\"", "\"\"\"\""),
-        ("\"\"x", "\"\"\"\"\"x\""),
-        (
-            "abcdefghijklmnopqrstuvwxyzABCDEFGHIJKLMNOPQRSTUVWXYZ_0123456789__",
-            "\"abcdefghijklmnopqrstuvwxyzABCDEFGHIJKLMNOPQRSTUVWXYZ_0123456789__\"",
-        ),
-        ("Zürich", "\"Zürich\""),
-        ("a,b", "\"a,b\""),
-        ("", "\"\""),
-    ];
     let mut out = Vec::new(alloc);
-    for (name, want) in cases {
+    for (name, want) in NAMES.iter() {
         out.clear();
         out.extend_from_slice(b"group by ")?;
         put_name(alloc, &mut out, name)?;
@@ -41,19 +46,20 @@ fn writes_names(rt: HostRuntime) -> Result<(), Fail> {
     Ok(())
 }
 
+static BARE: [(&str, bool); 8] = [
+    ("Chicago", true),
+    ("_x9", true),
+    (LETTERS, true),
+    ("quantile", false),
+    ("9x", false),
+    ("New York", false),
+    ("Zürich", false),
+    ("", false),
+];
+
 #[test]
 fn bare_names(rt: HostRuntime) {
-    let cases: [(&str, bool); 8] = [
-        ("Chicago", true),
-        ("_x9", true),
-        (LETTERS, true),
-        ("quantile", false),
-        ("9x", false),
-        ("New York", false),
-        ("Zürich", false),
-        ("", false),
-    ];
-    for (name, want) in cases {
-        assert!(rt; is_bare(name.as_bytes()) == want, "{name}");
+    for (name, want) in BARE.iter() {
+        assert!(rt; is_bare(name.as_bytes()) == *want, "{name}");
     }
 }

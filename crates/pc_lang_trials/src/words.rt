@@ -1,5 +1,4 @@
-use crate::{Bound, Check, Command, read_command};
-use pc_num::Memory;
+use pc_run_words::{Bound, Check, Command, read_command};
 use std::alloc::Global;
 use std::test::Fail;
 
@@ -216,13 +215,13 @@ fn is_told(alloc: Global, call: &str, want: &str) -> Result<bool, Fail> {
 
 #[test]
 fn calls(rt: HostRuntime) -> Result<(), Fail> {
-    for (call, want) in CALLS {
+    for (call, want) in CALLS.iter() {
         assert!(rt; is_told(rt.alloc(), call, want)?, "{call}");
     }
-    for (call, want) in CHECKS {
+    for (call, want) in CHECKS.iter() {
         assert!(rt; is_told(rt.alloc(), call, want)?, "{call}");
     }
-    for (call, want) in DRAWS {
+    for (call, want) in DRAWS.iter() {
         assert!(rt; is_told(rt.alloc(), call, want)?, "{call}");
     }
     Ok(())

@@ -1,19 +1,20 @@
-use super::*;
+use pc_num::{gcd, primitive};
+
+static DIVISORS: [(i128, i128, i128); 8] = [
+    (0, 0, 0),
+    (-12, 18, 6),
+    (12, -18, 6),
+    (0, -7, 7),
+    (7, 0, 7),
+    (1, 12, 1),
+    (-i128::MAX, i128::MAX, i128::MAX),
+    (1 << 126, 1 << 100, 1 << 100),
+];
 
 #[test]
 fn greatest_common_divisors(rt: HostRuntime) {
-    let cases: [(i128, i128, i128); 8] = [
-        (0, 0, 0),
-        (-12, 18, 6),
-        (12, -18, 6),
-        (0, -7, 7),
-        (7, 0, 7),
-        (1, 12, 1),
-        (-i128::MAX, i128::MAX, i128::MAX),
-        (1 << 126, 1 << 100, 1 << 100),
-    ];
-    for (a, b, expected) in cases {
-        assert_eq!(rt; gcd(a, b), expected);
+    for (a, b, expected) in DIVISORS.iter() {
+        assert_eq!(rt; gcd(*a, *b), *expected);
     }
 }
 

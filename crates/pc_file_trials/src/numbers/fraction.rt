@@ -1,4 +1,7 @@
-use super::*;
+ghost use Rattle.pc_num.specs.Fractions.{IsFrac};
+
+use pc_num::Frac;
+use std::cmp::Ordering;
 use std::process::Abort;
 
 const MAX: i128 = i128::MAX;
@@ -41,26 +44,27 @@ fn lowest_terms(rt: HostRuntime) {
     }
 }
 
+static ORDER: [((i128, i128), (i128, i128), Ordering); 14] = [
+    ((1, 2), (1, 2), Ordering::Equal),
+    ((0, 1), (0, 1), Ordering::Equal),
+    ((1, 3), (1, 2), Ordering::Less),
+    ((5, 7), (2, 3), Ordering::Greater),
+    ((7, 2), (10, 3), Ordering::Greater),
+    ((-1, 3), (-1, 2), Ordering::Greater),
+    ((-7, 2), (-10, 3), Ordering::Less),
+    ((-1, 2), (1, 3), Ordering::Less),
+    ((1, 3), (-1, 2), Ordering::Greater),
+    ((0, 1), (-1, MAX), Ordering::Greater),
+    ((0, 1), (1, MAX), Ordering::Less),
+    ((MAX, MAX - 1), (MAX - 1, MAX - 2), Ordering::Less),
+    ((MAX - 1, MAX), (MAX - 2, MAX - 1), Ordering::Greater),
+    ((-MAX, MAX - 1), (1 - MAX, MAX - 2), Ordering::Greater),
+];
+
 #[test]
 fn order(rt: HostRuntime) {
-    let cases: [((i128, i128), (i128, i128), Ordering); 14] = [
-        ((1, 2), (1, 2), Ordering::Equal),
-        ((0, 1), (0, 1), Ordering::Equal),
-        ((1, 3), (1, 2), Ordering::Less),
-        ((5, 7), (2, 3), Ordering::Greater),
-        ((7, 2), (10, 3), Ordering::Greater),
-        ((-1, 3), (-1, 2), Ordering::Greater),
-        ((-7, 2), (-10, 3), Ordering::Less),
-        ((-1, 2), (1, 3), Ordering::Less),
-        ((1, 3), (-1, 2), Ordering::Greater),
-        ((0, 1), (-1, MAX), Ordering::Greater),
-        ((0, 1), (1, MAX), Ordering::Less),
-        ((MAX, MAX - 1), (MAX - 1, MAX - 2), Ordering::Less),
-        ((MAX - 1, MAX), (MAX - 2, MAX - 1), Ordering::Greater),
-        ((-MAX, MAX - 1), (1 - MAX, MAX - 2), Ordering::Greater),
-    ];
-    for (own, others, expected) in cases {
-        assert!(rt; made(&rt, own).cmp(&made(&rt, others)) == expected);
+    for (own, others, expected) in ORDER.iter() {
+        assert!(rt; made(&rt, *own).cmp(&made(&rt, *others)) == *expected);
     }
 }
 
@@ -99,20 +103,21 @@ fn products(rt: HostRuntime) {
     }
 }
 
+static WHOLE: [((i128, i128), i128, i128); 8] = [
+    ((7, 2), 3, 4),
+    ((-7, 2), -4, -3),
+    ((6, 1), 6, 6),
+    ((-6, 1), -6, -6),
+    ((0, 1), 0, 0),
+    ((-1, MAX), -1, 0),
+    ((1, MAX), 0, 1),
+    ((-MAX, 1), -MAX, -MAX),
+];
+
 #[test]
 fn whole_numbers(rt: HostRuntime) {
-    let cases: [((i128, i128), i128, i128); 8] = [
-        ((7, 2), 3, 4),
-        ((-7, 2), -4, -3),
-        ((6, 1), 6, 6),
-        ((-6, 1), -6, -6),
-        ((0, 1), 0, 0),
-        ((-1, MAX), -1, 0),
-        ((1, MAX), 0, 1),
-        ((-MAX, 1), -MAX, -MAX),
-    ];
-    for (entry, floor, ceil) in cases {
-        assert_eq!(rt; made(&rt, entry).floor(), floor);
-        assert_eq!(rt; made(&rt, entry).ceil(), ceil);
+    for (entry, floor, ceil) in WHOLE.iter() {
+        assert_eq!(rt; made(&rt, *entry).floor(), *floor);
+        assert_eq!(rt; made(&rt, *entry).ceil(), *ceil);
     }
 }

@@ -1,4 +1,5 @@
-use super::*;
+use pc_num::Memory;
+use std::alloc::{AllocError, AllocFailed};
 
 #[test]
 fn refused_memory_is_memory(rt: HostRuntime) {

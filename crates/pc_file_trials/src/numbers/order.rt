@@ -1,4 +1,5 @@
-use super::*;
+use pc_num::compare_fractions;
+use std::cmp::Ordering;
 
 #[test]
 fn fractions_that_are_not_reduced(rt: HostRuntime) {

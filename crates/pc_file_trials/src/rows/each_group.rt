@@ -1,7 +1,11 @@
-use super::{branches, folded, sales};
-use crate::{Rows, read_rows};
+ghost use Rattle.std.specs.Prelude.{◌<◌, ◌≢◌, ℕ, All, AllPairs};
+ghost use Rattle.pc_rows.specs.Groups.{name_limit};
+
+use super::folds::{Fold, folded};
+use super::{branches, sales};
 use pc_list::Seq;
-use pc_model::{Agg, Query, Region, Side};
+use pc_model::{Agg, Folded, Query, Region, Side};
+use pc_rows::{Rows, read_rows};
 use std::alloc::{AllocError, Global};
 use std::test::Fail;
 
@@ -28,33 +32,67 @@ fn by_branch(alloc: Global, last_day: i64, bits: u128) -> Result<Query, AllocErr
     })
 }
 
-#[test]
-fn one_fold_for_each_group(rt: HostRuntime) -> Result<(), Fail> {
-    let alloc = rt.alloc();
+// The rows of three sales.
+fn three_sales(alloc: Global) -> Result<Rows, Fail> {
     let schema = sales(alloc, branches(alloc)?)?;
     let text = b"branch,day,price\nChicago,3,100.00\nNewYork,5,50.00\nChicago,9,1.00\n";
-    let Ok(rows) = read_rows(alloc, &schema, text) else {
-        assert!(rt; false, "rows");
-        return Ok(());
-    };
-    let none = folded(0, 0, None, None);
-    let chicago = folded(1, 10_000, Some(10_000), Some(10_000));
-    let all_chicago = folded(2, 10_100, Some(100), Some(10_000));
-    let new_york = folded(1, 5_000, Some(5_000), Some(5_000));
-    let week = by_branch(alloc, 7, 0b111)?;
-    if week.group.is_some() {
-        let folds = rows.fold_each(alloc, &week, &[0, 1, 2])?;
-        assert!(rt; folds.as_slice() == [chicago, new_york, none].as_slice());
-        let turned = rows.fold_each(alloc, &week, &[2, 0])?;
-        assert!(rt; turned.as_slice() == [none, chicago].as_slice());
-        assert!(rt; rows.fold_each(alloc, &week, &[])?.is_empty());
+    Ok(read_rows(alloc, &schema, text)?)
+}
+
+// Whether the rows come to this by the sales up to a day, for each of these branches in turn.
+fn fold_to(
+    alloc: Global,
+    rows: &Rows,
+    days: (i64, u128),
+    groups: &[u32],
+    wanted: &[Folded],
+) -> Result<bool, Fail>
+    requires places { All (λ (name : ℕ). name < name_limit) groups.now }
+    requires once { AllPairs (λ (a b : ℕ). a ≢ b) groups.now }
+{
+    let query = by_branch(alloc, days.0, days.1)?;
+    if query.group.is_none() {
+        return Ok(false);
     }
-    let others = by_branch(alloc, 31, 0b101)?;
-    if others.group.is_some() {
-        let folds = rows.fold_each(alloc, &others, &[1, 127, 0])?;
-        assert!(rt; folds.as_slice() == [none, none, all_chicago].as_slice());
-        let empty = Rows::new(alloc).fold_each(alloc, &others, &[0])?;
-        assert!(rt; empty.as_slice() == [none].as_slice());
-    }
+    let folds = rows.fold_each(alloc, &query, groups)?;
+    Ok(folds.as_slice() == wanted)
+}
+
+const NONE: Fold = (0, 0, None, None);
+
+const CHICAGO: Fold = (1, 10_000, Some(10_000), Some(10_000));
+
+const ALL_CHICAGO: Fold = (2, 10_100, Some(100), Some(10_000));
+
+const NEW_YORK: Fold = (1, 5_000, Some(5_000), Some(5_000));
+
+// Whether the sales of a week come to this, with each group in its place.
+fn week_folds(alloc: Global, rows: &Rows) -> Result<bool, Fail> {
+    let week = (7, 0b111);
+    let folds = [folded(CHICAGO), folded(NEW_YORK), folded(NONE)];
+    let turned = [folded(NONE), folded(CHICAGO)];
+    Ok(
+        fold_to(alloc, rows, week, &[0, 1, 2], &folds)?
+            && fold_to(alloc, rows, week, &[2, 0], &turned)?
+            && fold_to(alloc, rows, week, &[], &[])?,
+    )
+}
+
+// Whether the sales of two branches come to this, with groups that are not chosen or stand for no name.
+fn others_fold(alloc: Global, rows: &Rows) -> Result<bool, Fail> {
+    let folds = [folded(NONE), folded(NONE), folded(ALL_CHICAGO)];
+    fold_to(alloc, rows, (31, 0b101), &[1, 127, 0], &folds)
+}
+
+fn no_rows_fold(alloc: Global) -> Result<bool, Fail> {
+    fold_to(alloc, &Rows::new(alloc), (31, 0b101), &[0], &[folded(NONE)])
+}
+
+#[test]
+fn one_fold_for_each_group(rt: HostRuntime) -> Result<(), Fail> {
+    let rows = three_sales(rt.alloc())?;
+    assert!(rt; week_folds(rt.alloc(), &rows)?);
+    assert!(rt; others_fold(rt.alloc(), &rows)?);
+    assert!(rt; no_rows_fold(rt.alloc())?);
     Ok(())
 }

@@ -1,402 +1,251 @@
-use super::constraint_of;
-use crate::part::region_of;
-use crate::query::query_of;
-use pc_lang_grammar::{Atom, Claim, Line, Measure, Part, Question};
-use pc_lang_tokens::{Symbol, Token, read_tokens};
-use pc_list::{Seq, Text};
-use pc_model::{Agg, Constraint, Query, ReadStop, Reason, Region, Side};
+ghost use Rattle.pc_model.specs.WellFormed.{IsWellFormed, HaveFewNames};
+
+use super::files::many_lines;
+use super::put::SHOP;
+use pc_lang::{read_constraints, read_query};
+use pc_list::Seq;
+use pc_model::{Constraint, FileKind, Query, Reason, Refusal, Schema, Side};
 use pc_schema::read_schema;
 use std::alloc::{AllocError, Global};
+use std::process::Abort;
 use std::test::Fail;
 
-const SCHEMA: &[u8] =
-    b"branch,cat,Chicago,NewYork,Trenton\nday,int,1,31\nprice,dec,2,0.00,1000.00\n";
+// The branches as bits, and the days and the prices from the least to the greatest.
+type Cells = (u128, (i64, i64), (i64, i64));
 
-const BRANCHES: Side = Side::Names { bits: 0b111 };
+// What is read of a query: its column, the rows that it chooses, and the column of its group, or why it is refused.
+type Meant = Result<(Option<u8>, Cells, Option<u8>), Reason>;
 
-const DAYS: Side = Side::Span { low: 1, high: 31 };
+const BRANCHES: u128 = 0b111;
 
-const PRICES: Side = Side::Span {
-    low: 0,
-    high: 100_000,
-};
+const DAYS: (i64, i64) = (1, 31);
 
-fn span(low: i64, high: i64) -> Side {
-    Side::Span { low, high }
+const PRICES: (i64, i64) = (0, 100_000);
+
+fn are_cells(sides: &[Side], cells: &Cells) -> bool {
+    let wanted = [
+        Side::Names { bits: cells.0 },
+        Side::Span {
+            low: cells.1.0,
+            high: cells.1.1,
+        },
+        Side::Span {
+            low: cells.2.0,
+            high: cells.2.1,
+        },
+    ];
+    sides == wanted.as_slice()
 }
 
-fn set(bits: u128) -> Side {
-    Side::Names { bits }
-}
-
-// The names of a set after its first, with commas between them.
-fn names_of(alloc: Global, tokens: &[Token]) -> Result<Seq<Text>, AllocError> {
-    let mut names = Vec::new(alloc);
-    for token in tokens {
-        if let Token::Name(name) = token {
-            names.push(name.clone()?)?;
+fn is_meant(read: Result<Query, Refusal>, want: &Meant) -> bool {
+    match (read, want) {
+        (Ok(query), Ok((column, cells, group))) => {
+            query.column == *column
+                && are_cells(query.chosen.sides.as_slice(), cells)
+                && query.group == *group
         }
-    }
-    Ok(Seq::from_vec(names))
-}
-
-fn compared(symbol: Symbol, number: Seq<u8>) -> Option<Claim> {
-    match symbol {
-        Symbol::Equal => Some(Claim::Number(number)),
-        Symbol::AtLeast => Some(Claim::AtLeast(number)),
-        Symbol::AtMost => Some(Claim::AtMost(number)),
-        Symbol::Above => Some(Claim::Above(number)),
-        Symbol::Below => Some(Claim::Below(number)),
-        _ => None,
-    }
-}
-
-fn among(alloc: Global, tokens: &[Token]) -> Result<Option<Claim>, AllocError> {
-    let [Token::Name(first), rest @ ..] = tokens else {
-        return Ok(None);
-    };
-    let others = names_of(alloc, rest)?;
-    Ok(Some(Claim::Among {
-        first: first.clone()?,
-        others,
-    }))
-}
-
-fn within(low: &Token, high: &Token) -> Result<Option<Claim>, AllocError> {
-    let (Token::Number(low), Token::Number(high)) = (low, high) else {
-        return Ok(None);
-    };
-    let low = low.clone()?;
-    Ok(Some(Claim::Within {
-        low,
-        high: high.clone()?,
-    }))
-}
-
-fn claim_of(alloc: Global, tokens: &[Token]) -> Result<Option<Claim>, AllocError> {
-    match tokens {
-        [Token::Symbol(symbol), Token::Number(number)] => Ok(compared(*symbol, number.clone()?)),
-        [_, Token::Name(name)] => Ok(Some(Claim::Name(name.clone()?))),
-        [_, Token::Symbol(Symbol::OpenSet), rest @ ..] => among(alloc, rest),
-        [_, low, Token::Symbol(Symbol::Dots), high] => within(low, high),
-        _ => Ok(None),
-    }
-}
-
-// The atom of a text, if it is one.
-fn atom_of(alloc: Global, text: &str) -> Result<Option<Atom>, AllocError> {
-    let Ok(tokens) = read_tokens(alloc, text.as_bytes()) else {
-        return Ok(None);
-    };
-    let [Token::Name(column), rest @ ..] = tokens.as_slice() else {
-        return Ok(None);
-    };
-    let Some(claim) = claim_of(alloc, rest)? else {
-        return Ok(None);
-    };
-    Ok(Some(Atom {
-        column: column.clone()?,
-        claim,
-    }))
-}
-
-// The part of the texts of its atoms.
-fn part(alloc: Global, texts: &[&str]) -> Result<Part, AllocError> {
-    let mut atoms = Seq::new(alloc);
-    for text in texts {
-        if let Some(atom) = atom_of(alloc, text)? {
-            atoms.push(atom)?;
+        (Err(Refusal::Fault(fault)), Err(reason)) => {
+            fault.file == FileKind::Query && fault.place == 1 && fault.reason == *reason
         }
-    }
-    Ok(Part { atoms })
-}
-
-fn gives_sides(region: Result<Region, ReadStop>, want: Result<[Side; 3], Reason>) -> bool {
-    match (region, want) {
-        (Ok(region), Ok(sides)) => region.sides.as_slice() == sides.as_slice(),
-        (Err(stop), Err(reason)) => stop == ReadStop::Reason(reason),
         _ => false,
     }
 }
+
+// Asserts what is read of each query.
+fn are_meant(rt: &impl Abort, alloc: Global, schema: &Schema, cases: &[(&str, Meant)])
+    requires well_formed { IsWellFormed schema.now }
+    requires few_names { HaveFewNames schema.now.columns }
+{
+    for (text, want) in cases {
+        let read = read_query(alloc, schema, text, 1);
+        assert!(rt; is_meant(read, want), "{text}");
+    }
+}
+
+// A name, decimals and a number past the limit that are refused are among the queries of files.
+static REGIONS: [(&str, Meant); 24] = [
+    (
+        "count where true",
+        Ok((None, (BRANCHES, DAYS, PRICES), None)),
+    ),
+    ("count where shop = Chicago", Err(Reason::UnknownColumn)),
+    ("count where day = Chicago", Err(Reason::WrongKind)),
+    ("count where branch = 5", Err(Reason::WrongKind)),
+    ("count where day in {Boston}", Err(Reason::WrongKind)),
+    ("count where branch in 1..2", Err(Reason::WrongKind)),
+    (
+        "count where price in 5..1.234",
+        Err(Reason::TooManyDecimals),
+    ),
+    ("count where day = 1.5", Err(Reason::TooManyDecimals)),
+    ("count where price in 3..1", Err(Reason::EmptySpan)),
+    ("count where price > 1000", Err(Reason::EmptySpan)),
+    (
+        "count where price >= 1000",
+        Ok((None, (BRANCHES, DAYS, (100_000, 100_000)), None)),
+    ),
+    (
+        "count where price > 999.99",
+        Ok((None, (BRANCHES, DAYS, (100_000, 100_000)), None)),
+    ),
+    (
+        "count where price < 0.01",
+        Ok((None, (BRANCHES, DAYS, (0, 0)), None)),
+    ),
+    ("count where day < 1", Err(Reason::EmptySpan)),
+    (
+        "count where day <= 100",
+        Ok((None, (BRANCHES, DAYS, PRICES), None)),
+    ),
+    (
+        "count where day <= 1",
+        Ok((None, (BRANCHES, (1, 1), PRICES), None)),
+    ),
+    (
+        "count where branch in {Chicago, Boston}",
+        Err(Reason::UnknownName),
+    ),
+    (
+        "count where branch = NewYork",
+        Ok((None, (0b010, DAYS, PRICES), None)),
+    ),
+    (
+        "count where day >= 5 and day <= 9",
+        Ok((None, (BRANCHES, (5, 9), PRICES), None)),
+    ),
+    ("count where day = 4 and day = 5", Err(Reason::EmptySpan)),
+    (
+        "count where branch in {Trenton, Chicago} and branch in {Trenton, NewYork}",
+        Ok((None, (0b100, DAYS, PRICES), None)),
+    ),
+    (
+        "count where branch = Chicago and branch = NewYork",
+        Err(Reason::EmptySpan),
+    ),
+    (
+        "count where day = 40 and shop = Chicago",
+        Err(Reason::EmptySpan),
+    ),
+    (
+        "count where price in 0.5..2 and branch = NewYork and day > 30",
+        Ok((None, (0b010, (31, 31), (50, 200)), None)),
+    ),
+];
 
 #[test]
 fn regions_of_parts(rt: HostRuntime) -> Result<(), Fail> {
-    let alloc = rt.alloc();
-    let Ok(schema) = read_schema(alloc, SCHEMA) else {
-        assert!(rt; false, "no schema");
-        return Ok(());
-    };
-    let cases: [(&[&str], Result<[Side; 3], Reason>); 27] = [
-        (&[], Ok([BRANCHES, DAYS, PRICES])),
-        (&["shop = Chicago"], Err(Reason::UnknownColumn)),
-        (&["day = Chicago"], Err(Reason::WrongKind)),
-        (&["branch = 5"], Err(Reason::WrongKind)),
-        (&["day in {Boston}"], Err(Reason::WrongKind)),
-        (&["branch in 1..2"], Err(Reason::WrongKind)),
-        (&["price = 1.234"], Err(Reason::TooManyDecimals)),
-        (&["price in 5..1.234"], Err(Reason::TooManyDecimals)),
-        (&["day = 1.5"], Err(Reason::TooManyDecimals)),
-        (&["day = 1000000000000001"], Err(Reason::PastLimit)),
-        (&["price in 3..1"], Err(Reason::EmptySpan)),
-        (&["price > 1000"], Err(Reason::EmptySpan)),
-        (
-            &["price >= 1000"],
-            Ok([BRANCHES, DAYS, span(100_000, 100_000)]),
-        ),
-        (
-            &["price > 999.99"],
-            Ok([BRANCHES, DAYS, span(100_000, 100_000)]),
-        ),
-        (&["price < 0.01"], Ok([BRANCHES, DAYS, span(0, 0)])),
-        (&["day < 1"], Err(Reason::EmptySpan)),
-        (&["day <= 100"], Ok([BRANCHES, DAYS, PRICES])),
-        (&["day <= 1"], Ok([BRANCHES, span(1, 1), PRICES])),
-        (&["branch = Boston"], Err(Reason::UnknownName)),
-        (&["branch in {Chicago, Boston}"], Err(Reason::UnknownName)),
-        (&["branch = NewYork"], Ok([set(0b010), DAYS, PRICES])),
-        (
-            &["day >= 5", "day <= 9"],
-            Ok([BRANCHES, span(5, 9), PRICES]),
-        ),
-        (&["day = 4", "day = 5"], Err(Reason::EmptySpan)),
-        (
-            &[
-                "branch in {Trenton, Chicago}",
-                "branch in {Trenton, NewYork}",
-            ],
-            Ok([set(0b100), DAYS, PRICES]),
-        ),
-        (
-            &["branch = Chicago", "branch = NewYork"],
-            Err(Reason::EmptySpan),
-        ),
-        (&["day = 40", "shop = Chicago"], Err(Reason::EmptySpan)),
-        (
-            &["price in 0.5..2", "branch = NewYork", "day > 30"],
-            Ok([set(0b010), span(31, 31), span(50, 200)]),
-        ),
-    ];
-    for (number, (texts, want)) in cases.into_iter().enumerate() {
-        let region = region_of(alloc, &schema, &part(alloc, texts)?);
-        assert!(rt; gives_sides(region, want), "case {number}");
-    }
+    let schema = read_schema(rt.alloc(), SHOP)?;
+    are_meant(&rt, rt.alloc(), &schema, &REGIONS);
     Ok(())
 }
 
-// A line of these texts, where a part has one atom or none.
-fn line(
-    alloc: Global,
-    name: &str,
-    when: &str,
-    values: &str,
-    least: &str,
-    most: &str,
-) -> Result<Line, AllocError> {
-    Ok(Line {
-        name: Text::from_text(alloc, name)?,
-        when: part(alloc, &[when])?,
-        values: part(alloc, &[values])?,
-        least: Seq::from_slice(alloc, least.as_bytes())?,
-        most: Seq::from_slice(alloc, most.as_bytes())?,
-    })
+// Every row is chosen where no part says which. A sum of branches is among the queries of files.
+static QUESTIONS: [(&str, Meant); 8] = [
+    ("count", Ok((None, (BRANCHES, DAYS, PRICES), None))),
+    (
+        "count(*) where day > 30 group by branch",
+        Ok((None, (BRANCHES, (31, 31), PRICES), Some(0))),
+    ),
+    (
+        "sum(price) where day > 30 group by branch",
+        Ok((Some(2), (BRANCHES, (31, 31), PRICES), Some(0))),
+    ),
+    (
+        "min(day) where true group by branch",
+        Ok((Some(1), (BRANCHES, DAYS, PRICES), Some(0))),
+    ),
+    (
+        "avg(shop) where day = 40 group by x",
+        Err(Reason::UnknownColumn),
+    ),
+    ("count(*) where day = 40 group by x", Err(Reason::EmptySpan)),
+    ("count(*) where true group by x", Err(Reason::UnknownColumn)),
+    ("max(day) where true group by day", Err(Reason::WrongKind)),
+];
+
+#[test]
+fn queries_of_questions(rt: HostRuntime) -> Result<(), Fail> {
+    let schema = read_schema(rt.alloc(), SHOP)?;
+    are_meant(&rt, rt.alloc(), &schema, &QUESTIONS);
+    Ok(())
 }
 
-fn gives_counts(
-    constraint: Result<Constraint, ReadStop>,
-    want: Result<(u64, u64), Reason>,
-) -> bool {
-    match (constraint, want) {
-        (Ok(constraint), Ok((least, most))) => constraint.least == least && constraint.most == most,
-        (Err(stop), Err(reason)) => stop == ReadStop::Reason(reason),
+// The numbers of the last constraint, or why its line is refused.
+type Counted = Result<(u64, u64), Reason>;
+
+fn gives_counts(read: Result<Seq<Constraint>, Refusal>, line: usize, want: &Counted) -> bool {
+    match (read, want) {
+        (Ok(constraints), Ok((least, most))) => match constraints.as_slice() {
+            [.., last] => {
+                constraints.len() == line && last.least == *least && last.most == *most
+            }
+            [] => false,
+        },
+        (Err(Refusal::Fault(fault)), Err(reason)) => {
+            fault.file == FileKind::Constraints
+                && fault.place == line as u64
+                && fault.reason == *reason
+        }
         _ => false,
     }
 }
 
-// Constraints of all rows, each of one name.
-fn constraints(alloc: Global, names: &[&str]) -> Result<Vec<Constraint>, AllocError> {
-    let mut constraints = Vec::new(alloc);
-    for name in names {
-        constraints.push(Constraint {
-            name: Text::from_text(alloc, name)?,
-            when: Region {
-                sides: Seq::new(alloc),
-            },
-            values: Region {
-                sides: Seq::new(alloc),
-            },
-            least: 0,
-            most: 1,
-        })?;
-    }
-    Ok(constraints)
+// Whether this is read of a line after so many others, whose names are the first letters.
+fn is_counted(
+    alloc: Global,
+    schema: &Schema,
+    before: usize,
+    line: &str,
+    want: &Counted,
+) -> Result<bool, AllocError>
+    requires well_formed { IsWellFormed schema.now }
+    requires few_names { HaveFewNames schema.now.columns }
+{
+    let mut text = many_lines(alloc, before)?;
+    text.extend_from_slice(line.as_bytes())?;
+    let read = read_constraints(alloc, schema, text.as_slice());
+    Ok(gives_counts(read, before.saturating_add(1), want))
 }
 
 // The second line has the name of an earlier one.
+static COUNTS: [(&str, Counted); 13] = [
+    ("b: true => day = 3, 0..5", Ok((0, 5))),
+    ("a: shop = x => true, 0..5", Err(Reason::RepeatedName)),
+    ("b: shop = x => day = 40, +1..1", Err(Reason::UnknownColumn)),
+    ("b: true => day = 40, +1..1", Err(Reason::EmptySpan)),
+    ("b: true => true, +1..10000001", Err(Reason::BadNumber)),
+    ("b: true => true, 1.0..1", Err(Reason::BadNumber)),
+    ("b: true => true, 0..-1", Err(Reason::BadNumber)),
+    ("b: true => true, 0..10000001", Err(Reason::PastLimit)),
+    ("b: true => true, 10000001..0.5", Err(Reason::PastLimit)),
+    ("b: true => true, 0..10000000", Ok((0, 10_000_000))),
+    ("b: true => true, 3..2", Err(Reason::LeastOverMost)),
+    ("b: true => true, 2..2", Ok((2, 2))),
+    ("b: true => true, 007..7", Ok((7, 7))),
+];
+
 #[test]
 fn constraints_of_lines(rt: HostRuntime) -> Result<(), Fail> {
-    let alloc = rt.alloc();
-    let Ok(schema) = read_schema(alloc, SCHEMA) else {
-        assert!(rt; false, "no schema");
-        return Ok(());
-    };
-    let cases = [
-        ("b", "", "day = 3", "0", "5", Ok((0, 5))),
-        ("a", "shop = x", "", "0", "5", Err(Reason::RepeatedName)),
-        (
-            "b",
-            "shop = x",
-            "day = 40",
-            "+1",
-            "1",
-            Err(Reason::UnknownColumn),
-        ),
-        ("b", "", "day = 40", "+1", "1", Err(Reason::EmptySpan)),
-        ("b", "", "", "+1", "10000001", Err(Reason::BadNumber)),
-        ("b", "", "", "1.0", "1", Err(Reason::BadNumber)),
-        ("b", "", "", "0", "-1", Err(Reason::BadNumber)),
-        ("b", "", "", "0", "10000001", Err(Reason::PastLimit)),
-        ("b", "", "", "10000001", "x", Err(Reason::PastLimit)),
-        ("b", "", "", "0", "10000000", Ok((0, 10_000_000))),
-        ("b", "", "", "3", "2", Err(Reason::LeastOverMost)),
-        ("b", "", "", "2", "2", Ok((2, 2))),
-        ("b", "", "", "007", "7", Ok((7, 7))),
-    ];
-    let before = constraints(alloc, &["a"])?;
-    for (number, (name, when, values, least, most, want)) in cases.into_iter().enumerate() {
-        let line = line(alloc, name, when, values, least, most)?;
-        let constraint = constraint_of(alloc, &schema, before.as_slice(), line);
-        assert!(rt; gives_counts(constraint, want), "case {number}");
+    let schema = read_schema(rt.alloc(), SHOP)?;
+    for (line, want) in COUNTS.iter() {
+        assert!(rt; is_counted(rt.alloc(), &schema, 1, line, want)?, "{line}");
     }
     Ok(())
 }
+
+static PAST_TWENTY: [(usize, &str, Counted); 3] = [
+    (19, "u: true => true, 1..2", Ok((1, 2))),
+    (19, "a: true => true, 1..2", Err(Reason::RepeatedName)),
+    (20, "a: true => true, 1..2", Err(Reason::TooMany)),
+];
 
 // There is room for twenty, and the twenty-first is refused before its name is looked at.
 #[test]
 fn constraints_past_twenty(rt: HostRuntime) -> Result<(), Fail> {
-    let alloc = rt.alloc();
-    let Ok(schema) = read_schema(alloc, SCHEMA) else {
-        assert!(rt; false, "no schema");
-        return Ok(());
-    };
-    let names = [
-        "a", "b", "c", "d", "e", "f", "g", "h", "i", "j", "k", "l", "m", "n", "o", "p", "q", "r",
-        "s", "t",
-    ];
-    for (count, name, want) in [
-        (19, "u", Ok((1, 2))),
-        (19, "a", Err(Reason::RepeatedName)),
-        (20, "a", Err(Reason::TooMany)),
-    ] {
-        let before = constraints(alloc, &names[..count])?;
-        let line = line(alloc, name, "", "", "1", "2")?;
-        let constraint = constraint_of(alloc, &schema, before.as_slice(), line);
-        assert!(rt; gives_counts(constraint, want), "{name} after {count}");
+    let schema = read_schema(rt.alloc(), SHOP)?;
+    for (before, line, want) in PAST_TWENTY.iter() {
+        let found = is_counted(rt.alloc(), &schema, *before, line, want)?;
+        assert!(rt; found, "{line} after {before}");
     }
-    Ok(())
-}
-
-fn gives_query(
-    query: Result<Query, ReadStop>,
-    want: Result<(Option<u8>, Side, Option<u8>), Reason>,
-) -> bool {
-    match (query, want) {
-        (Ok(query), Ok((column, days, group))) => {
-            query.column == column
-                && query.chosen.sides.as_slice() == [BRANCHES, days, PRICES].as_slice()
-                && query.group == group
-        }
-        (Err(stop), Err(reason)) => stop == ReadStop::Reason(reason),
-        _ => false,
-    }
-}
-
-fn measure(alloc: Global, agg: Agg, name: &str) -> Result<Measure, AllocError> {
-    let name = Text::from_text(alloc, name)?;
-    Ok(match agg {
-        Agg::Count => Measure::CountOfAll,
-        Agg::Sum => Measure::Sum(name),
-        Agg::Min => Measure::Min(name),
-        Agg::Max => Measure::Max(name),
-        Agg::Avg => Measure::Avg(name),
-    })
-}
-
-// A question of the rows of an atom, for each name of a column.
-fn question(
-    alloc: Global,
-    agg: Agg,
-    name: &str,
-    chosen: &str,
-    group: &str,
-) -> Result<Question, AllocError> {
-    let measure = measure(alloc, agg, name)?;
-    let chosen = Some(part(alloc, &[chosen])?);
-    let group = Some(Text::from_text(alloc, group)?);
-    Ok(Question {
-        measure,
-        chosen,
-        group,
-    })
-}
-
-#[test]
-fn queries_of_questions(rt: HostRuntime) -> Result<(), Fail> {
-    let alloc = rt.alloc();
-    let Ok(schema) = read_schema(alloc, SCHEMA) else {
-        assert!(rt; false, "no schema");
-        return Ok(());
-    };
-    let late = span(31, 31);
-    let cases = [
-        (
-            Agg::Count,
-            "",
-            "day > 30",
-            "branch",
-            Ok((None, late, Some(0))),
-        ),
-        (
-            Agg::Sum,
-            "price",
-            "day > 30",
-            "branch",
-            Ok((Some(2), late, Some(0))),
-        ),
-        (Agg::Min, "day", "", "branch", Ok((Some(1), DAYS, Some(0)))),
-        (Agg::Sum, "branch", "day = 40", "x", Err(Reason::WrongKind)),
-        (
-            Agg::Avg,
-            "shop",
-            "day = 40",
-            "x",
-            Err(Reason::UnknownColumn),
-        ),
-        (Agg::Count, "", "day = 40", "x", Err(Reason::EmptySpan)),
-        (Agg::Count, "", "", "x", Err(Reason::UnknownColumn)),
-        (Agg::Max, "day", "", "day", Err(Reason::WrongKind)),
-    ];
-    for (number, (agg, name, chosen, group, want)) in cases.into_iter().enumerate() {
-        let question = question(alloc, agg, name, chosen, group)?;
-        let query = query_of(alloc, &schema, &question);
-        assert!(rt; gives_query(query, want), "case {number}");
-    }
-    Ok(())
-}
-
-// Every row is chosen where no part says which.
-#[test]
-fn query_of_all_rows(rt: HostRuntime) -> Result<(), Fail> {
-    let alloc = rt.alloc();
-    let Ok(schema) = read_schema(alloc, SCHEMA) else {
-        assert!(rt; false, "no schema");
-        return Ok(());
-    };
-    let all = Question {
-        measure: Measure::Count,
-        chosen: None,
-        group: None,
-    };
-    let query = query_of(alloc, &schema, &all);
-    assert!(rt; gives_query(query, Ok((None, DAYS, None))));
     Ok(())
 }

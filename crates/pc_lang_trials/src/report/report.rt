@@ -3,7 +3,6 @@ ghost use Rattle.pc_model.specs.WellFormed.{IsWellFormed, HaveFewNames};
 ghost use Rattle.pc_report.specs.Units.{AreAverages, IsAverage};
 
 use super::{SCHEMA, run_of};
-use crate::{in_column, put_report};
 use pc_lang::read_query;
 use pc_list::Seq;
 use pc_model::{Refusal, Run, Schema, Tree};
@@ -11,8 +10,10 @@ use pc_num::Frac;
 use pc_proof::{
     AlwaysBy, Answer, Block, BlockTree, Document, End, Lack, Mark, NeverBy, Proof, Relation, Why,
 };
+use pc_report::{in_column, put_report};
 use pc_schema::read_schema;
 use std::alloc::{AllocError, Global};
+use std::process::Abort;
 use std::test::Fail;
 
 fn runs_of(alloc: Global, times: u64, cells: [i64; 3]) -> Result<Seq<Run>, AllocError> {
@@ -91,20 +92,55 @@ fn is_average(value: &Frac) -> bool
     value.num > i128::MIN
 }
 
-// A possible relation, with a low end that is reached and a high one.
+// Whether the report of an answer is this one.
+fn is_reported(
+    alloc: Global,
+    schema: &Schema,
+    query: &str,
+    name: Option<u32>,
+    answer: Answer,
+    want: &str,
+) -> bool
+    requires well_formed { IsWellFormed schema.now }
+    requires few_names { HaveFewNames schema.now.columns }
+{
+    if !are_averages(&answer.ends) {
+        return false;
+    }
+    is_written(written(alloc, schema, query, name, answer), want)
+}
+
+// The relation of a run that is possible.
+fn one_run(alloc: Global) -> Result<Relation, AllocError> {
+    Ok(Relation::Possible(runs_of(alloc, 1, [0, 3, 10_000])?))
+}
+
+// A low end that is reached and a high one.
+fn reached(
+    alloc: Global,
+    low: (i128, i128),
+    high: (i128, i128),
+) -> Result<Option<(End, End)>, AllocError> {
+    let at_low = Mark::Exact(runs_of(alloc, 2, [1, -5, -5])?);
+    let at_high = Mark::Exact(runs_of(alloc, 12, [2, 31, 0])?);
+    let low = end_of(low.0, low.1, at_low);
+    let high = end_of(high.0, high.1, at_high);
+    Ok(Some((low, high)))
+}
+
+// A possible relation, with ends that are reached.
 fn possible(
     alloc: Global,
     lack: Lack,
     low: (i128, i128),
     high: (i128, i128),
 ) -> Result<Answer, AllocError> {
+    let ends = reached(alloc, low, high)?;
+    let relation = one_run(alloc)?;
     Ok(Answer {
-        relation: Relation::Possible(runs_of(alloc, 1, [0, 3, 10_000])?),
+        relation,
         lack,
-        ends: Some((
-            end_of(low.0, low.1, Mark::Exact(runs_of(alloc, 2, [1, -5, -5])?)),
-            end_of(high.0, high.1, Mark::Exact(runs_of(alloc, 12, [2, 31, 0])?)),
-        )),
+        ends,
     })
 }
 
@@ -128,188 +164,179 @@ fn without_ends(relation: Relation, lack: Lack) -> Answer {
     }
 }
 
+// Asserts the reports of ends that are reached, and of none.
+fn counts(rt: &impl Abort, alloc: Global, schema: &Schema) -> Result<(), AllocError>
+    requires well_formed { IsWellFormed schema.now }
+    requires few_names { HaveFewNames schema.now.columns }
+{
+    let exact = possible(alloc, Lack::Silent, (5, 1), (17, 1))?;
+    let want =
+        "query count where day in 1..5\nrelation possible\nrun 1: Chicago, 3, 100.00\nlow 5 exact\nrun 2: \"New York\", -5, -0.05\nhigh 17 exact\nrun 12: \"in\", 31, 0.00\n";
+    let query = "count where day in 1..5";
+    assert!(rt; is_reported(alloc, schema, query, None, exact, want));
+    let never = Relation::Impossible(Why::Void(no_tree(alloc)));
+    let never = without_ends(never, Lack::Silent);
+    let want = "query count\nrelation impossible\n";
+    assert!(rt; is_reported(alloc, schema, "count", None, never, want));
+    Ok(())
+}
+
+// Asserts the reports of ends that may not be reached.
+fn sums(rt: &impl Abort, alloc: Global, schema: &Schema)
+    requires well_formed { IsWellFormed schema.now }
+    requires few_names { HaveFewNames schema.now.columns }
+{
+    let open = outer(Relation::Undecided, Lack::Silent, (-5, 1), (123_450, 1));
+    let want = "query sum(price)\nrelation undecided\nlow -0.05 outer\nhigh 1234.50 outer\n";
+    assert!(rt; is_reported(alloc, schema, "sum(price)", None, open, want));
+    let sum = outer(Relation::Undecided, Lack::Silent, (-7, 1), (90, 1));
+    let want =
+        "query sum(day) group by branch\ngroup branch = \"a\"\"b\"\nrelation undecided\nlow -7 outer\nhigh 90 outer\n";
+    let query = "sum(day) where true group by branch";
+    assert!(rt; is_reported(alloc, schema, query, Some(3), sum, want));
+}
+
 #[test]
 fn reports_of_counts_and_sums(rt: HostRuntime) -> Result<(), Fail> {
-    let alloc = rt.alloc();
-    let Ok(schema) = read_schema(alloc, SCHEMA.as_bytes()) else {
-        assert!(rt; false, "no schema");
-        return Ok(());
-    };
-    let exact = possible(alloc, Lack::Silent, (5, 1), (17, 1))?;
-    let open = outer(Relation::Undecided, Lack::Silent, (-5, 1), (123_450, 1));
-    let sum = outer(Relation::Undecided, Lack::Silent, (-7, 1), (90, 1));
-    let never = without_ends(
-        Relation::Impossible(Why::Void(no_tree(alloc))),
-        Lack::Silent,
-    );
-    let cases: [(&str, Option<u32>, Answer, &str); 4] = [
-        (
-            "count where day in 1..5",
-            None,
-            exact,
-            "query count where day in 1..5\nrelation possible\nrun 1: Chicago, 3, 100.00\nlow 5 exact\nrun 2: \"New York\", -5, -0.05\nhigh 17 exact\nrun 12: \"in\", 31, 0.00\n",
-        ),
-        (
-            "sum(price)",
-            None,
-            open,
-            "query sum(price)\nrelation undecided\nlow -0.05 outer\nhigh 1234.50 outer\n",
-        ),
-        (
-            "sum(day) where true group by branch",
-            Some(3),
-            sum,
-            "query sum(day) group by branch\ngroup branch = \"a\"\"b\"\nrelation undecided\nlow -7 outer\nhigh 90 outer\n",
-        ),
-        ("count", None, never, "query count\nrelation impossible\n"),
-    ];
-    for (query, name, answer, want) in cases {
-        assert!(rt; are_averages(&answer.ends));
-        let text = written(alloc, &schema, query, name, answer);
-        assert!(rt; is_written(text, want), "{want}");
-    }
+    let schema = read_schema(rt.alloc(), SCHEMA.as_bytes())?;
+    sums(&rt, rt.alloc(), &schema);
+    counts(&rt, rt.alloc(), &schema)?;
+    Ok(())
+}
+
+// A value is lacking in some cases.
+fn sometimes(alloc: Global) -> Result<Lack, AllocError> {
+    let without = runs_of(alloc, 3, [0, 0, 1])?;
+    let with = runs_of(alloc, 4, [0, 0, 2])?;
+    Ok(Lack::Sometimes { without, with })
+}
+
+// Asserts the reports of ends that are reached, where a value may be lacking.
+fn averages(rt: &impl Abort, alloc: Global, schema: &Schema) -> Result<(), AllocError>
+    requires well_formed { IsWellFormed schema.now }
+    requires few_names { HaveFewNames schema.now.columns }
+{
+    let least = possible(alloc, sometimes(alloc)?, (-31, 1), (2, 1))?;
+    let want =
+        "query min(day)\nrelation possible\nrun 1: Chicago, 3, 100.00\nnone sometimes\nrun 3: Chicago, 0, 0.01\nsome\nrun 4: Chicago, 0, 0.02\nlow -31 exact\nrun 2: \"New York\", -5, -0.05\nhigh 2 exact\nrun 12: \"in\", 31, 0.00\n";
+    assert!(rt; is_reported(alloc, schema, "min(day)", None, least, want));
+    let average = possible(alloc, Lack::Undecided, (15_000, 7), (400, 1))?;
+    let want =
+        "query avg(price) group by branch\ngroup branch = \"New York\"\nrelation possible\nrun 1: Chicago, 3, 100.00\nnone undecided\nlow 150/7 exact\nrun 2: \"New York\", -5, -0.05\nhigh 4 exact\nrun 12: \"in\", 31, 0.00\n";
+    let query = "avg(price) group by branch";
+    assert!(rt; is_reported(alloc, schema, query, Some(1), average, want));
+    Ok(())
+}
+
+// Asserts the reports of a value that is never or always lacking.
+fn lacks(rt: &impl Abort, alloc: Global, schema: &Schema) -> Result<(), AllocError>
+    requires well_formed { IsWellFormed schema.now }
+    requires few_names { HaveFewNames schema.now.columns }
+{
+    let never = Lack::Never(NeverBy::Rows);
+    let greatest = outer(Relation::Undecided, never, (-100, 1), (100_000, 1));
+    let want =
+        "query max(price)\nrelation undecided\nnone never\nlow -1.00 outer\nhigh 1000.00 outer\n";
+    assert!(rt; is_reported(alloc, schema, "max(price)", None, greatest, want));
+    let always = Lack::Always(AlwaysBy::Tree(no_tree(alloc)));
+    let none = without_ends(one_run(alloc)?, always);
+    let want = "query avg(day)\nrelation possible\nrun 1: Chicago, 3, 100.00\nnone always\n";
+    assert!(rt; is_reported(alloc, schema, "avg(day)", None, none, want));
     Ok(())
 }
 
 #[test]
 fn reports_of_other_aggregates(rt: HostRuntime) -> Result<(), Fail> {
-    let alloc = rt.alloc();
-    let Ok(schema) = read_schema(alloc, SCHEMA.as_bytes()) else {
-        assert!(rt; false, "no schema");
-        return Ok(());
-    };
-    let sometimes = Lack::Sometimes {
-        without: runs_of(alloc, 3, [0, 0, 1])?,
-        with: runs_of(alloc, 4, [0, 0, 2])?,
-    };
-    let least = possible(alloc, sometimes, (-31, 1), (2, 1))?;
-    let average = possible(alloc, Lack::Undecided, (15_000, 7), (400, 1))?;
-    let greatest = outer(
-        Relation::Undecided,
-        Lack::Never(NeverBy::Rows),
-        (-100, 1),
-        (100_000, 1),
-    );
-    let none = without_ends(
-        Relation::Possible(runs_of(alloc, 1, [0, 3, 10_000])?),
-        Lack::Always(AlwaysBy::Tree(no_tree(alloc))),
-    );
-    let cases: [(&str, Option<u32>, Answer, &str); 4] = [
-        (
-            "min(day)",
-            None,
-            least,
-            "query min(day)\nrelation possible\nrun 1: Chicago, 3, 100.00\nnone sometimes\nrun 3: Chicago, 0, 0.01\nsome\nrun 4: Chicago, 0, 0.02\nlow -31 exact\nrun 2: \"New York\", -5, -0.05\nhigh 2 exact\nrun 12: \"in\", 31, 0.00\n",
-        ),
-        (
-            "avg(price) group by branch",
-            Some(1),
-            average,
-            "query avg(price) group by branch\ngroup branch = \"New York\"\nrelation possible\nrun 1: Chicago, 3, 100.00\nnone undecided\nlow 150/7 exact\nrun 2: \"New York\", -5, -0.05\nhigh 4 exact\nrun 12: \"in\", 31, 0.00\n",
-        ),
-        (
-            "max(price)",
-            None,
-            greatest,
-            "query max(price)\nrelation undecided\nnone never\nlow -1.00 outer\nhigh 1000.00 outer\n",
-        ),
-        (
-            "avg(day)",
-            None,
-            none,
-            "query avg(day)\nrelation possible\nrun 1: Chicago, 3, 100.00\nnone always\n",
-        ),
-    ];
-    for (query, name, answer, want) in cases {
-        assert!(rt; are_averages(&answer.ends));
-        let text = written(alloc, &schema, query, name, answer);
-        assert!(rt; is_written(text, want), "{want}");
-    }
+    let schema = read_schema(rt.alloc(), SCHEMA.as_bytes())?;
+    averages(&rt, rt.alloc(), &schema)?;
+    lacks(&rt, rt.alloc(), &schema)?;
     Ok(())
 }
+
+const UNITS: &str = "day,int,-31,31\nprice,dec,2,-1000.00,1000.00\nweight,dec,6,0,10\n";
+
+type Ends = (&'static str, (i128, i128), (i128, i128), &'static str);
+
+static AVERAGES: [Ends; 8] = [
+    (
+        "avg(day)",
+        (-31, 2),
+        (17_999, 140),
+        "query avg(day)\nrelation undecided\nlow -31/2 outer\nhigh 17999/140 outer\n",
+    ),
+    (
+        "avg(day)",
+        (1, 30_000_000_000_000_000),
+        (i128::MAX, 1),
+        "query avg(day)\nrelation undecided\nlow 1/30000000000000000 outer\nhigh 170141183460469231731687303715884105727 outer\n",
+    ),
+    (
+        "avg(price)",
+        (-15_000, 7),
+        (348_975, 52),
+        "query avg(price)\nrelation undecided\nlow -150/7 outer\nhigh 13959/208 outer\n",
+    ),
+    (
+        "avg(price)",
+        (150, 7),
+        (500, 6),
+        "query avg(price)\nrelation undecided\nlow 3/14 outer\nhigh 5/6 outer\n",
+    ),
+    (
+        "avg(price)",
+        (0, 1),
+        (17_999, 140),
+        "query avg(price)\nrelation undecided\nlow 0 outer\nhigh 17999/14000 outer\n",
+    ),
+    (
+        "avg(price)",
+        (-400, 1),
+        (i128::MAX, 30_000_000_000_000_000),
+        "query avg(price)\nrelation undecided\nlow -4 outer\nhigh 170141183460469231731687303715884105727/3000000000000000000 outer\n",
+    ),
+    (
+        "avg(weight)",
+        (7, 30_000_000_000_000_000),
+        (2_500_000, 3),
+        "query avg(weight)\nrelation undecided\nlow 7/30000000000000000000000 outer\nhigh 5/6 outer\n",
+    ),
+    (
+        "avg(weight)",
+        (1, 1),
+        (10_000_000, 1),
+        "query avg(weight)\nrelation undecided\nlow 1/1000000 outer\nhigh 10 outer\n",
+    ),
+];
 
 #[test]
 fn averages_in_the_unit_of_their_column(rt: HostRuntime) -> Result<(), Fail> {
     let alloc = rt.alloc();
-    let Ok(schema) = read_schema(
-        alloc,
-        b"day,int,-31,31\nprice,dec,2,-1000.00,1000.00\nweight,dec,6,0,10\n",
-    ) else {
-        assert!(rt; false, "no schema");
-        return Ok(());
-    };
-    let cases: [(&str, (i128, i128), (i128, i128), &str); 8] = [
-        (
-            "avg(day)",
-            (-31, 2),
-            (17_999, 140),
-            "query avg(day)\nrelation undecided\nlow -31/2 outer\nhigh 17999/140 outer\n",
-        ),
-        (
-            "avg(day)",
-            (1, 30_000_000_000_000_000),
-            (i128::MAX, 1),
-            "query avg(day)\nrelation undecided\nlow 1/30000000000000000 outer\nhigh 170141183460469231731687303715884105727 outer\n",
-        ),
-        (
-            "avg(price)",
-            (-15_000, 7),
-            (348_975, 52),
-            "query avg(price)\nrelation undecided\nlow -150/7 outer\nhigh 13959/208 outer\n",
-        ),
-        (
-            "avg(price)",
-            (150, 7),
-            (500, 6),
-            "query avg(price)\nrelation undecided\nlow 3/14 outer\nhigh 5/6 outer\n",
-        ),
-        (
-            "avg(price)",
-            (0, 1),
-            (17_999, 140),
-            "query avg(price)\nrelation undecided\nlow 0 outer\nhigh 17999/14000 outer\n",
-        ),
-        (
-            "avg(price)",
-            (-400, 1),
-            (i128::MAX, 30_000_000_000_000_000),
-            "query avg(price)\nrelation undecided\nlow -4 outer\nhigh 170141183460469231731687303715884105727/3000000000000000000 outer\n",
-        ),
-        (
-            "avg(weight)",
-            (7, 30_000_000_000_000_000),
-            (2_500_000, 3),
-            "query avg(weight)\nrelation undecided\nlow 7/30000000000000000000000 outer\nhigh 5/6 outer\n",
-        ),
-        (
-            "avg(weight)",
-            (1, 1),
-            (10_000_000, 1),
-            "query avg(weight)\nrelation undecided\nlow 1/1000000 outer\nhigh 10 outer\n",
-        ),
-    ];
-    for (query, low, high, want) in cases {
-        let answer = outer(Relation::Undecided, Lack::Silent, low, high);
-        assert!(rt; are_averages(&answer.ends));
-        let text = written(alloc, &schema, query, None, answer);
-        assert!(rt; is_written(text, want), "{want}");
+    let schema = read_schema(alloc, UNITS.as_bytes())?;
+    for (query, low, high, want) in AVERAGES.iter() {
+        let answer = outer(Relation::Undecided, Lack::Silent, *low, *high);
+        let found = is_reported(alloc, &schema, query, None, answer, want);
+        assert!(rt; found, "{want}");
     }
     Ok(())
 }
 
+static VALUES: [((i128, i128), u8, (i128, i128)); 5] = [
+    ((15_000, 7), 2, (150, 7)),
+    ((15_000, 7), 0, (15_000, 7)),
+    ((-125, 1), 3, (-1, 8)),
+    ((0, 9), 6, (0, 1)),
+    ((1, 30_000_000_000_000_000), 1, (1, 300_000_000_000_000_000)),
+];
+
 #[test]
 fn values_over_a_power_of_ten(rt: HostRuntime) {
-    let cases = [
-        ((15_000, 7), 2, (150, 7)),
-        ((15_000, 7), 0, (15_000, 7)),
-        ((-125, 1), 3, (-1, 8)),
-        ((0, 9), 6, (0, 1)),
-        ((1, 30_000_000_000_000_000), 1, (1, 300_000_000_000_000_000)),
-    ];
-    for ((num, den), scale, wanted) in cases {
-        let value = Frac { num, den };
-        assert!(rt; scale <= 6 && is_average(&value));
-        let found = in_column(&value, scale);
-        assert!(rt; (found.num, found.den) == wanted);
+    for ((num, den), scale, wanted) in VALUES.iter() {
+        let value = Frac {
+            num: *num,
+            den: *den,
+        };
+        assert!(rt; *scale <= 6 && is_average(&value));
+        let found = in_column(&value, *scale);
+        assert!(rt; (found.num, found.den) == *wanted);
     }
 }

@@ -1,6 +1,7 @@
+//! The texts of documents, which are read and written again.
 ghost use Rattle.pc_model.specs.WellFormed.{IsWellFormed};
 
-use crate::{NoDocument, put_document, read_document};
+use pc_document::{NoDocument, put_document, read_document};
 use pc_document_format::line_of;
 use pc_model::Schema;
 use pc_schema::read_schema;
@@ -193,47 +194,45 @@ fn is_written_again(alloc: Global, schema: &Schema, text: &str) -> Result<bool, 
 
 #[test]
 fn documents_are_read_and_written_again(rt: HostRuntime) -> Result<(), Fail> {
-    let alloc = rt.alloc();
-    let Ok(schema) = read_schema(alloc, SCHEMA.as_bytes()) else {
-        assert!(rt; false, "no schema");
-        return Ok(());
-    };
+    let schema = read_schema(rt.alloc(), SCHEMA.as_bytes())?;
     for text in ["pc 1\nend\n", ONE_CELL, ALL_KINDS] {
-        assert!(rt;
-            is_written_again(alloc, &schema, text) == Ok(true),
-            "{text}"
-        );
+        let told = is_written_again(rt.alloc(), &schema, text);
+        assert!(rt; told == Ok(true), "{text}");
     }
     Ok(())
 }
 
 #[test]
 fn faults_have_their_line(rt: HostRuntime) -> Result<(), Fail> {
-    let alloc = rt.alloc();
-    let Ok(schema) = read_schema(alloc, SCHEMA.as_bytes()) else {
-        assert!(rt; false, "no schema");
-        return Ok(());
-    };
-    for (text, line) in &FAULTS {
-        let told = is_written_again(alloc, &schema, text);
+    let schema = read_schema(rt.alloc(), SCHEMA.as_bytes())?;
+    for (text, line) in FAULTS.iter() {
+        let told = is_written_again(rt.alloc(), &schema, text);
         assert!(rt; told == Err(NoDocument::Fault { line: *line }), "{text}");
     }
     Ok(())
 }
 
+/// Whether the fault of a text that is no document is in this line.
+fn is_fault(alloc: Global, schema: &Schema, bytes: &[u8], wanted: u64) -> bool
+    requires { IsWellFormed schema.now }
+{
+    match read_document(alloc, schema, bytes) {
+        Err(NoDocument::Fault { line }) => line == wanted,
+        _ => false,
+    }
+}
+
 /// A document that is cut off has its fault in the line after its last whole one.
 #[test]
 fn documents_cut_off(rt: HostRuntime) -> Result<(), Fail> {
-    let alloc = rt.alloc();
-    let Ok(schema) = read_schema(alloc, SCHEMA.as_bytes()) else {
-        assert!(rt; false, "no schema");
-        return Ok(());
-    };
+    let schema = read_schema(rt.alloc(), SCHEMA.as_bytes())?;
     let bytes = ONE_CELL.as_bytes();
     for place in 0..bytes.len() {
-        let told = read_document(alloc, &schema, &bytes[..place]);
         let line = line_of(bytes, place);
-        assert!(rt; matches!(told, Err(NoDocument::Fault { line: found }) if found == line));
+        assert!(rt;
+            is_fault(rt.alloc(), &schema, &bytes[..place], line),
+            "{place}"
+        );
     }
     Ok(())
 }
