@@ -10,7 +10,13 @@ mod frontier;
 #[cfg(test)]
 mod greedy;
 #[cfg(test)]
+mod lists;
+#[cfg(test)]
+mod plain;
+#[cfg(test)]
 mod programs;
+#[cfg(test)]
+mod ready;
 #[cfg(test)]
 mod relaxed;
 #[cfg(test)]
