@@ -19,6 +19,7 @@ mod programs;
 mod ready;
 #[cfg(test)]
 mod relaxed;
+mod samples;
 #[cfg(test)]
 mod short;
 #[cfg(test)]

@@ -22,7 +22,7 @@ fn is_sized_row(columns: &Columns, row: &WholeRow) -> bool
     if row.basic >= columns.count {
         return false;
     }
-    row.numbers.len() - 1 == columns.count && !row.numbers.is_empty()
+    !row.numbers.is_empty() && row.numbers.len() - 1 == columns.count
 }
 
 fn are_fit_rows(rows: &[WholeRow]) -> bool

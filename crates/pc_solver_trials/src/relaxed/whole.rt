@@ -67,7 +67,7 @@ fn first_row(
     left: i128,
     range: u64,
 ) -> Result<WholeRow, AllocError> {
-    let beyond = left - i128::from(range);
+    let beyond = left.saturating_sub(i128::from(range));
     let constraints = p.least.len();
     let slack = p.masks.len().saturating_add(place);
     let mut numbers = Vec::new(alloc);
