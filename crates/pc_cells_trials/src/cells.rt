@@ -153,6 +153,15 @@ fn are_cells_of(
     Ok(found.cells.len() == count && has_cells_of(&found, case))
 }
 
+/// Whether no row is under two constraints.
+fn are_apart(schema: &Schema, constraints: &[Constraint]) -> bool
+    requires few { length constraints.now ≤ constraint_limit }
+    requires servable { All (IsServable schema.now) constraints.now }
+{
+    let _schema = schema;
+    pairwise_apart(constraints)
+}
+
 /// Whether the case is answered as it says; false where its texts are refused.
 fn is_case(alloc: Global, schema: &Schema, case: usize) -> Result<bool, Memory>
     requires well_formed { IsWellFormed schema.now }
@@ -169,7 +178,7 @@ fn is_case(alloc: Global, schema: &Schema, case: usize) -> Result<bool, Memory>
     };
     let constraints = constraints.as_slice();
     Ok(
-        pairwise_apart(constraints) == disjoint
+        are_apart(schema, constraints) == disjoint
             && are_cells_of(alloc, schema, constraints, &query.chosen, case, count)?,
     )
 }
