@@ -1,5 +1,5 @@
 //! Programs by their lists.
-ghost use Rattle.std.specs.Prelude.{◌≤◌};
+ghost use Rattle.std.specs.Prelude.{◌<◌, ◌≤◌};
 
 use pc_list::Seq;
 use pc_program_bound::Program;
@@ -61,11 +61,19 @@ fn masks_of_pairs(alloc: Global, count: u32) -> Result<Seq<u32>, AllocError>
 {
     let mut masks = Seq::new(alloc);
     for first in 0..count {
-        for second in first + 1..count {
-            masks.push((1 << first) | (1 << second))?;
-        }
+        push_masks(&mut masks, first, count)?;
     }
     Ok(masks)
+}
+
+/// The cells for the pairs of a constraint and each later one.
+fn push_masks(masks: &mut Seq<u32>, first: u32, count: u32) -> Result<(), AllocError>
+    requires { (first < count) × (count ≤ 32) }
+{
+    for second in first + 1..count {
+        masks.push((1 << first) | (1 << second))?;
+    }
+    Ok(())
 }
 
 /// The pairs of so many constraints, each of which takes from the least to the most of rows that are all worth the same.
@@ -93,10 +101,17 @@ pub(crate) fn round_pairs(alloc: Global) -> Result<Program, AllocError> {
 
 fn round_floors(alloc: Global) -> Result<Seq<u64>, AllocError> {
     let mut floor = Seq::new(alloc);
-    for first in 0..17u32 {
-        for second in first + 1..17 {
-            floor.push(if first + second == 15 { 1 } else { 0 })?;
-        }
+    for first in 0..17 {
+        push_floors(&mut floor, first)?;
     }
     Ok(floor)
+}
+
+fn push_floors(floor: &mut Seq<u64>, first: u32) -> Result<(), AllocError>
+    requires { first < 17 }
+{
+    for second in first + 1..17 {
+        floor.push(if first + second == 15 { 1 } else { 0 })?;
+    }
+    Ok(())
 }

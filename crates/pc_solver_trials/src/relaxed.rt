@@ -48,8 +48,8 @@ fn is_void(relaxed: &Relaxed, by: &[i128]) -> bool {
     }
 }
 
-// Three cells, each in two of three constraints that allow one row each: half a row of each is best.
-static HALVES: [[i128; 3]; 2] = [[1, 1, 1], [GREAT, GREAT, GREAT]];
+// The gains of three cells that are each in two of three constraints, which allow one row each: half a row of each is best.
+static GAINS: [[i128; 3]; 2] = [[1, 1, 1], [GREAT, GREAT, GREAT]];
 
 // A gain with which rows in short form are given up.
 const GREAT: i128 = (1 << 86) + 1;
@@ -102,7 +102,7 @@ fn takes_steps(alloc: Global, p: &Program, steps: &[Step]) -> Result<bool, Fail>
 #[test]
 fn half_a_row_of_each(rt: HostRuntime) -> Result<(), Fail> {
     let alloc = rt.alloc();
-    for (place, gain) in HALVES.iter().enumerate() {
+    for (place, gain) in GAINS.iter().enumerate() {
         let p = triangle(alloc, gain)?;
         let is_found = is_half_of_each(alloc, &p)? && takes_steps(alloc, &p, &STEPS)?;
         assert!(rt; is_found, "program {place}");

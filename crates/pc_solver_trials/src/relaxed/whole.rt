@@ -141,9 +141,7 @@ fn first_turned(
     for row in rows {
         turned.push(row.basic >= helpers)?;
     }
-    for _ in rows {
-        turned.push(false)?;
-    }
+    turned.extend_from_slice(vec![in alloc; false; rows.len()]?.as_slice())?;
     Ok(turned)
 }
 
