@@ -1,8 +1,47 @@
-use crate::{apart, are_alike, cut, divides, inside, meet, minus};
+ghost use Rattle.std.specs.Prelude.{◌<◌};
+
+use pc_box::{apart, are_alike, cut, divides, inside, meet, minus};
 use pc_list::Seq;
 use pc_model::{Cut, Region, Side};
+use pc_num::Memory;
 use std::alloc::{AllocError, Global};
 use std::test::Fail;
+
+/// Whether that is what the boxes have in common.
+fn has_common(
+    alloc: Global,
+    a: &Region,
+    b: &Region,
+    wanted: Option<Region>,
+) -> Result<bool, Memory> {
+    if !are_alike(a, b) {
+        return Ok(false);
+    }
+    Ok(meet(alloc, a, b)? == wanted)
+}
+
+/// Whether that is what the second box leaves of the first.
+fn has_rest(alloc: Global, a: &Region, b: &Region, wanted: Seq<Region>) -> Result<bool, Memory> {
+    if !are_alike(a, b) {
+        return Ok(false);
+    }
+    Ok(minus(alloc, a, b)? == wanted)
+}
+
+/// Whether the cut leaves these two parts of the box.
+fn has_parts(
+    alloc: Global,
+    a: &Region,
+    at: &Cut,
+    first: Region,
+    second: Region,
+) -> Result<bool, Memory> {
+    if !are_alike(a, a) || !divides(a, at) {
+        return Ok(false);
+    }
+    let halves = cut(alloc, a, at)?;
+    Ok(halves.first == first && halves.second == second)
+}
 
 /// Some days of all branches at all prices.
 fn days(alloc: Global, low: i64, high: i64) -> Result<Region, AllocError> {
@@ -19,20 +58,30 @@ fn days(alloc: Global, low: i64, high: i64) -> Result<Region, AllocError> {
     })
 }
 
+/// Whether the days from 10 to 20 are what a box has in common with them, and those before and after them what is left.
+fn is_month(alloc: Global, month: &Region) -> Result<bool, Memory> {
+    let middle = days(alloc, 10, 20)?;
+    if !has_common(alloc, month, &middle, Some(days(alloc, 10, 20)?))? {
+        return Ok(false);
+    }
+    let wanted = vec![in alloc; days(alloc, 1, 9)?, days(alloc, 21, 31)?]?;
+    has_rest(alloc, month, &middle, Seq::from_vec(wanted))
+}
+
 #[test]
 fn days_in_common_and_left_over(rt: HostRuntime) -> Result<(), Fail> {
     let alloc = rt.alloc();
     let month = days(alloc, 1, 31)?;
-    let middle = days(alloc, 10, 20)?;
-    assert!(rt; are_alike(&month, &middle));
-    assert!(rt; meet(alloc, &month, &middle)? == Some(days(alloc, 10, 20)?));
-    let rest = minus(alloc, &month, &middle)?;
-    let wanted = vec![in alloc; days(alloc, 1, 9)?, days(alloc, 21, 31)?]?;
-    assert!(rt; rest == Seq::from_vec(wanted));
+    assert!(rt; is_month(alloc, &month)?);
+    Ok(())
+}
+
+#[test]
+fn days_apart_and_no_days(rt: HostRuntime) -> Result<(), Fail> {
+    let alloc = rt.alloc();
     let early = days(alloc, 1, 5)?;
     let later = days(alloc, 6, 9)?;
-    assert!(rt; are_alike(&early, &later));
-    assert!(rt; meet(alloc, &early, &later)?.is_none());
+    assert!(rt; has_common(alloc, &early, &later, None)?);
     let none = days(alloc, 9, 6)?;
     assert!(rt; !are_alike(&early, &none) && !are_alike(&none, &early));
     Ok(())
@@ -43,10 +92,15 @@ fn days_before_and_after(rt: HostRuntime) -> Result<(), Fail> {
     let alloc = rt.alloc();
     let month = days(alloc, 1, 31)?;
     let at = Cut::At { column: 1, at: 10 };
-    assert!(rt; are_alike(&month, &month) && divides(&month, &at));
-    let halves = cut(alloc, &month, &at)?;
-    assert!(rt; halves.first == days(alloc, 1, 10)?);
-    assert!(rt; halves.second == days(alloc, 11, 31)?);
+    assert!(rt;
+        has_parts(
+            alloc,
+            &month,
+            &at,
+            days(alloc, 1, 10)?,
+            days(alloc, 11, 31)?
+        )?
+    );
     Ok(())
 }
 
@@ -71,7 +125,7 @@ const LEAST: i64 = i64::MIN;
 const GREATEST: i64 = i64::MAX;
 
 // Two spans: what they have in common, and what of the first lies below the second and above it.
-const SPANS: [(Span, Span, Option<Span>, Option<Span>, Option<Span>); 10] = [
+static SPANS: [(Span, Span, Option<Span>, Option<Span>, Option<Span>); 10] = [
     ((1, 5), (6, 9), None, None, None),
     ((6, 9), (1, 5), None, None, None),
     ((1, 5), (5, 9), Some((5, 5)), Some((1, 4)), None),
@@ -91,7 +145,7 @@ const SPANS: [(Span, Span, Option<Span>, Option<Span>, Option<Span>); 10] = [
 ];
 
 // Two sets: what they have in common, and what of the first is not in the second.
-const SETS: [(u128, u128, u128, u128); 4] = [
+static SETS: [(u128, u128, u128, u128); 4] = [
     (0b0110, 0b0011, 0b0010, 0b0100),
     (0b0110, 0b1001, 0, 0b0110),
     (0b0010, 0b0111, 0b0010, 0),
@@ -118,38 +172,61 @@ fn left_over(
     Ok(boxes)
 }
 
+/// Whether boxes are apart, so that the whole first box is left over.
+fn are_apart(alloc: Global, a: &Region, b: &Region, whole: Region) -> Result<bool, Memory> {
+    if !are_alike(a, b) || !apart(a, b) || inside(a, b) {
+        return Ok(false);
+    }
+    let rest = Seq::from_vec(vec![in alloc; whole]?);
+    Ok(has_common(alloc, a, b, None)? && has_rest(alloc, a, b, rest)?)
+}
+
+/// Whether boxes have a box in common, and what is left over of the first one.
+fn do_meet(
+    alloc: Global,
+    a: &Region,
+    b: &Region,
+    common: Region,
+    rest: Seq<Region>,
+) -> Result<bool, Memory> {
+    if !are_alike(a, b) || apart(a, b) || inside(a, b) != rest.is_empty() {
+        return Ok(false);
+    }
+    Ok(has_rest(alloc, a, b, rest)? && has_common(alloc, a, b, Some(common))?)
+}
+
+/// Whether the boxes of a pair of spans and a pair of sets have in common and leave over what the tables say.
+fn is_pair(alloc: Global, number: usize, a: &Region, b: &Region) -> Result<bool, Memory>
+    requires { number < 40 }
+{
+    let (span, _, shared, below, above) = SPANS[number / 4];
+    let (bits, _, shared_bits, outside) = SETS[number % 4];
+    match shared {
+        Some(shared) if shared_bits != 0 => {
+            let common = small(alloc, shared, shared_bits)?;
+            let rest = left_over(alloc, [below, above], bits, shared, outside)?;
+            do_meet(alloc, a, b, common, rest)
+        }
+        _ => are_apart(alloc, a, b, small(alloc, span, bits)?),
+    }
+}
+
 // Each pair of spans with each pair of sets. Boxes are apart where the spans or the sets are.
 #[test]
 fn forty_pairs_of_boxes(rt: HostRuntime) -> Result<(), Fail> {
     let alloc = rt.alloc();
     for number in 0..40 {
-        let (span, other_span, shared, below, above) = SPANS[number / 4];
-        let (bits, other_bits, shared_bits, outside) = SETS[number % 4];
+        let (span, other_span, _, _, _) = SPANS[number / 4];
+        let (bits, other_bits, _, _) = SETS[number % 4];
         let a = small(alloc, span, bits)?;
         let b = small(alloc, other_span, other_bits)?;
-        assert!(rt; are_alike(&a, &b), "pair {number}");
-        let common = meet(alloc, &a, &b)?;
-        let rest = minus(alloc, &a, &b)?;
-        match shared {
-            Some(shared) if shared_bits != 0 => {
-                let wanted = left_over(alloc, [below, above], bits, shared, outside)?;
-                assert!(rt; common == Some(small(alloc, shared, shared_bits)?));
-                assert!(rt; inside(&a, &b) == wanted.is_empty());
-                assert!(rt; rest == wanted);
-                assert!(rt; !apart(&a, &b));
-            }
-            _ => {
-                assert!(rt; common.is_none());
-                assert!(rt; rest == Seq::from_vec(vec![in alloc; small(alloc, span, bits)?]?));
-                assert!(rt; apart(&a, &b) && !inside(&a, &b));
-            }
-        }
+        assert!(rt; is_pair(alloc, number, &a, &b)?, "pair {number}");
     }
     Ok(())
 }
 
 // A box, a cut, and the two parts that it leaves, if it divides the box.
-const CUTS: [(Span, u128, Cut, Option<(Span, u128, Span, u128)>); 13] = [
+static CUTS: [(Span, u128, Cut, Option<(Span, u128, Span, u128)>); 13] = [
     (
         (1, 9),
         6,
@@ -201,21 +278,28 @@ const CUTS: [(Span, u128, Cut, Option<(Span, u128, Span, u128)>); 13] = [
     ),
 ];
 
+/// Whether the cut leaves the parts that are wanted, or does not divide the box where none are wanted.
+fn is_cut(
+    alloc: Global,
+    a: &Region,
+    at: &Cut,
+    wanted: Option<(Span, u128, Span, u128)>,
+) -> Result<bool, Memory> {
+    match wanted {
+        Some((first, first_bits, second, second_bits)) => {
+            let first = small(alloc, first, first_bits)?;
+            has_parts(alloc, a, at, first, small(alloc, second, second_bits)?)
+        }
+        None => Ok(are_alike(a, a) && !divides(a, at)),
+    }
+}
+
 #[test]
 fn cuts_of_a_box(rt: HostRuntime) -> Result<(), Fail> {
     let alloc = rt.alloc();
     for (number, (span, bits, at, wanted)) in CUTS.into_iter().enumerate() {
         let a = small(alloc, span, bits)?;
-        assert!(rt; are_alike(&a, &a));
-        assert!(rt; divides(&a, &at) == wanted.is_some(), "case {number}");
-        if !divides(&a, &at) {
-            continue;
-        }
-        let halves = cut(alloc, &a, &at)?;
-        if let Some((first, first_bits, second, second_bits)) = wanted {
-            assert!(rt; halves.first == small(alloc, first, first_bits)?);
-            assert!(rt; halves.second == small(alloc, second, second_bits)?);
-        }
+        assert!(rt; is_cut(alloc, &a, &at, wanted)?, "case {number}");
     }
     Ok(())
 }

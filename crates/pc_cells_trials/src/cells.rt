@@ -1,19 +1,26 @@
-ghost use Rattle.std.specs.Prelude.{All};
+ghost use Rattle.std.specs.Prelude.{◌≡◌, ◌≤◌, true, length, All};
+ghost use Rattle.pc_model.specs.Accepted.{constraint_limit};
+ghost use Rattle.pc_model.specs.Boxes.{IsServable};
+ghost use Rattle.pc_model.specs.Regions.{is_region_of};
+ghost use Rattle.pc_model.specs.WellFormed.{IsWellFormed, HaveFewNames};
 ghost use Rattle.pc_cells.specs.Found.{IsFilled};
 
 mod drawn;
 mod plain;
 mod shared;
 
-use crate::{Cells, decompose, pairwise_apart};
+use pc_cells::{Cells, decompose, pairwise_apart};
 use pc_lang::{read_constraints, read_query};
+use pc_model::{Constraint, Region, Schema};
+use pc_num::Memory;
 use pc_schema::read_schema;
+use std::alloc::Global;
 use std::test::Fail;
 
 const SHOP: &[u8] = b"branch,cat,Chicago,NewYork,Trenton\nday,int,1,31\nprice,dec,2,0.00,1000.00\n";
 
 // Constraints, a query, how many cells there are, and whether no row is under two constraints.
-const CASES: [(&str, &str, usize, bool); 9] = [
+static CASES: [(&str, &str, usize, bool); 9] = [
     ("", "count", 0, true),
     (
         "c1: branch = Chicago => price in 0.00..149.99, 0..5\nc2: true => price in 0.00..100.00, 0..3\n",
@@ -65,8 +72,10 @@ const CASES: [(&str, &str, usize, bool); 9] = [
     ),
 ];
 
-// Of each cell the number of its case, its mask, whether the query chooses it, and the ends of days and of prices.
-const CELLS: [(usize, u32, bool, (i64, i64), (i64, i64)); 16] = [
+/// Of a cell the number of its case, its mask, whether the query chooses it, and the ends of days and of prices.
+type Found = (usize, u32, bool, (i64, i64), (i64, i64));
+
+static CELLS: [Found; 16] = [
     (1, 3, true, (1, 31), (0, 10000)),
     (1, 2, true, (1, 31), (0, 10000)),
     (3, 1, true, (1, 10), (0, 100000)),
@@ -104,36 +113,84 @@ fn place_of(found: &Cells, mask: u32, chosen: bool) -> Option<usize> {
         .position(|cell| cell.mask == mask && cell.chosen == chosen)
 }
 
+/// Whether a cell of the case is there and has these ends.
+fn has_cell(found: &Cells, cell: &Found) -> bool
+    requires { All IsFilled found.now.cells }
+{
+    let (_, mask, chosen, days, prices) = *cell;
+    match place_of(found, mask, chosen) {
+        Some(place) => has_ends(found, place, 1, days) && has_ends(found, place, 2, prices),
+        None => false,
+    }
+}
+
+/// Whether all cells of the case are there.
+fn has_cells_of(found: &Cells, case: usize) -> bool
+    requires { All IsFilled found.now.cells }
+{
+    for cell in &CELLS {
+        if cell.0 == case && !has_cell(found, cell) {
+            return false;
+        }
+    }
+    true
+}
+
+fn are_cells_of(
+    alloc: Global,
+    schema: &Schema,
+    constraints: &[Constraint],
+    chosen: &Region,
+    case: usize,
+    count: usize,
+) -> Result<bool, Memory>
+    requires well_formed { IsWellFormed schema.now }
+    requires few { length constraints.now ≤ constraint_limit }
+    requires servable { All (IsServable schema.now) constraints.now }
+    requires chosen { is_region_of schema.now chosen.now ≡ true }
+{
+    let found = decompose(alloc, schema, constraints, chosen)?;
+    Ok(found.cells.len() == count && has_cells_of(&found, case))
+}
+
+/// Whether no row is under two constraints.
+fn are_apart(schema: &Schema, constraints: &[Constraint]) -> bool
+    requires few { length constraints.now ≤ constraint_limit }
+    requires servable { All (IsServable schema.now) constraints.now }
+{
+    let _schema = schema;
+    pairwise_apart(constraints)
+}
+
+/// Whether the case is answered as it says; false where its texts are refused.
+fn is_case(alloc: Global, schema: &Schema, case: usize) -> Result<bool, Memory>
+    requires well_formed { IsWellFormed schema.now }
+    requires few_names { HaveFewNames schema.now.columns }
+{
+    let Some(&(text, question, count, disjoint)) = CASES.get(case) else {
+        return Ok(false);
+    };
+    let Ok(constraints) = read_constraints(alloc, schema, text.as_bytes()) else {
+        return Ok(false);
+    };
+    let Ok(query) = read_query(alloc, schema, question, 1) else {
+        return Ok(false);
+    };
+    let constraints = constraints.as_slice();
+    Ok(
+        are_apart(schema, constraints) == disjoint
+            && are_cells_of(alloc, schema, constraints, &query.chosen, case, count)?,
+    )
+}
+
 #[test]
 fn cells_of_a_shop(rt: HostRuntime) -> Result<(), Fail> {
     let alloc = rt.alloc();
     let Ok(schema) = read_schema(alloc, SHOP) else {
-        assert!(rt; false, "no schema");
-        return Ok(());
+        return Err(Fail::new("no schema"));
     };
-    for (number, (text, question, count, disjoint)) in CASES.into_iter().enumerate() {
-        let Ok(constraints) = read_constraints(alloc, &schema, text.as_bytes()) else {
-            assert!(rt; false, "case {number}");
-            return Ok(());
-        };
-        let Ok(query) = read_query(alloc, &schema, question, 1) else {
-            assert!(rt; false, "case {number}");
-            return Ok(());
-        };
-        let constraints = constraints.as_slice();
-        assert!(rt; pairwise_apart(constraints) == disjoint, "case {number}");
-        let found = decompose(alloc, &schema, constraints, &query.chosen)?;
-        assert!(rt; found.cells.len() == count, "case {number}");
-        for (case, mask, chosen, days, prices) in CELLS {
-            if case == number {
-                let Some(place) = place_of(&found, mask, chosen) else {
-                    assert!(rt; false, "case {number}");
-                    return Ok(());
-                };
-                assert!(rt; has_ends(&found, place, 1, days), "case {number}");
-                assert!(rt; has_ends(&found, place, 2, prices), "case {number}");
-            }
-        }
+    for case in 0..CASES.len() {
+        assert!(rt; is_case(alloc, &schema, case)?, "case {case}");
     }
     Ok(())
 }

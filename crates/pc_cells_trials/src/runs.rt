@@ -1,6 +1,7 @@
-use crate::{fold_runs, meets, rebuild, total_times};
 use pc_list::{Seq, Text};
 use pc_model::{Agg, Column, Constraint, Folded, Kind, Query, Region, Row, Run, Schema, Side};
+use pc_num::Memory;
+use pc_witness::{fold_runs, meets, rebuild, total_times};
 use std::alloc::{AllocError, Global};
 use std::test::Fail;
 
@@ -26,14 +27,11 @@ fn weeks(alloc: Global, low: i64, high: i64) -> Result<Region, AllocError> {
     })
 }
 
-// From `least` to `most` rows in the weeks of `when`, which are in the weeks of `values`.
-fn constraint(
-    alloc: Global,
-    when: (i64, i64),
-    values: (i64, i64),
-    least: u64,
-    most: u64,
-) -> Result<Constraint, AllocError> {
+// From the least to the most rows in the first weeks, which are in the second ones.
+type Limits = ((i64, i64), (i64, i64), u64, u64);
+
+fn constraint(alloc: Global, limits: &Limits) -> Result<Constraint, AllocError> {
+    let (when, values, least, most) = *limits;
     Ok(Constraint {
         name: Text::from_text(alloc, "c")?,
         when: weeks(alloc, when.0, when.1)?,
@@ -42,6 +40,17 @@ fn constraint(
         most,
     })
 }
+
+fn constraints_of(alloc: Global, listed: &[Limits]) -> Result<Vec<Constraint>, AllocError> {
+    let mut constraints = Vec::new(alloc);
+    for limits in listed {
+        constraints.push(constraint(alloc, limits)?)?;
+    }
+    Ok(constraints)
+}
+
+// The times, the item and the week of each run.
+type Listed = &'static [(u64, i64, i64)];
 
 // A run for each number of times, item and week.
 fn runs_of(alloc: Global, listed: &[(u64, i64, i64)]) -> Result<Vec<Run>, AllocError> {
@@ -66,70 +75,94 @@ fn rows_of(alloc: Global, items: &[i64]) -> Result<Vec<Row>, AllocError> {
     Ok(rows)
 }
 
+const ANY: (i64, i64) = (1, 4);
+
+const TWO: &[Limits] = &[((1, 2), ANY, 1, 3), ((4, 4), ANY, 0, 2)];
+
+const NEVER: &[Limits] = &[((1, 1), (2, 2), 1, 2)];
+
+const NONE: &[Limits] = &[((1, 1), (2, 2), 0, 2)];
+
+const SHARED: &[Limits] = &[((1, 2), ANY, 1, 3), ((2, 2), ANY, 0, 1)];
+
+const MANY: &[Limits] = &[((1, 2), ANY, 1, u64::MAX)];
+
+// Constraints, runs, and whether they are possible.
+static RUNS: [(&[Limits], Listed, bool); 19] = [
+    (TWO, &[], false),
+    (TWO, &[(1, 1, 1)], true),
+    (TWO, &[(3, 1, 1), (2, 1, 4)], true),
+    (TWO, &[(2, 1, 1), (2, 1, 4)], true),
+    (TWO, &[(4, 1, 1), (2, 1, 4)], false),
+    (TWO, &[(3, 1, 1), (3, 1, 4)], false),
+    (TWO, &[(1, 1, 1), (1, 1, 3)], false),
+    (TWO, &[(1, 1, 3)], false),
+    (TWO, &[(1, 10, 1)], false),
+    (TWO, &[(1, 1, 1), (0, 1, 1)], false),
+    (NEVER, &[], false),
+    (NEVER, &[(1, 1, 1)], false),
+    (NEVER, &[(1, 1, 2)], false),
+    (NONE, &[], true),
+    (NONE, &[(1, 1, 1)], false),
+    (SHARED, &[(1, 1, 2)], true),
+    (SHARED, &[(2, 1, 2)], false),
+    (SHARED, &[(1, 1, 1)], true),
+    (MANY, &[(u64::MAX, 1, 1), (1, 1, 1)], false),
+];
+
+fn are_possible(
+    alloc: Global,
+    schema: &Schema,
+    limits: &[Limits],
+    listed: &[(u64, i64, i64)],
+) -> Result<bool, AllocError> {
+    let constraints = constraints_of(alloc, limits)?;
+    let runs = runs_of(alloc, listed)?;
+    Ok(meets(schema, constraints.as_slice(), runs.as_slice()))
+}
+
 #[test]
 fn possible_runs(rt: HostRuntime) -> Result<(), Fail> {
     let alloc = rt.alloc();
     let schema = schema(alloc)?;
-    let any = (1, 4);
-    let two = vec![in alloc;
-        constraint(alloc, (1, 2), any, 1, 3)?,
-        constraint(alloc, (4, 4), any, 0, 2)?,
-    ]?;
-    let never = vec![in alloc; constraint(alloc, (1, 1), (2, 2), 1, 2)?]?;
-    let none = vec![in alloc; constraint(alloc, (1, 1), (2, 2), 0, 2)?]?;
-    let shared = vec![in alloc;
-        constraint(alloc, (1, 2), any, 1, 3)?,
-        constraint(alloc, (2, 2), any, 0, 1)?,
-    ]?;
-    let many = vec![in alloc; constraint(alloc, (1, 2), any, 1, u64::MAX)?]?;
-    let cases: [(&[Constraint], &[(u64, i64, i64)], bool); 19] = [
-        (&two, &[], false),
-        (&two, &[(1, 1, 1)], true),
-        (&two, &[(3, 1, 1), (2, 1, 4)], true),
-        (&two, &[(2, 1, 1), (2, 1, 4)], true),
-        (&two, &[(4, 1, 1), (2, 1, 4)], false),
-        (&two, &[(3, 1, 1), (3, 1, 4)], false),
-        (&two, &[(1, 1, 1), (1, 1, 3)], false),
-        (&two, &[(1, 1, 3)], false),
-        (&two, &[(1, 10, 1)], false),
-        (&two, &[(1, 1, 1), (0, 1, 1)], false),
-        (&never, &[], false),
-        (&never, &[(1, 1, 1)], false),
-        (&never, &[(1, 1, 2)], false),
-        (&none, &[], true),
-        (&none, &[(1, 1, 1)], false),
-        (&shared, &[(1, 1, 2)], true),
-        (&shared, &[(2, 1, 2)], false),
-        (&shared, &[(1, 1, 1)], true),
-        (&many, &[(u64::MAX, 1, 1), (1, 1, 1)], false),
-    ];
-    for (number, (constraints, listed, possible)) in cases.into_iter().enumerate() {
-        let runs = runs_of(alloc, listed)?;
+    for (number, (limits, listed, possible)) in RUNS.iter().enumerate() {
         assert!(rt;
-            meets(&schema, constraints, &runs) == possible,
+            are_possible(alloc, &schema, limits, listed)? == *possible,
             "case {number}"
         );
     }
     Ok(())
 }
 
+// Items, how often each has been lost, and the runs.
+static COUNTS: [(&[i64], &[u64], Listed); 6] = [
+    (&[], &[], &[]),
+    (&[1, 2, 3], &[0, 0, 0], &[]),
+    (&[4], &[2], &[(2, 4, 1)]),
+    (&[4, 3, 2, 1], &[0, 3, 0, 1], &[(3, 3, 1), (1, 1, 1)]),
+    (&[1, 2, 3], &[1, 2, 0], &[(1, 1, 1), (2, 2, 1)]),
+    (&[5, 5], &[1, u64::MAX], &[(1, 5, 1), (u64::MAX, 5, 1)]),
+];
+
+fn are_rebuilt(
+    alloc: Global,
+    items: &[i64],
+    counts: &[u64],
+    listed: &[(u64, i64, i64)],
+) -> Result<bool, Memory> {
+    let picks = rows_of(alloc, items)?;
+    if picks.len() != counts.len() {
+        return Ok(false);
+    }
+    let runs = rebuild(alloc, picks.as_slice(), counts)?;
+    Ok(runs.as_slice() == runs_of(alloc, listed)?.as_slice())
+}
+
 #[test]
 fn runs_of_counts(rt: HostRuntime) -> Result<(), Fail> {
     let alloc = rt.alloc();
-    let cases: [(&[i64], &[u64], &[(u64, i64, i64)]); 6] = [
-        (&[], &[], &[]),
-        (&[1, 2, 3], &[0, 0, 0], &[]),
-        (&[4], &[2], &[(2, 4, 1)]),
-        (&[4, 3, 2, 1], &[0, 3, 0, 1], &[(3, 3, 1), (1, 1, 1)]),
-        (&[1, 2, 3], &[1, 2, 0], &[(1, 1, 1), (2, 2, 1)]),
-        (&[5, 5], &[1, u64::MAX], &[(1, 5, 1), (u64::MAX, 5, 1)]),
-    ];
-    for (number, (items, counts, listed)) in cases.into_iter().enumerate() {
-        let picks = rows_of(alloc, items)?;
-        let wanted = runs_of(alloc, listed)?;
-        assert!(rt; picks.len() == counts.len());
-        let runs = rebuild(alloc, &picks, counts)?;
-        assert!(rt; runs.as_slice() == wanted.as_slice(), "case {number}");
+    for (number, (items, counts, listed)) in COUNTS.iter().enumerate() {
+        assert!(rt; are_rebuilt(alloc, items, counts, listed)?, "case {number}");
     }
     Ok(())
 }
@@ -153,71 +186,98 @@ fn query(alloc: Global, column: Option<u8>) -> Result<Query, AllocError> {
     })
 }
 
-fn folded(count: u64, sum: i128, least: Option<i64>, greatest: Option<i64>) -> Folded {
-    Folded {
-        count,
-        sum,
-        least,
-        greatest,
+// A count, a sum, the least and the greatest number.
+type Parts = (u64, i128, Option<i64>, Option<i64>);
+
+const NOTHING: Parts = (0, 0, None, None);
+
+const MIXED: Listed = &[(3, 5, 2), (2, -7, 3), (4, 9, 1), (0, -8, 2)];
+
+const MOST: u64 = 68_719_476_736;
+
+// A column, runs, and what their rows come to.
+static FOLDS: [(Option<u8>, Listed, Parts); 10] = [
+    (None, &[], NOTHING),
+    (Some(0), &[], NOTHING),
+    (Some(0), &[(4, 9, 1)], NOTHING),
+    (Some(0), &[(0, -8, 2)], NOTHING),
+    (None, MIXED, (5, 0, None, None)),
+    (Some(0), MIXED, (5, 1, Some(-7), Some(5))),
+    (Some(1), MIXED, (5, 12, Some(2), Some(3))),
+    (Some(2), MIXED, (5, 0, Some(0), Some(0))),
+    (
+        Some(0),
+        &[(2, -4, 2), (1, -9, 3), (2, -4, 2)],
+        (5, -25, Some(-9), Some(-4)),
+    ),
+    (
+        Some(0),
+        &[(MOST, i64::MIN, 2)],
+        (
+            MOST,
+            -633_825_300_114_114_700_748_351_602_688,
+            Some(i64::MIN),
+            Some(i64::MIN),
+        ),
+    ),
+];
+
+fn are_folded(
+    alloc: Global,
+    column: Option<u8>,
+    listed: &[(u64, i64, i64)],
+    wanted: Parts,
+) -> Result<bool, AllocError> {
+    let query = query(alloc, column)?;
+    let runs = runs_of(alloc, listed)?;
+    let runs = runs.as_slice();
+    if total_times(runs).is_none() {
+        return Ok(false);
     }
+    let (count, sum, least, greatest) = wanted;
+    Ok(
+        fold_runs(&query, runs)
+            == Folded {
+                count,
+                sum,
+                least,
+                greatest,
+            },
+    )
 }
 
 #[test]
 fn folds_of_runs(rt: HostRuntime) -> Result<(), Fail> {
     let alloc = rt.alloc();
-    let nothing = folded(0, 0, None, None);
-    let mixed = [(3, 5, 2), (2, -7, 3), (4, 9, 1), (0, -8, 2)];
-    let most = 68_719_476_736;
-    let cases: [(Option<u8>, &[(u64, i64, i64)], Folded); 10] = [
-        (None, &[], nothing),
-        (Some(0), &[], nothing),
-        (Some(0), &[(4, 9, 1)], nothing),
-        (Some(0), &[(0, -8, 2)], nothing),
-        (None, &mixed, folded(5, 0, None, None)),
-        (Some(0), &mixed, folded(5, 1, Some(-7), Some(5))),
-        (Some(1), &mixed, folded(5, 12, Some(2), Some(3))),
-        (Some(2), &mixed, folded(5, 0, Some(0), Some(0))),
-        (
-            Some(0),
-            &[(2, -4, 2), (1, -9, 3), (2, -4, 2)],
-            folded(5, -25, Some(-9), Some(-4)),
-        ),
-        (
-            Some(0),
-            &[(most, i64::MIN, 2)],
-            folded(
-                most,
-                -633_825_300_114_114_700_748_351_602_688,
-                Some(i64::MIN),
-                Some(i64::MIN),
-            ),
-        ),
-    ];
-    for (number, (column, listed, wanted)) in cases.into_iter().enumerate() {
-        let query = query(alloc, column)?;
-        let runs = runs_of(alloc, listed)?;
-        assert!(rt; total_times(&runs).is_some());
-        assert!(rt; fold_runs(&query, &runs) == wanted, "case {number}");
+    for (number, (column, listed, wanted)) in FOLDS.iter().enumerate() {
+        assert!(rt;
+            are_folded(alloc, *column, listed, *wanted)?,
+            "case {number}"
+        );
     }
     Ok(())
+}
+
+static TOTALS: [(Listed, Option<u64>); 7] = [
+    (&[], Some(0)),
+    (&[(0, 1, 1)], Some(0)),
+    (&[(5, 1, 1), (0, 1, 1), (7, 2, 1)], Some(12)),
+    (&[(MOST, 1, 1), (0, 1, 1)], Some(MOST)),
+    (&[(MOST, 1, 1), (1, 1, 1)], None),
+    (&[(MOST + 1, 1, 1)], None),
+    (&[(u64::MAX, 1, 1), (u64::MAX, 1, 1)], None),
+];
+
+fn total_of(alloc: Global, listed: &[(u64, i64, i64)]) -> Result<Option<u64>, AllocError> {
+    let runs = runs_of(alloc, listed)?;
+    Ok(total_times(runs.as_slice()))
 }
 
 #[test]
 fn totals_of_runs(rt: HostRuntime) -> Result<(), Fail> {
     let alloc = rt.alloc();
-    let most = 68_719_476_736;
-    let cases: [(&[(u64, i64, i64)], Option<u64>); 7] = [
-        (&[], Some(0)),
-        (&[(0, 1, 1)], Some(0)),
-        (&[(5, 1, 1), (0, 1, 1), (7, 2, 1)], Some(12)),
-        (&[(most, 1, 1), (0, 1, 1)], Some(most)),
-        (&[(most, 1, 1), (1, 1, 1)], None),
-        (&[(most + 1, 1, 1)], None),
-        (&[(u64::MAX, 1, 1), (u64::MAX, 1, 1)], None),
-    ];
-    for (number, (listed, wanted)) in cases.into_iter().enumerate() {
-        let runs = runs_of(alloc, listed)?;
-        assert!(rt; total_times(&runs) == wanted, "case {number}");
+    for (number, (listed, wanted)) in TOTALS.iter().enumerate() {
+        assert!(rt; total_of(alloc, listed)? == *wanted, "case {number}");
     }
     Ok(())
 }

@@ -1,204 +1,250 @@
-ghost use Rattle.std.specs.Prelude.{◌≡◌, All, IfOk, IsTrue};
+ghost use Rattle.std.specs.Prelude.{◌≡◌, ◌≤◌, true, length, All};
+ghost use Rattle.pc_model.specs.Accepted.{constraint_limit};
 ghost use Rattle.pc_model.specs.Boxes.{IsServable};
-ghost use Rattle.pc_cells_tree.specs.Decisions.{IsAlikeTo};
-ghost use Rattle.pc_cells_trials.specs.Days.{month, days};
+ghost use Rattle.pc_model.specs.Regions.{is_region_of};
+ghost use Rattle.pc_model.specs.WellFormed.{IsWellFormed};
 
-use crate::choice::cut_through;
-use crate::decision::{Crossing, Finding, find};
-use crate::stance::{Stance, compare};
-use crate::{marked, refined};
-use pc_box::{are_alike, inside};
-use pc_list::{Seq, Text};
-use pc_model::{Column, Constraint, Cut, CutNode, Kind, LeafMark, Region, Schema, Side};
-use std::alloc::{AllocError, Global};
+use pc_cells_tree::{Growth, marked, refined};
+use pc_lang::{read_constraints, read_query};
+use pc_model::{Constraint, Cut, CutNode, LeafMark, Region, Schema};
+use pc_schema::read_schema;
+use std::alloc::Global;
 use std::test::Fail;
 
-fn month(alloc: Global) -> Result<Schema, AllocError>
-    ensures { IfOk result (λ schema. schema ≡ month) }
-{
-    let day = Column {
-        name: Text::from_text(alloc, "day")?,
-        kind: Kind::Int { low: 1, high: 31 },
-    };
-    Ok(Schema {
-        columns: Seq::from_vec(vec![in alloc; day]?),
-    })
-}
+/// A domain, its constraints and a query.
+type Texts = (&'static str, &'static str, &'static str);
 
-fn days(alloc: Global, low: i64, high: i64) -> Result<Region, AllocError>
-    ensures { IfOk result (λ region. region ≡ days low high) }
+/// The tree of one leaf, cut on and marked.
+#[tactic(auto, using(pc_cells_tree::proofs::Starts::one_leaf_is_tree))]
+fn grown(
+    alloc: Global,
+    schema: &Schema,
+    constraints: &[Constraint],
+    chosen: &Region,
+) -> Result<Growth, Fail>
+    requires well_formed { IsWellFormed schema.now }
+    requires few { length constraints.now ≤ constraint_limit }
+    requires servable { All (IsServable schema.now) constraints.now }
+    requires chosen { is_region_of schema.now chosen.now ≡ true }
 {
-    let sides = vec![in alloc; Side::Span { low, high }]?;
-    Ok(Region {
-        sides: Seq::from_vec(sides),
-    })
-}
-
-// Rows of the first ten days are of the first five.
-fn early_days(alloc: Global) -> Result<Constraint, AllocError>
-    ensures { IfOk result (IsServable month) }
-{
-    Ok(Constraint {
-        name: Text::from_text(alloc, "early")?,
-        when: days(alloc, 1, 10)?,
-        values: days(alloc, 1, 5)?,
-        least: 0,
-        most: 9,
-    })
-}
-
-#[test]
-#[tactic(auto, using(crate::proofs::Month::steps))]
-fn a_month_for_one_constraint(rt: HostRuntime) -> Result<(), Fail> {
-    let alloc = rt.alloc();
-    let schema = month(alloc)?;
-    let chosen = days(alloc, 4, 31)?;
-    let constraints = [early_days(alloc)?];
     let start = [CutNode::Leaf {
         mark: LeafMark::Barren,
     }];
-    let more = refined(alloc, &schema, &constraints, &chosen, &start)?;
-    assert_eq!(rt; more.cuts, 3);
-    let growth = marked(alloc, &schema, &constraints, &chosen, more.nodes.as_slice())?;
-    let cut = |at, first, second| CutNode::Inner {
-        cut: Cut::At { column: 0, at },
-        first,
-        second,
-    };
-    let mark = |chosen| LeafMark::Class { mask: 1, chosen };
-    assert!(rt;
-        growth.nodes.as_slice()
-            == [
-                cut(10, 1, 6),
-                cut(5, 2, 5),
-                cut(3, 3, 4),
-                CutNode::Leaf { mark: mark(false) },
-                CutNode::Leaf { mark: mark(true) },
-                CutNode::Leaf {
-                    mark: LeafMark::Barren
-                },
-                CutNode::Leaf {
-                    mark: LeafMark::Barren
-                },
-            ]
-            .as_slice()
-    );
-    assert_eq!(rt; growth.leaves.len(), 4);
-    Ok(())
-}
-
-#[test]
-fn names_in_and_out_of_a_set(rt: HostRuntime) -> Result<(), Fail> {
-    let alloc = rt.alloc();
-    let all = names(alloc, 0b111)?;
-    let two = names(alloc, 0b011)?;
-    let third = names(alloc, 0b100)?;
-    assert!(rt; are_alike(&all, &two) && are_alike(&two, &all) && are_alike(&two, &third));
-    assert!(rt; all.sides.len() <= 12 && two.sides.len() <= 12);
-    assert!(rt; compare(&all, &two) == Stance::Across { faces: 1 });
-    assert!(rt; compare(&two, &all) == Stance::Inside);
-    assert!(rt; compare(&two, &third) == Stance::Apart);
-    Ok(())
-}
-
-fn names(alloc: Global, bits: u128) -> Result<Region, AllocError> {
-    let sides = vec![in alloc; Side::Names { bits }]?;
-    Ok(Region {
-        sides: Seq::from_vec(sides),
-    })
-}
-
-// A box of two columns.
-fn field(alloc: Global, across: (i64, i64), along: (i64, i64)) -> Result<Region, AllocError> {
-    let sides = vec![in alloc;
-        Side::Span {
-            low: across.0,
-            high: across.1
-        },
-        Side::Span {
-            low: along.0,
-            high: along.1
-        },
-    ]?;
-    Ok(Region {
-        sides: Seq::from_vec(sides),
-    })
-}
-
-fn rule(alloc: Global, when: Region, values: Region) -> Result<Constraint, AllocError> {
-    Ok(Constraint {
-        name: Text::from_text(alloc, "rule")?,
-        when,
-        values,
-        least: 0,
-        most: 9,
-    })
-}
-
-// The regions of all constraints have the columns of the box.
-fn all_alike(part: &Region, constraints: &[Constraint]) -> bool
-    ensures { IsTrue result → All (IsAlikeTo part.now) constraints.now }
-{
-    for constraint in constraints {
-        if !are_alike(part, &constraint.when) {
-            return false;
-        }
-        if !are_alike(part, &constraint.values) {
-            return false;
-        }
+    let more = refined(alloc, schema, constraints, chosen, &start)?;
+    let growth = marked(alloc, schema, constraints, chosen, more.nodes.as_slice())?;
+    if more.cuts.saturating_add(1) != growth.leaves.len() as u64 {
+        return Err(Fail::new("a cut for each leaf but one"));
     }
-    true
+    Ok(growth)
+}
+
+fn tree_of(alloc: Global, texts: &Texts) -> Result<Growth, Fail> {
+    let (domain, lines, question) = *texts;
+    let Ok(schema) = read_schema(alloc, domain.as_bytes()) else {
+        return Err(Fail::new("no schema"));
+    };
+    let Ok(constraints) = read_constraints(alloc, &schema, lines.as_bytes()) else {
+        return Err(Fail::new("no constraints"));
+    };
+    let Ok(query) = read_query(alloc, &schema, question, 1) else {
+        return Err(Fail::new("no query"));
+    };
+    grown(alloc, &schema, constraints.as_slice(), &query.chosen)
+}
+
+const NAMES: &str = "item,cat,x,y,z\n";
+
+// Trees of so many leaves.
+static TREES: [(Texts, &[CutNode], usize); 4] = [
+    // Rows of the first ten days are of the first five.
+    (
+        (
+            "day,int,1,31\n",
+            "early: day in 1..10 => day in 1..5, 0..9\n",
+            "count where day >= 4",
+        ),
+        &[
+            CutNode::Inner {
+                cut: Cut::At { column: 0, at: 10 },
+                first: 1,
+                second: 6,
+            },
+            CutNode::Inner {
+                cut: Cut::At { column: 0, at: 5 },
+                first: 2,
+                second: 5,
+            },
+            CutNode::Inner {
+                cut: Cut::At { column: 0, at: 3 },
+                first: 3,
+                second: 4,
+            },
+            CutNode::Leaf {
+                mark: LeafMark::Class {
+                    mask: 1,
+                    chosen: false,
+                },
+            },
+            CutNode::Leaf {
+                mark: LeafMark::Class {
+                    mask: 1,
+                    chosen: true,
+                },
+            },
+            CutNode::Leaf {
+                mark: LeafMark::Barren,
+            },
+            CutNode::Leaf {
+                mark: LeafMark::Barren,
+            },
+        ],
+        4,
+    ),
+    // All names reach beyond two of them, these are inside all, and the third is apart from them.
+    (
+        (NAMES, "two: item in {x, y} => true, 0..9\n", "count"),
+        &[
+            CutNode::Inner {
+                cut: Cut::Among { column: 0, bits: 3 },
+                first: 1,
+                second: 2,
+            },
+            CutNode::Leaf {
+                mark: LeafMark::Class {
+                    mask: 1,
+                    chosen: true,
+                },
+            },
+            CutNode::Leaf {
+                mark: LeafMark::Barren,
+            },
+        ],
+        2,
+    ),
+    // The two names are apart from the one that is asked for.
+    (
+        (
+            NAMES,
+            "two: item in {x, y} => true, 0..9\n",
+            "count where item = z",
+        ),
+        &[
+            CutNode::Inner {
+                cut: Cut::Among { column: 0, bits: 3 },
+                first: 1,
+                second: 2,
+            },
+            CutNode::Leaf {
+                mark: LeafMark::Class {
+                    mask: 1,
+                    chosen: false,
+                },
+            },
+            CutNode::Leaf {
+                mark: LeafMark::Barren,
+            },
+        ],
+        2,
+    ),
+    // Nothing is cut where all rows are of all names.
+    (
+        (NAMES, "all: true => true, 0..9\n", "count"),
+        &[CutNode::Leaf {
+            mark: LeafMark::Class {
+                mask: 1,
+                chosen: true,
+            },
+        }],
+        1,
+    ),
+];
+
+fn is_tree(alloc: Global, texts: &Texts, nodes: &[CutNode], leaves: usize) -> Result<bool, Fail> {
+    let growth = tree_of(alloc, texts)?;
+    Ok(growth.nodes.as_slice() == nodes && growth.leaves.len() == leaves)
 }
 
 #[test]
-fn the_cut_that_passes_through_fewer_predicates(rt: HostRuntime) -> Result<(), Fail> {
+fn trees_for_one_constraint(rt: HostRuntime) -> Result<(), Fail> {
     let alloc = rt.alloc();
-    let part = field(alloc, (1, 10), (1, 10))?;
-    let region = field(alloc, (1, 5), (1, 5))?;
-    let constraints = [rule(
-        alloc,
-        field(alloc, (3, 8), (1, 4))?,
-        field(alloc, (1, 10), (1, 10))?,
-    )?];
-    assert!(rt; part.sides.len() <= 12);
-    assert!(rt; are_alike(&part, &region) && all_alike(&part, &constraints));
-    assert!(rt; !inside(&part, &region));
-    let cut = cut_through(&part, &region, &constraints);
-    assert!(rt; cut == Cut::At { column: 1, at: 5 });
+    for (place, (texts, nodes, leaves)) in TREES.iter().enumerate() {
+        assert!(rt; is_tree(alloc, texts, nodes, *leaves)?, "tree {place}");
+    }
     Ok(())
 }
 
+const FIELD: &str = "across,int,1,10\nalong,int,1,10\n";
+
+const ITEMS: &str = "across,int,1,10\nitem,cat,x,y,z\n";
+
+// The first cut of the whole domain.
+static FIRST_CUTS: [(Texts, Cut); 5] = [
+    // The cut that passes through fewer predicates: a cut across at 5 would pass through the second one.
+    (
+        (
+            FIELD,
+            "near: across in 1..5 and along in 1..5 => true, 0..9\nrule: across in 3..8 and along in 1..4 => true, 0..9\n",
+            "count",
+        ),
+        Cut::At { column: 1, at: 5 },
+    ),
+    // A predicate that is left open at four ends.
+    (
+        (
+            FIELD,
+            "far: across in 3..8 and along in 3..8 => true, 0..9\n",
+            "count",
+        ),
+        Cut::At { column: 0, at: 2 },
+    ),
+    // Before it comes one that is left open at one end.
+    (
+        (
+            FIELD,
+            "far: across in 3..8 and along in 3..8 => true, 0..9\nnear: across in 1..7 => true, 0..9\n",
+            "count",
+        ),
+        Cut::At { column: 0, at: 7 },
+    ),
+    // Before both come values, also where two of their ends are left open.
+    (
+        (
+            FIELD,
+            "far: across in 3..8 and along in 3..8 => true, 0..9\nnear: across in 1..7 => true, 0..9\nwithin: true => across in 1..5 and along in 1..5, 0..9\n",
+            "count",
+        ),
+        Cut::At { column: 0, at: 5 },
+    ),
+    // A set of names is left open once, and a span twice.
+    (
+        (
+            ITEMS,
+            "far: across in 3..8 => true, 0..9\nnear: item in {x, y} => true, 0..9\n",
+            "count",
+        ),
+        Cut::Among { column: 1, bits: 3 },
+    ),
+];
+
+fn is_cut_first(alloc: Global, texts: &Texts, wanted: Cut) -> Result<bool, Fail> {
+    let growth = tree_of(alloc, texts)?;
+    match growth.nodes.as_slice().first() {
+        Some(
+            CutNode::Inner {
+                cut,
+                first: _first,
+                second: _second,
+            },
+        ) => Ok(*cut == wanted),
+        _ => Ok(false),
+    }
+}
+
 #[test]
-fn the_crossed_constraint_that_is_cut_first(rt: HostRuntime) -> Result<(), Fail> {
+fn cuts_that_come_first(rt: HostRuntime) -> Result<(), Fail> {
     let alloc = rt.alloc();
-    let part = field(alloc, (1, 10), (1, 10))?;
-    let far = rule(
-        alloc,
-        field(alloc, (3, 8), (3, 8))?,
-        field(alloc, (1, 10), (1, 10))?,
-    )?;
-    let near = rule(
-        alloc,
-        field(alloc, (1, 5), (1, 10))?,
-        field(alloc, (1, 10), (1, 10))?,
-    )?;
-    let within = rule(
-        alloc,
-        field(alloc, (1, 10), (1, 10))?,
-        field(alloc, (1, 5), (1, 5))?,
-    )?;
-    let constraints = [far, near, within];
-    assert!(rt; part.sides.len() <= 12 && all_alike(&part, &constraints));
-    let crossed = |place, within, faces| {
-        Finding::Crossed(Crossing {
-            place,
-            within,
-            faces,
-        })
-    };
-    assert!(rt; find(&part, &constraints) == crossed(2, true, 2));
-    let fewer = &constraints[..2];
-    assert!(rt; all_alike(&part, fewer));
-    assert!(rt; find(&part, fewer) == crossed(1, false, 1));
+    for (place, (texts, cut)) in FIRST_CUTS.iter().enumerate() {
+        assert!(rt; is_cut_first(alloc, texts, *cut)?, "domain {place}");
+    }
     Ok(())
 }

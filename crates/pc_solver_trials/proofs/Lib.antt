@@ -1,4 +1,3 @@
-pub mod Examples
 pub mod FrontierSamples
 pub mod ShortSamples
 pub mod ShownWalks

@@ -1,3 +1,4 @@
 pub mod FrontierSamples
+pub mod Samples
 pub mod ShortSamples
 pub mod ShownWalks

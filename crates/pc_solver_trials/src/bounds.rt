@@ -1,9 +1,9 @@
-use crate::{Program, dual_bound, is_box, is_program};
+use crate::lists::Lists;
 use pc_list::Seq;
 use pc_model::Mult;
 use pc_num::are_fit;
-use std::alloc::{AllocError, Global};
-use std::process::Abort;
+use pc_program_bound::{Program, dual_bound, is_box, is_program};
+use std::alloc::Global;
 use std::test::Fail;
 
 const MAX: i128 = i128::MAX;
@@ -24,7 +24,7 @@ const APART: Numbers = ([0, 0], [0, 0], [0, 0], [0, 0], [1, 1]);
 // A program, the floors and caps of a box, multipliers, their denominator, and the bound.
 type Case = (Numbers, [u64; 2], [u64; 2], [i128; 2], i128, Option<i128>);
 
-const BOUNDS: [Case; 9] = [
+static BOUNDS: [Case; 9] = [
     (SHARED, [0, 0], [5, 4], [3, 4], 1, Some(31)),
     (SHARED, [0, 0], [5, 4], [0, 0], 1, Some(43)),
     // 3 * 5 - 1 * 2 of the constraints, and 5 * 4 of the second cell.
@@ -41,7 +41,7 @@ const BOUNDS: [Case; 9] = [
     (LOSSES, [0, 1], [5, 4], [-9, -1], 3, Some(-8)),
 ];
 
-const WIDTHS: [Case; 19] = [
+static WIDTHS: [Case; 19] = [
     // A gain times the denominator.
     (
         ([0, 0], [0, 0], [HALF, 0], [0, 0], [0, 0]),
@@ -147,36 +147,39 @@ const WIDTHS: [Case; 19] = [
     ),
 ];
 
-fn program(alloc: Global, numbers: &Numbers) -> Result<Program, AllocError> {
-    let (masks, cap, gain, least, most) = numbers;
-    Ok(Program {
-        masks: Seq::from_slice(alloc, masks)?,
-        least: Seq::from_slice(alloc, least)?,
-        most: Seq::from_slice(alloc, most)?,
-        floor: Seq::from_slice(alloc, &[0, 0])?,
-        cap: Seq::from_slice(alloc, cap)?,
-        gain: Seq::from_slice(alloc, gain)?,
-    })
+/// The bound of multipliers over a box that is one of the program's.
+fn bound_over(p: &Program, floor: &[u64], cap: &[u64], mult: &Mult) -> Result<Option<i128>, Fail> {
+    if !is_program(p) || mult.by.len() != p.least.len() || !is_box(p, floor, cap) {
+        return Err(Fail::new("no box of a program"));
+    }
+    if mult.den < 1 || !are_fit(mult.by.as_slice()) {
+        return Err(Fail::new("no multipliers"));
+    }
+    Ok(dual_bound(p, floor, cap, mult))
 }
 
-fn bound_of(rt: &impl Abort, alloc: Global, case: &Case) -> Result<Option<i128>, AllocError> {
-    let (numbers, floor, cap, by, den) = (&case.0, &case.1, &case.2, &case.3, case.4);
-    let program = program(alloc, numbers)?;
+fn bound_of(alloc: Global, case: &Case) -> Result<Option<i128>, Fail> {
+    let ((masks, most_rows, gain, least, most), floor, cap, by, den, _) = case;
+    let lists = Lists {
+        masks,
+        least,
+        most,
+        floor: &[0, 0],
+        cap: most_rows,
+        gain,
+    };
     let mult = Mult {
         by: Seq::from_slice(alloc, by)?,
-        den,
+        den: *den,
     };
-    assert!(rt; is_program(&program) && mult.by.len() == program.least.len());
-    assert!(rt; is_box(&program, floor, cap));
-    assert!(rt; den >= 1 && are_fit(mult.by.as_slice()));
-    Ok(dual_bound(&program, floor, cap, &mult))
+    bound_over(&lists.program(alloc)?, floor, cap, &mult)
 }
 
 #[test]
 fn bounds_are_rounded_down(rt: HostRuntime) -> Result<(), Fail> {
     let alloc = rt.alloc();
     for (place, case) in BOUNDS.iter().enumerate() {
-        assert_eq!(rt; bound_of(&rt, alloc, case)?, case.5, "bound {place}");
+        assert_eq!(rt; bound_of(alloc, case)?, case.5, "bound {place}");
     }
     Ok(())
 }
@@ -185,7 +188,7 @@ fn bounds_are_rounded_down(rt: HostRuntime) -> Result<(), Fail> {
 fn numbers_too_wide_give_none(rt: HostRuntime) -> Result<(), Fail> {
     let alloc = rt.alloc();
     for (place, case) in WIDTHS.iter().enumerate() {
-        assert_eq!(rt; bound_of(&rt, alloc, case)?, case.5, "width {place}");
+        assert_eq!(rt; bound_of(alloc, case)?, case.5, "width {place}");
     }
     Ok(())
 }

@@ -1,26 +1,66 @@
-ghost use Rattle.std.specs.Prelude.{◌≤◌};
-
+mod drawn;
 mod listed;
 mod pairs;
-mod plain;
 mod stuck;
 mod worked;
 
-use crate::{Outcome, has_fit_gains, solve};
+use crate::lists::Lists;
+use crate::plain::worth;
+use pc_branch::{Outcome, has_fit_gains, solve};
 use pc_list::Seq;
-use pc_num::Memory;
 use pc_program_bound::{Program, is_program, lawful};
 use std::alloc::Global;
-use std::process::Abort;
+use std::test::Fail;
+
+/// What is wanted of a search.
+#[derive(Clone, Copy)]
+enum Wanted {
+    Best(i128),
+    Nothing,
+    Spent(i128),
+}
+
+/// How many nodes a search may have, and what is wanted of it.
+type Search = (u32, Wanted);
 
 /// What a search says of a program whose numbers are in order.
-fn solved(rt: &impl Abort, alloc: Global, p: &Program, nodes: u32) -> Result<Outcome, Memory>
-    requires { (1 ≤ nodes) × (nodes ≤ 100_000) }
-{
-    assert!(rt; is_program(p));
-    let fits = has_fit_gains(alloc, p)?;
-    assert!(rt; fits);
-    solve(alloc, p, nodes)
+fn solved(alloc: Global, p: &Program, nodes: u32) -> Result<Outcome, Fail> {
+    if !is_program(p) || nodes < 1 || nodes > 100_000 {
+        return Err(Fail::new("no program"));
+    }
+    if !has_fit_gains(alloc, p)? {
+        return Err(Fail::new("wide gains"));
+    }
+    Ok(solve(alloc, p, nodes)?)
+}
+
+fn finds(alloc: Global, p: &Program, search: Search) -> Result<bool, Fail> {
+    let (nodes, wanted) = search;
+    let outcome = solved(alloc, p, nodes)?;
+    Ok(is_wanted(p, &outcome, wanted))
+}
+
+fn finds_all(alloc: Global, p: &Program, searches: &[Search]) -> Result<bool, Fail> {
+    for search in searches {
+        if !finds(alloc, p, *search)? {
+            return Ok(false);
+        }
+    }
+    Ok(true)
+}
+
+/// Whether the searches of a program come to what is wanted.
+fn are_found(alloc: Global, lists: &Lists<'_>, searches: &[Search]) -> Result<bool, Fail> {
+    let p = lists.program(alloc)?;
+    finds_all(alloc, &p, searches)
+}
+
+fn is_wanted(p: &Program, outcome: &Outcome, wanted: Wanted) -> bool {
+    match wanted {
+        Wanted::Best(value) => is_best(p, outcome, value),
+        Wanted::Nothing => is_nothing(outcome),
+        Wanted::Spent(bound) => is_spent(p, outcome, bound),
+    }
 }
 
 /// Whether the program allows the counts.
@@ -29,15 +69,6 @@ fn is_allowed(p: &Program, counts: &[u64]) -> bool {
         return false;
     }
     lawful(p, counts)
-}
-
-/// What counts are worth, by the formula alone.
-fn worth(p: &Program, counts: &[u64]) -> i128 {
-    let mut worth = 0i128;
-    for (gain, count) in p.gain.as_slice().iter().zip(counts.iter()) {
-        worth = worth.saturating_add(gain.saturating_mul(*count as i128));
-    }
-    worth
 }
 
 /// Whether the answer is allowed counts of that worth.

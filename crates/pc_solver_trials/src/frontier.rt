@@ -1,7 +1,7 @@
 ghost use Rattle.std.specs.Prelude.{◌≡◌, IfOk};
 ghost use Rattle.pc_solver_trials.specs.FrontierSamples.{two_splits};
 
-use crate::frontier::Frontier;
+use pc_frontier::Frontier;
 use pc_num::Memory;
 use std::alloc::{AllocError, Global};
 use std::test::Fail;
@@ -37,7 +37,7 @@ fn two_splits(alloc: Global) -> Result<Frontier, Memory>
 }
 
 #[test]
-#[tactic(auto, using(crate::proofs::Samples::ordered_sample))]
+#[tactic(auto, using(crate::proofs::FrontierSamples::ordered_sample))]
 fn box_of_a_child(rt: HostRuntime) -> Result<(), Fail> {
     let frontier = two_splits(rt.alloc())?;
     let mut floor = [0, 0];

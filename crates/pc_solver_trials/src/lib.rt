@@ -10,9 +10,16 @@ mod frontier;
 #[cfg(test)]
 mod greedy;
 #[cfg(test)]
+mod lists;
+#[cfg(test)]
+mod plain;
+#[cfg(test)]
 mod programs;
 #[cfg(test)]
+mod ready;
+#[cfg(test)]
 mod relaxed;
+mod samples;
 #[cfg(test)]
 mod short;
 #[cfg(test)]

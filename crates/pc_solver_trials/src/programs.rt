@@ -1,27 +1,46 @@
-use crate::{Program, is_program, lawful};
-use pc_list::Seq;
-use std::alloc::{AllocError, Global};
+use crate::lists::Lists;
+use pc_program_bound::{is_program, lawful};
+use std::alloc::Global;
 use std::test::Fail;
 
-// The masks of three cells, the least and the most of two constraints, the floors and the caps.
-type Numbers = ([u32; 3], [u64; 2], [u64; 2], [u64; 3], [u64; 3]);
-
 // Two constraints that share the second cell; three cells of one constraint; cells of none; the greatest counts.
-const PROGRAMS: [Numbers; 4] = [
-    ([1, 3, 2], [2, 1], [5, 4], [0, 0, 1], [5, 4, 4]),
-    ([2, 2, 2], [0, 6], [0, 6], [0, 1, 2], [9, 9, 9]),
-    ([0, 4, 8], [0, 0], [0, 3], [0, 0, 0], [7, 8, 9]),
-    (
-        [1, 1, 1],
-        [1_000_000_000, 0],
-        [1_000_000_000, 0],
-        [0, 0, 0],
-        [1_000_000_000, 1_000_000_000, 1_000_000_000],
-    ),
+static PROGRAMS: [Lists<'static>; 4] = [
+    Lists {
+        masks: &[1, 3, 2],
+        least: &[2, 1],
+        most: &[5, 4],
+        floor: &[0, 0, 1],
+        cap: &[5, 4, 4],
+        gain: &[1, 1, 1],
+    },
+    Lists {
+        masks: &[2, 2, 2],
+        least: &[0, 6],
+        most: &[0, 6],
+        floor: &[0, 1, 2],
+        cap: &[9, 9, 9],
+        gain: &[1, 1, 1],
+    },
+    Lists {
+        masks: &[0, 4, 8],
+        least: &[0, 0],
+        most: &[0, 3],
+        floor: &[0, 0, 0],
+        cap: &[7, 8, 9],
+        gain: &[1, 1, 1],
+    },
+    Lists {
+        masks: &[1, 1, 1],
+        least: &[1_000_000_000, 0],
+        most: &[1_000_000_000, 0],
+        floor: &[0, 0, 0],
+        cap: &[1_000_000_000, 1_000_000_000, 1_000_000_000],
+        gain: &[1, 1, 1],
+    },
 ];
 
 // The number of a program, counts, and whether it allows them.
-const COUNTS: [(usize, [u64; 3], bool); 22] = [
+static COUNTS: [(usize, [u64; 3], bool); 22] = [
     (0, [2, 0, 1], true),
     (0, [1, 3, 1], true),
     (0, [5, 0, 4], true),
@@ -46,25 +65,25 @@ const COUNTS: [(usize, [u64; 3], bool); 22] = [
     (3, [333_333_333, 333_333_333, 333_333_334], true),
 ];
 
-fn program(alloc: Global, numbers: &Numbers) -> Result<Program, AllocError> {
-    let (masks, least, most, floor, cap) = numbers;
-    Ok(Program {
-        masks: Seq::from_slice(alloc, masks)?,
-        least: Seq::from_slice(alloc, least)?,
-        most: Seq::from_slice(alloc, most)?,
-        floor: Seq::from_slice(alloc, floor)?,
-        cap: Seq::from_slice(alloc, cap)?,
-        gain: Seq::from_slice(alloc, &[1, 1, 1])?,
-    })
+/// Whether the program allows the counts.
+fn is_lawful(alloc: Global, lists: &Lists<'_>, counts: &[u64]) -> Result<bool, Fail> {
+    let program = lists.program(alloc)?;
+    if !is_program(&program) || program.masks.len() != counts.len() {
+        return Err(Fail::new("no program"));
+    }
+    Ok(lawful(&program, counts))
 }
 
 #[test]
 fn counts_are_lawful_or_not(rt: HostRuntime) -> Result<(), Fail> {
     let alloc = rt.alloc();
     for (number, counts, wanted) in &COUNTS {
-        let program = program(alloc, &PROGRAMS[*number])?;
-        assert!(rt; is_program(&program) && program.masks.len() == 3);
-        assert_eq!(rt; lawful(&program, counts), *wanted, "{number}: {counts:?}");
+        let lists = &PROGRAMS[*number % 4];
+        assert_eq!(rt;
+            is_lawful(alloc, lists, counts)?,
+            *wanted,
+            "{number}: {counts:?}"
+        );
     }
     Ok(())
 }

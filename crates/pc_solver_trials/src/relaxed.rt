@@ -1,45 +1,35 @@
-mod plain;
+mod beside;
+mod drawn;
 mod reference;
-mod short;
+mod whole;
 
-use crate::phases::{Ended, take_both_phases};
-use crate::{Relaxed, Step, relax};
+use self::beside::is_end;
+use self::whole::{steps_of, whole};
+use crate::lists::{Lists, round_pairs};
 use pc_list::Seq;
-use pc_num::{Frac, Memory, are_fit};
+use pc_num::{Frac, are_fit};
 use pc_program_bound::{Program, is_box, is_program};
+use pc_simplex::{Relaxed, Step, relax};
 use std::alloc::Global;
-use std::process::Abort;
 use std::test::Fail;
 
 /// The relaxation of a box that is one of the program's.
-fn relaxed(
-    rt: &impl Abort,
-    alloc: Global,
-    p: &Program,
-    floor: &[u64],
-    cap: &[u64],
-) -> Result<Relaxed, Memory> {
-    assert!(rt; is_program(p) && are_fit(p.gain.as_slice()));
-    assert!(rt; is_box(p, floor, cap));
-    relax(alloc, p, floor, cap)
+fn relaxed(alloc: Global, p: &Program, floor: &[u64], cap: &[u64]) -> Result<Relaxed, Fail> {
+    if !is_program(p) || !are_fit(p.gain.as_slice()) {
+        return Err(Fail::new("no program"));
+    }
+    if !is_box(p, floor, cap) {
+        return Err(Fail::new("no box"));
+    }
+    Ok(relax(alloc, p, floor, cap)?)
 }
 
-/// The steps of a box that is one of the program's.
-fn steps_of(
-    rt: &impl Abort,
-    alloc: Global,
-    p: &Program,
-    floor: &[u64],
-    cap: &[u64],
-) -> Result<Seq<Step>, Memory> {
-    assert!(rt; is_program(p) && are_fit(p.gain.as_slice()));
-    assert!(rt; is_box(p, floor, cap));
-    match take_both_phases(alloc, p, floor, cap)? {
-        Ended::AtVertex(steps, _tableau) => Ok(steps),
-        Ended::AtVoid(steps, _mult) => Ok(steps),
-        Ended::AtWide(steps) => Ok(steps),
-        Ended::AtStall(steps) => Ok(steps),
-    }
+/// Whether the relaxation of the program's own box, which takes the steps over rows in short form first, is what the steps
+/// over whole rows end in.
+fn is_as_whole(alloc: Global, p: &Program, found: &Relaxed) -> Result<bool, Fail> {
+    let (floor, cap) = (p.floor.as_slice(), p.cap.as_slice());
+    let end = whole(alloc, p, floor, cap)?;
+    Ok(is_end(p, floor, cap, found, &end))
 }
 
 fn is_vertex(relaxed: &Relaxed, wanted: &[Frac], by: &[i128], den: i128) -> bool {
@@ -58,69 +48,88 @@ fn is_void(relaxed: &Relaxed, by: &[i128]) -> bool {
     }
 }
 
-fn step(enters: u32, leaves: u32) -> Step {
-    Step { enters, leaves }
+// The gains of three cells that are each in two of three constraints, which allow one row each: half a row of each is best.
+static GAINS: [[i128; 3]; 2] = [[1, 1, 1], [GREAT, GREAT, GREAT]];
+
+// A gain with which rows in short form are given up.
+const GREAT: i128 = (1 << 86) + 1;
+
+const HALF: Frac = Frac { num: 1, den: 2 };
+
+fn triangle(alloc: Global, gain: &[i128]) -> Result<Program, Fail> {
+    let lists = Lists {
+        masks: &[3, 6, 5],
+        least: &[0, 0, 0],
+        most: &[1, 1, 1],
+        floor: &[0, 0, 0],
+        cap: &[1, 1, 1],
+        gain,
+    };
+    Ok(lists.program(alloc)?)
 }
 
-// Three cells, each in two of three constraints that allow one row each: half a row of each is best.
+/// Whether half a row of each cell is best, by multipliers that are half of the gains.
+fn is_half_of_each(alloc: Global, p: &Program) -> Result<bool, Fail> {
+    let found = relaxed(alloc, p, p.floor.as_slice(), p.cap.as_slice())?;
+    let by = p.gain.as_slice();
+    Ok(is_vertex(&found, &[HALF, HALF, HALF], by, 2) && is_as_whole(alloc, p, &found)?)
+}
+
+static STEPS: [Step; 4] = [
+    Step {
+        enters: 0,
+        leaves: 0,
+    },
+    Step {
+        enters: 1,
+        leaves: 4,
+    },
+    Step {
+        enters: 2,
+        leaves: 3,
+    },
+    Step {
+        enters: 0,
+        leaves: 5,
+    },
+];
+
+fn takes_steps(alloc: Global, p: &Program, steps: &[Step]) -> Result<bool, Fail> {
+    let end = whole(alloc, p, p.floor.as_slice(), p.cap.as_slice())?;
+    Ok(steps_of(&end) == steps)
+}
+
 #[test]
 fn half_a_row_of_each(rt: HostRuntime) -> Result<(), Fail> {
     let alloc = rt.alloc();
-    let p = Program {
-        masks: Seq::from_slice(alloc, &[3, 6, 5])?,
-        least: Seq::from_slice(alloc, &[0, 0, 0])?,
-        most: Seq::from_slice(alloc, &[1, 1, 1])?,
-        floor: Seq::from_slice(alloc, &[0, 0, 0])?,
-        cap: Seq::from_slice(alloc, &[1, 1, 1])?,
-        gain: Seq::from_slice(alloc, &[1, 1, 1])?,
-    };
-    let found = relaxed(&rt, alloc, &p, &[0, 0, 0], &[1, 1, 1])?;
-    let half = Frac { num: 1, den: 2 };
-    assert!(rt; is_vertex(&found, &[half, half, half], &[1, 1, 1], 2));
-    let steps = steps_of(&rt, alloc, &p, &[0, 0, 0], &[1, 1, 1])?;
-    assert!(rt; steps.as_slice() == [step(0, 0), step(1, 4), step(2, 3), step(0, 5)].as_slice());
+    for (place, gain) in GAINS.iter().enumerate() {
+        let p = triangle(alloc, gain)?;
+        let is_found = is_half_of_each(alloc, &p)? && takes_steps(alloc, &p, &STEPS)?;
+        assert!(rt; is_found, "program {place}");
+    }
     Ok(())
 }
 
 // A constraint that wants a row of a cell that can have none.
+fn wanting(alloc: Global) -> Result<Program, Fail> {
+    let lists = Lists {
+        masks: &[1],
+        least: &[1],
+        most: &[1],
+        floor: &[0],
+        cap: &[1],
+        gain: &[1],
+    };
+    Ok(lists.program(alloc)?)
+}
+
 #[test]
 fn a_row_that_cannot_be(rt: HostRuntime) -> Result<(), Fail> {
     let alloc = rt.alloc();
-    let p = Program {
-        masks: Seq::from_slice(alloc, &[1])?,
-        least: Seq::from_slice(alloc, &[1])?,
-        most: Seq::from_slice(alloc, &[1])?,
-        floor: Seq::from_slice(alloc, &[0])?,
-        cap: Seq::from_slice(alloc, &[1])?,
-        gain: Seq::from_slice(alloc, &[1])?,
-    };
-    let found = relaxed(&rt, alloc, &p, &[0], &[0])?;
+    let p = wanting(alloc)?;
+    let found = relaxed(alloc, &p, &[0], &[0])?;
     assert!(rt; is_void(&found, &[-1]));
     Ok(())
-}
-
-/// The cells of a program are the pairs of 17 constraints that allow one row each, and in the box each of the pairs of i
-/// and 15 - i has its row: whatever enters then moves nothing, and the steps go round.
-fn pairs(alloc: Global) -> Result<Program, Memory> {
-    let mut p = Program {
-        masks: Seq::new(alloc),
-        least: Seq::new(alloc),
-        most: Seq::new(alloc),
-        floor: Seq::new(alloc),
-        cap: Seq::new(alloc),
-        gain: Seq::new(alloc),
-    };
-    for first in 0..17u32 {
-        p.least.push(0)?;
-        p.most.push(1)?;
-        for second in first + 1..17 {
-            p.masks.push((1 << first) | (1 << second))?;
-            p.floor.push(if first + second == 15 { 1 } else { 0 })?;
-            p.cap.push(1)?;
-            p.gain.push(2)?;
-        }
-    }
-    Ok(p)
 }
 
 fn stalled_after(relaxed: &Relaxed) -> Option<usize> {
@@ -130,11 +139,58 @@ fn stalled_after(relaxed: &Relaxed) -> Option<usize> {
     }
 }
 
+/// How many steps are taken before they are found to go round.
+fn steps_until_stalled(alloc: Global, p: &Program) -> Result<Option<usize>, Fail> {
+    let found = relaxed(alloc, p, p.floor.as_slice(), p.cap.as_slice())?;
+    Ok(stalled_after(&found))
+}
+
 #[test]
 fn steps_that_go_round(rt: HostRuntime) -> Result<(), Fail> {
     let alloc = rt.alloc();
-    let p = pairs(alloc)?;
-    let found = relaxed(&rt, alloc, &p, p.floor.as_slice(), p.cap.as_slice())?;
-    assert_eq!(rt; stalled_after(&found), Some(20_000));
+    let p = round_pairs(alloc)?;
+    assert_eq!(rt; steps_until_stalled(alloc, &p)?, Some(20_000));
+    Ok(())
+}
+
+// Six triangles: each three constraints of which two share a cell, twice.
+static TRIANGLES: Lists<'static> = Lists {
+    masks: &[
+        3,
+        5,
+        6,
+        3 << 3,
+        5 << 3,
+        6 << 3,
+        3 << 6,
+        5 << 6,
+        6 << 6,
+        3 << 9,
+        5 << 9,
+        6 << 9,
+        3 << 12,
+        5 << 12,
+        6 << 12,
+        3 << 15,
+        5 << 15,
+        6 << 15,
+    ],
+    least: &[0; 18],
+    most: &[1; 18],
+    floor: &[0; 18],
+    cap: &[1; 18],
+    gain: &[3, 5, 6, 3, 5, 6, 3, 5, 6, 3, 5, 6, 3, 5, 6, 3, 5, 6],
+};
+
+fn ends_alike(alloc: Global, p: &Program) -> Result<bool, Fail> {
+    let found = relaxed(alloc, p, p.floor.as_slice(), p.cap.as_slice())?;
+    is_as_whole(alloc, p, &found)
+}
+
+#[test]
+fn a_program_of_many_constraints_ends_alike(rt: HostRuntime) -> Result<(), Fail> {
+    let alloc = rt.alloc();
+    let p = TRIANGLES.program(alloc)?;
+    assert!(rt; ends_alike(alloc, &p)?);
     Ok(())
 }

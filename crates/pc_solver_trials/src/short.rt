@@ -1,13 +1,9 @@
 ghost use Rattle.std.specs.Prelude.{◌≡◌, [], ◌∷◌, IfOk};
 ghost use Rattle.pc_solver_trials.specs.ShortSamples.{sample_setting, sample_start};
 
-use crate::row::ShortRow;
-use crate::run::{ShortRun, take_steps};
-use crate::setting::ShortSetting;
-use crate::spell::spell_out;
-use crate::tableau::ShortTableau;
 use pc_list::Seq;
 use pc_num::Memory;
+use pc_simplex_short::{ShortRow, ShortRun, ShortSetting, ShortTableau, spell_out, take_steps};
 use pc_simplex_tableau::Columns;
 use std::alloc::{AllocError, Global};
 use std::test::Fail;
@@ -71,7 +67,7 @@ fn end_of(run: Option<ShortRun>) -> Option<(usize, ShortTableau)> {
 }
 
 #[test]
-#[tactic(auto, using(crate::proofs::Samples::sample_is_setting, crate::proofs::Samples::sample_is_short))]
+#[tactic(auto, using(crate::proofs::ShortSamples::sample_is_setting, crate::proofs::ShortSamples::sample_is_short))]
 fn one_step(rt: HostRuntime) -> Result<(), Fail> {
     let alloc = rt.alloc();
     let setting = setting(alloc)?;
@@ -84,7 +80,7 @@ fn one_step(rt: HostRuntime) -> Result<(), Fail> {
 
 // The constraint's three rows stand in the one row, and the objective row is freed of the cell.
 #[test]
-#[tactic(auto, using(crate::proofs::Samples::sample_is_setting, crate::proofs::Samples::sample_is_short))]
+#[tactic(auto, using(crate::proofs::ShortSamples::sample_is_setting, crate::proofs::ShortSamples::sample_is_short))]
 fn spelled_out(rt: HostRuntime) -> Result<(), Fail> {
     let alloc = rt.alloc();
     let setting = setting(alloc)?;
@@ -97,7 +93,7 @@ fn spelled_out(rt: HostRuntime) -> Result<(), Fail> {
 }
 
 #[test]
-#[tactic(auto, using(crate::proofs::Samples::sample_is_setting, crate::proofs::Samples::sample_is_short))]
+#[tactic(auto, using(crate::proofs::ShortSamples::sample_is_setting, crate::proofs::ShortSamples::sample_is_short))]
 fn an_objective_row_that_is_freed(rt: HostRuntime) -> Result<(), Fail> {
     let alloc = rt.alloc();
     let setting = setting(alloc)?;

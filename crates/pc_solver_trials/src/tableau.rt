@@ -1,11 +1,10 @@
 ghost use Rattle.std.specs.Prelude.{◌≡◌, IfOk};
 ghost use Rattle.pc_simplex_tableau.specs.Wanting.{wanting_columns, wanting_row, wanting_start};
 
-use crate::columns::Columns;
-use crate::row::WholeRow;
-use crate::run::{WholeRun, take_steps};
-use crate::tableau::Tableau;
+mod numbers;
+
 use pc_list::Seq;
+use pc_simplex_tableau::{Columns, Tableau, WholeRow, WholeRun, take_steps};
 use std::alloc::{AllocError, Global};
 use std::test::Fail;
 

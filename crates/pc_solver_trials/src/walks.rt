@@ -5,12 +5,12 @@ ghost use Rattle.pc_program_bound.specs.SplitTrees.{IsInPreorder, Proves, tree_o
 ghost use Rattle.pc_program_bound.specs.Walk.{HasFitNumbers};
 ghost use Rattle.pc_solver_trials.specs.ShownWalks.{IsShown, IsBelowZero};
 
-use crate::{Program, dual_bound, is_box, is_program, tree_bound};
+use crate::lists::Lists;
 use pc_list::Seq;
 use pc_model::{Mult, Tree, TreeNode};
 use pc_num::are_fit;
+use pc_program_bound::{Program, dual_bound, is_box, is_program, tree_bound};
 use std::alloc::{AllocError, Global};
-use std::process::Abort;
 use std::test::Fail;
 
 // A node of a tree: a split of a cell at a number and the place of its greater part, or the multipliers of a leaf.
@@ -169,14 +169,15 @@ static TREES: [(Numbers, &[Line], Option<i128>); 14] = [
 // The first cell is in the first constraint and has five rows at most, the second is in both and has four.
 fn program(alloc: Global, numbers: &Numbers) -> Result<Program, AllocError> {
     let (gain, least, most) = numbers;
-    Ok(Program {
-        masks: Seq::from_slice(alloc, &[1, 3])?,
-        least: Seq::from_slice(alloc, least)?,
-        most: Seq::from_slice(alloc, most)?,
-        floor: Seq::from_slice(alloc, &[0, 0])?,
-        cap: Seq::from_slice(alloc, &[5, 4])?,
-        gain: Seq::from_slice(alloc, gain)?,
-    })
+    let lists = Lists {
+        masks: &[1, 3],
+        least,
+        most,
+        floor: &[0, 0],
+        cap: &[5, 4],
+        gain,
+    };
+    lists.program(alloc)
 }
 
 fn mult(alloc: Global, by: &[i128]) -> Result<Mult, AllocError> {
@@ -369,25 +370,24 @@ fn check(alloc: Global, p: &Program, tree: &Tree) -> Result<(), Fail>
     Ok(())
 }
 
-fn bound_in(
-    rt: &impl Abort,
-    alloc: Global,
-    numbers: &Numbers,
-    lines: &[Line],
-) -> Result<Option<i128>, Fail> {
-    let p = program(alloc, numbers)?;
-    assert!(rt; is_program(&p));
+fn bound_by(alloc: Global, p: &Program, tree: &Tree) -> Result<Option<i128>, Fail> {
+    if !is_program(p) {
+        return Err(Fail::new("no program"));
+    }
+    check(alloc, p, tree)?;
+    Ok(tree_bound(alloc, p, tree)?)
+}
+
+fn bound_in(alloc: Global, numbers: &Numbers, lines: &[Line]) -> Result<Option<i128>, Fail> {
     let tree = tree(alloc, lines)?;
-    check(alloc, &p, &tree)?;
-    Ok(tree_bound(alloc, &p, &tree)?)
+    bound_by(alloc, &program(alloc, numbers)?, &tree)
 }
 
 #[test]
 fn trees_bound_their_programs(rt: HostRuntime) -> Result<(), Fail> {
     let alloc = rt.alloc();
     for (place, (numbers, lines, wanted)) in TREES.iter().enumerate() {
-        let bound = bound_in(&rt, alloc, numbers, lines)?;
-        assert_eq!(rt; bound, *wanted, "tree {place}");
+        assert_eq!(rt; bound_in(alloc, numbers, lines)?, *wanted, "tree {place}");
     }
     Ok(())
 }

@@ -74,8 +74,7 @@ fn lines(alloc: Global, draws: &mut Draws) -> Result<String, AllocError> {
 fn drawn_constraints_in_turn_give_the_same_classes(rt: HostRuntime) -> Result<(), Fail> {
     let alloc = rt.alloc();
     let Ok(schema) = read_schema(alloc, SHOP) else {
-        assert!(rt; false, "no schema");
-        return Ok(());
+        return Err(Fail::new("no schema"));
     };
     let mut draws = Draws { state: 20 };
     for number in 0..CASES {

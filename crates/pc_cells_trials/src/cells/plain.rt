@@ -1,10 +1,14 @@
-ghost use Rattle.std.specs.Prelude.{◌<◌, All};
+ghost use Rattle.std.specs.Prelude.{◌≡◌, ◌≤◌, ◌<◌, true, length, All};
+ghost use Rattle.pc_model.specs.Accepted.{constraint_limit};
+ghost use Rattle.pc_model.specs.Boxes.{IsServable};
+ghost use Rattle.pc_model.specs.Regions.{is_region_of};
+ghost use Rattle.pc_model.specs.WellFormed.{IsWellFormed, HaveFewNames};
 ghost use Rattle.pc_cells.specs.Found.{IsFilled};
 
-use crate::{Cells, decompose};
+use pc_cells::{Cells, decompose};
 use pc_lang::{read_constraints, read_query};
 use pc_list::Seq;
-use pc_model::{Constraint, Region, Row};
+use pc_model::{Constraint, Region, Row, Schema};
 use pc_num::Memory;
 use pc_schema::read_schema;
 use std::alloc::{AllocError, Global};
@@ -15,7 +19,7 @@ const SMALL: &[u8] = b"a,int,0,9\nb,int,0,4\nc,cat,x,y,z\n";
 
 const ROWS: u32 = 150;
 
-const SETS: [&str; 7] = [
+static SETS: [&str; 7] = [
     "{x}",
     "{y}",
     "{x, y}",
@@ -207,38 +211,79 @@ fn ends_agree(
     )
 }
 
+/// Whether each row of the domain is where it belongs.
+fn are_placed(alloc: Global, found: &Cells, plain: &Plain<'_>) -> Result<bool, AllocError> {
+    for number in 0..ROWS {
+        let row = row_of(alloc, number)?;
+        if !is_placed(found, plain.class_of(&row), &row) {
+            return Ok(false);
+        }
+    }
+    Ok(true)
+}
+
+fn cells_agree(alloc: Global, found: &Cells, plain: &Plain<'_>) -> Result<bool, Memory>
+    requires { All IsFilled found.now.cells }
+{
+    for place in 0..found.cells.len() {
+        if !cell_agrees(alloc, found, place, plain)? {
+            return Ok(false);
+        }
+    }
+    Ok(true)
+}
+
+fn agrees(
+    alloc: Global,
+    schema: &Schema,
+    constraints: &[Constraint],
+    chosen: &Region,
+) -> Result<bool, Memory>
+    requires well_formed { IsWellFormed schema.now }
+    requires few { length constraints.now ≤ constraint_limit }
+    requires servable { All (IsServable schema.now) constraints.now }
+    requires chosen { is_region_of schema.now chosen.now ≡ true }
+{
+    let found = decompose(alloc, schema, constraints, chosen)?;
+    let plain = Plain {
+        constraints,
+        chosen,
+    };
+    Ok(are_placed(alloc, &found, &plain)? && cells_agree(alloc, &found, &plain)?)
+}
+
+/// Whether what is read has the cells of the plain program; false where a text is refused.
+fn has_plain_cells(
+    alloc: Global,
+    schema: &Schema,
+    text: &str,
+    question: &str,
+) -> Result<bool, Memory>
+    requires well_formed { IsWellFormed schema.now }
+    requires few_names { HaveFewNames schema.now.columns }
+{
+    let Ok(constraints) = read_constraints(alloc, schema, text.as_bytes()) else {
+        return Ok(false);
+    };
+    let Ok(query) = read_query(alloc, schema, question, 1) else {
+        return Ok(false);
+    };
+    agrees(alloc, schema, constraints.as_slice(), &query.chosen)
+}
+
 #[test]
 fn cells_of_small_domains(rt: HostRuntime) -> Result<(), Fail> {
     let alloc = rt.alloc();
     let Ok(schema) = read_schema(alloc, SMALL) else {
-        assert!(rt; false, "no schema");
-        return Ok(());
+        return Err(Fail::new("no schema"));
     };
     let mut draws = Draws { state: 1 };
-    for _ in 0..200 {
+    for number in 0..200 {
         let text = lines(alloc, &mut draws)?;
         let chosen = part(alloc, &mut draws)?;
         let question = format!(in alloc; "count where {chosen}")?;
-        let Ok(constraints) = read_constraints(alloc, &schema, text.as_bytes()) else {
-            assert!(rt; false, "constraints");
-            return Ok(());
-        };
-        let Ok(query) = read_query(alloc, &schema, question.as_str(), 1) else {
-            assert!(rt; false, "query");
-            return Ok(());
-        };
-        let plain = Plain {
-            constraints: constraints.as_slice(),
-            chosen: &query.chosen,
-        };
-        let found = decompose(alloc, &schema, plain.constraints, plain.chosen)?;
-        for number in 0..ROWS {
-            let row = row_of(alloc, number)?;
-            assert!(rt; is_placed(&found, plain.class_of(&row), &row));
-        }
-        for place in 0..found.cells.len() {
-            assert!(rt; cell_agrees(alloc, &found, place, &plain)?);
-        }
+        let agrees = has_plain_cells(alloc, &schema, text.as_str(), question.as_str())?;
+        assert!(rt; agrees, "domain {number}");
     }
     Ok(())
 }

@@ -6,7 +6,7 @@ ghost use Rattle.pc_model.specs.WellFormed.{IsWellFormed, HaveFewNames};
 ghost use Rattle.pc_cells_tree.specs.Linked.{IsTree};
 
 use super::{SHOP, place_of};
-use crate::{Cells, Shared, decompose};
+use pc_cells::{Cells, Shared, decompose};
 use pc_lang::{read_constraints, read_query};
 use pc_model::{Constraint, Region, Schema};
 use pc_num::Memory;
@@ -36,29 +36,54 @@ static CUTS: [(&str, &str, u64); 6] = [
     ),
 ];
 
+/// Whether the first refinement makes so many cuts, and the second none.
+fn is_refined_once(
+    alloc: Global,
+    schema: &Schema,
+    constraints: &[Constraint],
+    chosen: &Region,
+    cuts: u64,
+) -> Result<bool, Memory>
+    requires well_formed { IsWellFormed schema.now }
+    requires few { length constraints.now ≤ constraint_limit }
+    requires servable { All (IsServable schema.now) constraints.now }
+    requires chosen { is_region_of schema.now chosen.now ≡ true }
+{
+    let mut shared = Shared::new(alloc, schema)?;
+    let first = shared.refine(schema, constraints, chosen)?;
+    let nodes = shared.nodes.clone()?;
+    let second = shared.refine(schema, constraints, chosen)?;
+    Ok(first == cuts && second == 0 && shared.nodes == nodes)
+}
+
+fn is_cut_once(
+    alloc: Global,
+    schema: &Schema,
+    text: &str,
+    question: &str,
+    cuts: u64,
+) -> Result<bool, Memory>
+    requires well_formed { IsWellFormed schema.now }
+    requires few_names { HaveFewNames schema.now.columns }
+{
+    let Ok(constraints) = read_constraints(alloc, schema, text.as_bytes()) else {
+        return Ok(false);
+    };
+    let Ok(query) = read_query(alloc, schema, question, 1) else {
+        return Ok(false);
+    };
+    is_refined_once(alloc, schema, constraints.as_slice(), &query.chosen, cuts)
+}
+
 #[test]
 fn a_second_refinement_makes_no_cut(rt: HostRuntime) -> Result<(), Fail> {
     let alloc = rt.alloc();
     let Ok(schema) = read_schema(alloc, SHOP) else {
-        assert!(rt; false, "no schema");
-        return Ok(());
+        return Err(Fail::new("no schema"));
     };
     for (number, (text, question, cuts)) in CUTS.into_iter().enumerate() {
-        let Ok(constraints) = read_constraints(alloc, &schema, text.as_bytes()) else {
-            assert!(rt; false, "case {number}");
-            return Ok(());
-        };
-        let Ok(query) = read_query(alloc, &schema, question, 1) else {
-            assert!(rt; false, "case {number}");
-            return Ok(());
-        };
-        let constraints = constraints.as_slice();
-        let mut shared = Shared::new(alloc, &schema)?;
-        let first = shared.refine(&schema, constraints, &query.chosen)?;
-        let nodes = shared.nodes.clone()?;
-        let second = shared.refine(&schema, constraints, &query.chosen)?;
-        assert!(rt; first == cuts && second == 0, "case {number}");
-        assert!(rt; shared.nodes == nodes, "case {number}");
+        let once = is_cut_once(alloc, &schema, text, question, cuts)?;
+        assert!(rt; once, "case {number}");
     }
     Ok(())
 }
@@ -139,7 +164,26 @@ fn has_classes_of(found: &Cells, other: &Cells) -> bool {
         .all(|cell| place_of(found, cell.mask, cell.chosen).is_some())
 }
 
-/// Whether the constraints give the same cells one after the other as at once; false where a text is refused.
+/// Whether the constraints give the same cells one after the other as at once.
+fn have_same_cells(
+    alloc: Global,
+    schema: &Schema,
+    constraints: &[Constraint],
+    chosen: &Region,
+) -> Result<bool, Memory>
+    requires well_formed { IsWellFormed schema.now }
+    requires few { length constraints.now ≤ constraint_limit }
+    requires servable { All (IsServable schema.now) constraints.now }
+    requires chosen { is_region_of schema.now chosen.now ≡ true }
+{
+    let mut shared = Shared::new(alloc, schema)?;
+    refine_in_turn(&mut shared, schema, constraints, chosen)?;
+    shared.refine(schema, constraints, chosen)?;
+    let found = shared.cells(schema, constraints, chosen)?;
+    Ok(have_same_classes(&found, &decompose(alloc, schema, constraints, chosen)?))
+}
+
+/// The same of what is read; false where a text is refused.
 pub(super) fn are_alike_in_turn(
     alloc: Global,
     schema: &Schema,
@@ -155,21 +199,14 @@ pub(super) fn are_alike_in_turn(
     let Ok(query) = read_query(alloc, schema, question, 1) else {
         return Ok(false);
     };
-    let constraints = constraints.as_slice();
-    let mut shared = Shared::new(alloc, schema)?;
-    refine_in_turn(&mut shared, schema, constraints, &query.chosen)?;
-    shared.refine(schema, constraints, &query.chosen)?;
-    let found = shared.cells(schema, constraints, &query.chosen)?;
-    let at_once = decompose(alloc, schema, constraints, &query.chosen)?;
-    Ok(have_same_classes(&found, &at_once))
+    have_same_cells(alloc, schema, constraints.as_slice(), &query.chosen)
 }
 
 #[test]
 fn constraints_in_turn_give_the_same_classes(rt: HostRuntime) -> Result<(), Fail> {
     let alloc = rt.alloc();
     let Ok(schema) = read_schema(alloc, SHOP) else {
-        assert!(rt; false, "no schema");
-        return Ok(());
+        return Err(Fail::new("no schema"));
     };
     for (number, (text, question)) in IN_TURN.into_iter().enumerate() {
         let alike = are_alike_in_turn(alloc, &schema, text, question)?;

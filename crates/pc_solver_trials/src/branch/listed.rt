@@ -1,119 +1,53 @@
-use super::{is_best, solved};
-use pc_list::Seq;
-use pc_num::Memory;
-use pc_program_bound::Program;
-use std::alloc::Global;
+use super::{Search, Wanted, are_found};
+use crate::lists::Lists;
 use std::test::Fail;
 
-// A month of a shop: the least and the most of each constraint, and of each cell its mask, how many rows it can have and
-// the greatest price of a row.
-const SHOP_ENDS: [(u64, u64); 9] = [
-    (10, 40),
-    (0, 30),
-    (0, 20),
-    (0, 5),
-    (2, 8),
-    (0, 30),
-    (0, 30),
-    (0, 25),
-    (0, 80),
-];
-
-const SHOP_CELLS: [(u32, u64, i128); 15] = [
-    (289, 30, 9_999),
-    (321, 30, 9_999),
-    (385, 25, 9_999),
-    (297, 5, 15_000),
-    (329, 5, 15_000),
-    (393, 5, 15_000),
-    (290, 30, 9_999),
-    (322, 30, 9_999),
-    (386, 25, 9_999),
-    (306, 8, 20_000),
-    (338, 8, 20_000),
-    (402, 8, 20_000),
-    (292, 20, 9_000),
-    (324, 20, 9_000),
-    (388, 20, 9_000),
-];
-
-// A drawn program whose constraints leave little room.
-const DRAWN_ENDS: [(u64, u64); 8] = [
-    (486, 487),
-    (97, 98),
-    (39, 41),
-    (0, 3),
-    (82, 83),
-    (10, 11),
-    (78, 82),
-    (7, 11),
-];
-
-const DRAWN_CELLS: [(u32, u64, i128); 21] = [
-    (16, 83, 99_810),
-    (18, 83, 91_297),
-    (64, 82, 99_464),
-    (192, 11, 57_395),
-    (17, 83, 99_810),
-    (1, 487, 99_810),
-    (9, 3, 38_813),
-    (5, 41, 98_428),
-    (13, 3, 38_813),
-    (19, 83, 91_297),
-    (3, 98, 91_297),
-    (7, 41, 91_297),
-    (65, 82, 99_464),
-    (193, 11, 57_395),
-    (33, 11, 10_244),
-    (4, 41, 98_428),
-    (12, 3, 38_813),
-    (8, 3, 38_813),
-    (6, 41, 91_297),
-    (2, 98, 91_297),
-    (32, 11, 10_244),
-];
-
-fn program(
-    alloc: Global,
-    ends: &[(u64, u64)],
-    cells: &[(u32, u64, i128)],
-) -> Result<Program, Memory> {
-    let mut p = Program {
-        masks: Seq::new(alloc),
-        least: Seq::new(alloc),
-        most: Seq::new(alloc),
-        floor: Seq::new(alloc),
-        cap: Seq::new(alloc),
-        gain: Seq::new(alloc),
-    };
-    for (least, most) in ends {
-        p.least.push(*least)?;
-        p.most.push(*most)?;
-    }
-    for (mask, cap, gain) in cells {
-        p.masks.push(*mask)?;
-        p.floor.push(0)?;
-        p.cap.push(*cap)?;
-        p.gain.push(*gain)?;
-    }
-    Ok(p)
-}
-
 // The values are those of another solver.
-#[test]
-fn prices_of_a_shop(rt: HostRuntime) -> Result<(), Fail> {
-    let alloc = rt.alloc();
-    let p = program(alloc, &SHOP_ENDS, &SHOP_CELLS)?;
-    let outcome = solved(&rt, alloc, &p, 10_000)?;
-    assert!(rt; is_best(&p, &outcome, 894_943));
-    Ok(())
-}
+static PROGRAMS: [(Lists<'static>, &[Search]); 2] = [
+    // A month of a shop, whose gains are the greatest prices of a row.
+    (
+        Lists {
+            masks: &[
+                289, 321, 385, 297, 329, 393, 290, 322, 386, 306, 338, 402, 292, 324, 388,
+            ],
+            least: &[10, 0, 0, 0, 2, 0, 0, 0, 0],
+            most: &[40, 30, 20, 5, 8, 30, 30, 25, 80],
+            floor: &[0; 15],
+            cap: &[30, 30, 25, 5, 5, 5, 30, 30, 25, 8, 8, 8, 20, 20, 20],
+            gain: &[
+                9_999, 9_999, 9_999, 15_000, 15_000, 15_000, 9_999, 9_999, 9_999, 20_000, 20_000,
+                20_000, 9_000, 9_000, 9_000,
+            ],
+        },
+        &[(10_000, Wanted::Best(894_943))],
+    ),
+    // A drawn program whose constraints leave little room.
+    (
+        Lists {
+            masks: &[
+                16, 18, 64, 192, 17, 1, 9, 5, 13, 19, 3, 7, 65, 193, 33, 4, 12, 8, 6, 2, 32,
+            ],
+            least: &[486, 97, 39, 0, 82, 10, 78, 7],
+            most: &[487, 98, 41, 3, 83, 11, 82, 11],
+            floor: &[0; 21],
+            cap: &[
+                83, 83, 82, 11, 83, 487, 3, 41, 3, 83, 98, 41, 82, 11, 11, 41, 3, 3, 41, 98, 11,
+            ],
+            gain: &[
+                99_810, 91_297, 99_464, 57_395, 99_810, 99_810, 38_813, 98_428, 38_813, 91_297,
+                91_297, 91_297, 99_464, 57_395, 10_244, 98_428, 38_813, 38_813, 91_297, 91_297,
+                10_244,
+            ],
+        },
+        &[(10_000, Wanted::Best(77_965_042))],
+    ),
+];
 
 #[test]
-fn narrow_constraints(rt: HostRuntime) -> Result<(), Fail> {
+fn programs_of_another_solver(rt: HostRuntime) -> Result<(), Fail> {
     let alloc = rt.alloc();
-    let p = program(alloc, &DRAWN_ENDS, &DRAWN_CELLS)?;
-    let outcome = solved(&rt, alloc, &p, 10_000)?;
-    assert!(rt; is_best(&p, &outcome, 77_965_042));
+    for (place, (lists, searches)) in PROGRAMS.iter().enumerate() {
+        assert!(rt; are_found(alloc, lists, searches)?, "program {place}");
+    }
     Ok(())
 }

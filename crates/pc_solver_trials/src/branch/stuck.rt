@@ -1,10 +1,8 @@
-use super::pairs::{no_cells, with_cell, with_constraints};
-use super::{is_below, is_spent, solved};
-use crate::{Outcome, has_fit_gains};
-use pc_list::Seq;
-use pc_num::Memory;
+use super::{Outcome, is_spent, solved};
+use crate::lists::{Lists, round_pairs};
+use pc_branch::has_fit_gains;
 use pc_program_bound::{Program, is_program};
-use std::alloc::{AllocError, Global};
+use std::alloc::Global;
 use std::test::Fail;
 
 const BIG: i128 = 1 << 120;
@@ -12,7 +10,7 @@ const BIG: i128 = 1 << 120;
 const MOST: i128 = i128::MAX;
 
 // The caps and the gains of two cells, and whether the sizes of what they are worth together are at most 2^127 - 1.
-const GAINS: [([u64; 2], [i128; 2], bool); 8] = [
+static GAINS: [([u64; 2], [i128; 2], bool); 8] = [
     ([1, 1], [MOST, 0], true),
     ([1, 1], [-MOST, 0], true),
     ([1, 1], [0, i128::MIN], false),
@@ -23,46 +21,29 @@ const GAINS: [([u64; 2], [i128; 2], bool); 8] = [
     ([1_000_000_000, 0], [-MOST / 1_000_000_000, 1], true),
 ];
 
-fn two_cells(alloc: Global, cap: &[u64], gain: &[i128]) -> Result<Program, AllocError> {
-    Ok(Program {
-        masks: Seq::from_slice(alloc, &[1, 1])?,
-        least: Seq::from_slice(alloc, &[0])?,
-        most: Seq::from_slice(alloc, &[1])?,
-        floor: Seq::from_slice(alloc, &[0, 0])?,
-        cap: Seq::from_slice(alloc, cap)?,
-        gain: Seq::from_slice(alloc, gain)?,
-    })
+fn do_fit(alloc: Global, cap: &[u64], gain: &[i128]) -> Result<bool, Fail> {
+    let lists = Lists {
+        masks: &[1, 1],
+        least: &[0],
+        most: &[1],
+        floor: &[0, 0],
+        cap,
+        gain,
+    };
+    let p = lists.program(alloc)?;
+    if !is_program(&p) {
+        return Err(Fail::new("no program"));
+    }
+    Ok(has_fit_gains(alloc, &p)?)
 }
 
 #[test]
 fn gains_that_fit(rt: HostRuntime) -> Result<(), Fail> {
     let alloc = rt.alloc();
     for (place, (cap, gain, wanted)) in GAINS.iter().enumerate() {
-        let p = two_cells(alloc, cap, gain)?;
-        assert!(rt; is_program(&p));
-        let fits = has_fit_gains(alloc, &p)?;
-        assert!(rt; fits == *wanted, "gains {place}");
+        assert!(rt; do_fit(alloc, cap, gain)? == *wanted, "gains {place}");
     }
     Ok(())
-}
-
-/// A program of three cells and three constraints.
-fn program(
-    alloc: Global,
-    masks: &[u32],
-    ends: (&[u64], &[u64]),
-    cap: &[u64],
-    gain: &[i128],
-) -> Result<Program, AllocError> {
-    let (least, most) = ends;
-    Ok(Program {
-        masks: Seq::from_slice(alloc, masks)?,
-        least: Seq::from_slice(alloc, least)?,
-        most: Seq::from_slice(alloc, most)?,
-        floor: Seq::from_slice(alloc, &[0, 0, 0])?,
-        cap: Seq::from_slice(alloc, cap)?,
-        gain: Seq::from_slice(alloc, gain)?,
-    })
 }
 
 /// The allocation that was found before the search was spent.
@@ -80,57 +61,58 @@ fn found(outcome: &Outcome) -> &[u64] {
     }
 }
 
-// The steps of the whole box come to numbers that are too wide: the bound is then what all cells are worth together.
-#[test]
-fn wide_at_once(rt: HostRuntime) -> Result<(), Fail> {
-    let alloc = rt.alloc();
-    let ends = ([0, 1, 0], [2, 1, 1]);
-    let p = program(
-        alloc,
-        &[3, 5, 6],
-        (&ends.0, &ends.1),
-        &[2, 3, 1],
-        &[0, 1, 80 * BIG],
-    )?;
-    for nodes in [1, 10_000] {
-        let outcome = solved(&rt, alloc, &p, nodes)?;
-        assert!(rt; is_spent(&p, &outcome, 80 * BIG + 3) && found(&outcome).is_empty());
-    }
-    Ok(())
+/// Whether the search is spent at that bound, with those counts.
+fn is_stuck(
+    alloc: Global,
+    p: &Program,
+    nodes: u32,
+    bound: i128,
+    counts: &[u64],
+) -> Result<bool, Fail> {
+    let outcome = solved(alloc, p, nodes)?;
+    Ok(is_spent(p, &outcome, bound) && found(&outcome) == counts)
 }
+
+// The steps of the whole box come to numbers that are too wide: the bound is then what all cells are worth together.
+const WIDE_AT_ONCE: Lists<'static> = Lists {
+    masks: &[3, 5, 6],
+    least: &[0, 1, 0],
+    most: &[2, 1, 1],
+    floor: &[0, 0, 0],
+    cap: &[2, 3, 1],
+    gain: &[0, 1, 80 * BIG],
+};
 
 // The relaxed counts are 1/2, 5/2 and 1/2. One part of the box has the best counts, and the steps of the other come to
 // numbers that are too wide, so that the bound of both stays.
-#[test]
-fn wide_in_a_part(rt: HostRuntime) -> Result<(), Fail> {
-    let alloc = rt.alloc();
-    let ends = ([1, 0, 0], [2, 3, 3]);
-    let p = program(
-        alloc,
-        &[3, 6, 5],
-        (&ends.0, &ends.1),
-        &[3, 3, 3],
-        &[8 * BIG, 14 * BIG, -2],
-    )?;
-    let outcome = solved(&rt, alloc, &p, 1)?;
-    assert!(rt; is_spent(&p, &outcome, 39 * BIG - 1) && found(&outcome).is_empty());
-    let outcome = solved(&rt, alloc, &p, 10_000)?;
-    assert!(rt; is_spent(&p, &outcome, 39 * BIG - 1));
-    assert!(rt; found(&outcome) == [1, 2, 0].as_slice());
-    Ok(())
-}
+const WIDE_IN_A_PART: Lists<'static> = Lists {
+    masks: &[3, 6, 5],
+    least: &[1, 0, 0],
+    most: &[2, 3, 3],
+    floor: &[0, 0, 0],
+    cap: &[3, 3, 3],
+    gain: &[8 * BIG, 14 * BIG, -2],
+};
 
-/// The pairs of 17 constraints that allow one row each, where those of i and 15 - i have their row: whatever enters then
-/// moves nothing, and the steps go round.
-fn round_pairs(alloc: Global) -> Result<Program, Memory> {
-    let mut p = with_constraints(no_cells(alloc), 17, 0, 1)?;
-    for first in 0..17u32 {
-        for second in first + 1..17 {
-            let floor = if first + second == 15 { 1 } else { 0 };
-            p = with_cell(p, (1 << first) | (1 << second), (floor, 1), 2)?;
-        }
+// A program, how many nodes its search may have, the bound, and the counts that are found.
+static WIDE: [(Lists<'static>, u32, i128, &[u64]); 4] = [
+    (WIDE_AT_ONCE, 1, 80 * BIG + 3, &[]),
+    (WIDE_AT_ONCE, 10_000, 80 * BIG + 3, &[]),
+    (WIDE_IN_A_PART, 1, 39 * BIG - 1, &[]),
+    (WIDE_IN_A_PART, 10_000, 39 * BIG - 1, &[1, 2, 0]),
+];
+
+#[test]
+fn numbers_too_wide(rt: HostRuntime) -> Result<(), Fail> {
+    let alloc = rt.alloc();
+    for (place, (lists, nodes, bound, counts)) in WIDE.iter().enumerate() {
+        let p = lists.program(alloc)?;
+        assert!(rt;
+            is_stuck(alloc, &p, *nodes, *bound, counts)?,
+            "program {place}"
+        );
     }
-    Ok(p)
+    Ok(())
 }
 
 // Two for each of 136 pairs, though there are 8 of them at most.
@@ -138,7 +120,6 @@ fn round_pairs(alloc: Global) -> Result<Program, Memory> {
 fn steps_that_go_round(rt: HostRuntime) -> Result<(), Fail> {
     let alloc = rt.alloc();
     let p = round_pairs(alloc)?;
-    let outcome = solved(&rt, alloc, &p, 10_000)?;
-    assert!(rt; is_spent(&p, &outcome, 272) && found(&outcome).is_empty());
+    assert!(rt; is_stuck(alloc, &p, 10_000, 272, &[])?);
     Ok(())
 }

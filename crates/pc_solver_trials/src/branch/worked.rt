@@ -1,35 +1,137 @@
-use super::{is_best, is_nothing, is_spent, solved};
-use crate::Outcome;
-use pc_list::Seq;
+use super::{Search, Wanted, are_found, solved};
+use crate::lists::Lists;
+use pc_branch::Outcome;
 use pc_model::{Mult, Tree, TreeNode};
 use pc_num::{Memory, put_scaled};
 use pc_program_bound::Program;
-use std::alloc::{AllocError, Global};
+use std::alloc::Global;
 use std::test::Fail;
 
-/// Three cells, each in two of three constraints, which take from the least to the most of rows.
-fn triangle(alloc: Global, least: u64, most: u64) -> Result<Program, AllocError> {
-    Ok(Program {
-        masks: Seq::from_slice(alloc, &[3, 6, 5])?,
-        least: Seq::from_slice(alloc, &[least, least, least])?,
-        most: Seq::from_slice(alloc, &[most, most, most])?,
-        floor: Seq::from_slice(alloc, &[0, 0, 0])?,
-        cap: Seq::from_slice(alloc, &[most, most, most])?,
-        gain: Seq::from_slice(alloc, &[1, 1, 1])?,
-    })
+// Three cells, each in two of three constraints.
+const TRIANGLE: Lists<'static> = Lists {
+    masks: &[3, 6, 5],
+    least: &[0, 0, 0],
+    most: &[1, 1, 1],
+    floor: &[0, 0, 0],
+    cap: &[1, 1, 1],
+    gain: &[1, 1, 1],
+};
+
+// The same where each constraint wants its row.
+const WANTING: Lists<'static> = Lists {
+    masks: &[3, 6, 5],
+    least: &[1, 1, 1],
+    most: &[1, 1, 1],
+    floor: &[0, 0, 0],
+    cap: &[1, 1, 1],
+    gain: &[1, 1, 1],
+};
+
+static PROGRAMS: [(Lists<'static>, &[Search]); 8] = [
+    // Half a row of each cell is worth 3/2, and no two cells can have a row together.
+    (
+        TRIANGLE,
+        &[
+            (1, Wanted::Spent(1)),
+            (2, Wanted::Spent(1)),
+            (3, Wanted::Best(1)),
+            (10_000, Wanted::Best(1)),
+        ],
+    ),
+    // Each constraint wants its row: twice the rows would be 3.
+    (WANTING, &[(1, Wanted::Spent(1)), (10_000, Wanted::Nothing)]),
+    // Each row is counted twice by constraints that take 2,999,999,997 together.
+    (
+        Lists {
+            masks: &[3, 6, 5],
+            least: &[0, 0, 0],
+            most: &[999_999_999, 999_999_999, 999_999_999],
+            floor: &[0, 0, 0],
+            cap: &[999_999_999, 999_999_999, 999_999_999],
+            gain: &[1, 1, 1],
+        },
+        &[
+            (1, Wanted::Spent(1_499_999_998)),
+            (10_000, Wanted::Best(1_499_999_998)),
+        ],
+    ),
+    // Two triangles that share nothing: each is worth 3/2 by its relaxation and 1 by itself.
+    (
+        Lists {
+            masks: &[3, 6, 5, 24, 48, 40],
+            least: &[0, 0, 0, 0, 0, 0],
+            most: &[1, 1, 1, 1, 1, 1],
+            floor: &[0, 0, 0, 0, 0, 0],
+            cap: &[1, 1, 1, 1, 1, 1],
+            gain: &[1, 1, 1, 1, 1, 1],
+        },
+        &[
+            (1, Wanted::Spent(3)),
+            (3, Wanted::Spent(2)),
+            (10_000, Wanted::Best(2)),
+        ],
+    ),
+    // One node is enough where constraints share no cell, also where a cell has a floor. The dearer cell is full, and two
+    // rows of the other fill the constraint: 3 * 4 + 4 * 1 + 2 * 2.
+    (
+        Lists {
+            masks: &[1, 4, 1],
+            least: &[0, 0, 0],
+            most: &[5, 9, 9],
+            floor: &[0, 0, 0],
+            cap: &[3, 4, 9],
+            gain: &[4, 1, 2],
+        },
+        &[(1, Wanted::Best(20))],
+    ),
+    // Three rows of the cheaper one have to be: 2 * 4 + 4 * 1 + 3 * 2.
+    (
+        Lists {
+            masks: &[1, 4, 1],
+            least: &[0, 0, 0],
+            most: &[5, 9, 9],
+            floor: &[0, 0, 3],
+            cap: &[3, 4, 9],
+            gain: &[4, 1, 2],
+        },
+        &[(1, Wanted::Best(18))],
+    ),
+    // Rows that are worth less than nothing, and no more of them than there have to be: -3 - 2 - 5.
+    (
+        Lists {
+            masks: &[1, 4, 1],
+            least: &[4, 0, 1],
+            most: &[5, 9, 9],
+            floor: &[0, 0, 0],
+            cap: &[3, 4, 9],
+            gain: &[-1, -2, -5],
+        },
+        &[(1, Wanted::Best(-10))],
+    ),
+    // Five rows of a cell that can have four.
+    (
+        Lists {
+            masks: &[1, 4, 1],
+            least: &[0, 0, 5],
+            most: &[5, 9, 9],
+            floor: &[0, 0, 0],
+            cap: &[3, 4, 9],
+            gain: &[4, 1, 2],
+        },
+        &[(1, Wanted::Nothing)],
+    ),
+];
+
+#[test]
+fn programs_by_hand(rt: HostRuntime) -> Result<(), Fail> {
+    let alloc = rt.alloc();
+    for (place, (lists, searches)) in PROGRAMS.iter().enumerate() {
+        assert!(rt; are_found(alloc, lists, searches)?, "program {place}");
+    }
+    Ok(())
 }
 
-/// Two triangles that share nothing.
-fn two_triangles(alloc: Global) -> Result<Program, AllocError> {
-    Ok(Program {
-        masks: Seq::from_slice(alloc, &[3, 6, 5, 24, 48, 40])?,
-        least: Seq::from_slice(alloc, &[0, 0, 0, 0, 0, 0])?,
-        most: Seq::from_slice(alloc, &[1, 1, 1, 1, 1, 1])?,
-        floor: Seq::from_slice(alloc, &[0, 0, 0, 0, 0, 0])?,
-        cap: Seq::from_slice(alloc, &[1, 1, 1, 1, 1, 1])?,
-        gain: Seq::from_slice(alloc, &[1, 1, 1, 1, 1, 1])?,
-    })
-}
+// ---- trees in words
 
 fn put_mult(alloc: Global, text: &mut Vec<u8>, mult: &Mult) -> Result<(), Memory> {
     for number in mult.by.as_slice() {
@@ -110,112 +212,38 @@ fn has_tree(alloc: Global, outcome: &Outcome, wanted: &str) -> Result<bool, Memo
     Ok(words.as_slice() == wanted.as_bytes())
 }
 
-// Half a row of each cell is worth 3/2, and no two cells can have a row together.
-#[test]
-fn one_row_of_three(rt: HostRuntime) -> Result<(), Fail> {
-    let alloc = rt.alloc();
-    let p = triangle(alloc, 0, 1)?;
-    for nodes in 1..3 {
-        let outcome = solved(&rt, alloc, &p, nodes)?;
-        assert!(rt; is_spent(&p, &outcome, 1));
-        let same = has_tree(alloc, &outcome, "bound 1 1 1 over 2")?;
-        assert!(rt; same);
-    }
-    let tree = "split 0 at 0 to 1 and 2, bound 0 0 1 over 1, bound 1 1 0 over 1";
-    for nodes in [3, 10_000] {
-        let outcome = solved(&rt, alloc, &p, nodes)?;
-        assert!(rt; is_best(&p, &outcome, 1));
-        let same = has_tree(alloc, &outcome, tree)?;
-        assert!(rt; same);
-    }
-    Ok(())
-}
-
-// Each constraint wants its row: twice the rows would be 3.
-#[test]
-fn no_rows_of_three(rt: HostRuntime) -> Result<(), Fail> {
-    let alloc = rt.alloc();
-    let p = triangle(alloc, 1, 1)?;
-    let outcome = solved(&rt, alloc, &p, 1)?;
-    assert!(rt; is_spent(&p, &outcome, 1));
-    let outcome = solved(&rt, alloc, &p, 10_000)?;
-    assert!(rt; is_nothing(&outcome));
-    let tree = "split 0 at 0 to 1 and 2, void -1 -1 1 over 1, void 1 1 -1 over 1";
-    let same = has_tree(alloc, &outcome, tree)?;
-    assert!(rt; same);
-    Ok(())
-}
-
-// Each row is counted twice by constraints that take 2,999,999,997 together.
-#[test]
-fn large_counts(rt: HostRuntime) -> Result<(), Fail> {
-    let alloc = rt.alloc();
-    let p = triangle(alloc, 0, 999_999_999)?;
-    let outcome = solved(&rt, alloc, &p, 1)?;
-    assert!(rt; is_spent(&p, &outcome, 1_499_999_998));
-    let outcome = solved(&rt, alloc, &p, 10_000)?;
-    assert!(rt; is_best(&p, &outcome, 1_499_999_998));
-    Ok(())
-}
-
-// Each triangle is worth 3/2 by its relaxation and 1 by itself.
-#[test]
-fn two_rows_of_six(rt: HostRuntime) -> Result<(), Fail> {
-    let alloc = rt.alloc();
-    let p = two_triangles(alloc)?;
-    let outcome = solved(&rt, alloc, &p, 1)?;
-    assert!(rt; is_spent(&p, &outcome, 3));
-    let outcome = solved(&rt, alloc, &p, 3)?;
-    assert!(rt; is_spent(&p, &outcome, 2));
-    let outcome = solved(&rt, alloc, &p, 10_000)?;
-    assert!(rt; is_best(&p, &outcome, 2));
-    Ok(())
-}
-
-/// Two cells in the first of three constraints and one in the last.
-fn apart(
-    alloc: Global,
-    least: &[u64],
-    floor: &[u64],
-    gain: &[i128],
-) -> Result<Program, AllocError> {
-    Ok(Program {
-        masks: Seq::from_slice(alloc, &[1, 4, 1])?,
-        least: Seq::from_slice(alloc, least)?,
-        most: Seq::from_slice(alloc, &[5, 9, 9])?,
-        floor: Seq::from_slice(alloc, floor)?,
-        cap: Seq::from_slice(alloc, &[3, 4, 9])?,
-        gain: Seq::from_slice(alloc, gain)?,
-    })
-}
-
-// The least of three constraints that share no cell, the floors and the gains of three cells, and the greatest worth.
-const APART: [([u64; 3], [u64; 3], [i128; 3], Option<i128>); 4] = [
-    // The dearer cell is full, and two rows of the other fill the constraint: 3 * 4 + 4 * 1 + 2 * 2.
-    ([0, 0, 0], [0, 0, 0], [4, 1, 2], Some(20)),
-    // Three rows of the cheaper one have to be: 2 * 4 + 4 * 1 + 3 * 2.
-    ([0, 0, 0], [0, 0, 3], [4, 1, 2], Some(18)),
-    // Rows that are worth less than nothing, and no more of them than there have to be: -3 - 2 - 5.
-    ([4, 0, 1], [0, 0, 0], [-1, -2, -5], Some(-10)),
-    // Five rows of a cell that can have four.
-    ([0, 0, 5], [0, 0, 0], [4, 1, 2], None),
+// A program, how many nodes its search may have, and the tree of it.
+static TREES: [(Lists<'static>, u32, &str); 5] = [
+    (TRIANGLE, 1, "bound 1 1 1 over 2"),
+    (TRIANGLE, 2, "bound 1 1 1 over 2"),
+    (
+        TRIANGLE,
+        3,
+        "split 0 at 0 to 1 and 2, bound 0 0 1 over 1, bound 1 1 0 over 1",
+    ),
+    (
+        TRIANGLE,
+        10_000,
+        "split 0 at 0 to 1 and 2, bound 0 0 1 over 1, bound 1 1 0 over 1",
+    ),
+    (
+        WANTING,
+        10_000,
+        "split 0 at 0 to 1 and 2, void -1 -1 1 over 1, void 1 1 -1 over 1",
+    ),
 ];
 
-fn is_answer(p: &Program, outcome: &Outcome, wanted: Option<i128>) -> bool {
-    match wanted {
-        Some(value) => is_best(p, outcome, value),
-        None => is_nothing(outcome),
-    }
+fn gives_tree(alloc: Global, p: &Program, nodes: u32, wanted: &str) -> Result<bool, Fail> {
+    let outcome = solved(alloc, p, nodes)?;
+    Ok(has_tree(alloc, &outcome, wanted)?)
 }
 
-// One node is enough where constraints share no cell, also where a cell has a floor.
 #[test]
-fn constraints_apart(rt: HostRuntime) -> Result<(), Fail> {
+fn trees_by_hand(rt: HostRuntime) -> Result<(), Fail> {
     let alloc = rt.alloc();
-    for (place, (least, floor, gain, wanted)) in APART.iter().enumerate() {
-        let p = apart(alloc, least, floor, gain)?;
-        let outcome = solved(&rt, alloc, &p, 1)?;
-        assert!(rt; is_answer(&p, &outcome, *wanted), "program {place}");
+    for (place, (lists, nodes, wanted)) in TREES.iter().enumerate() {
+        let p = lists.program(alloc)?;
+        assert!(rt; gives_tree(alloc, &p, *nodes, wanted)?, "tree {place}");
     }
     Ok(())
 }

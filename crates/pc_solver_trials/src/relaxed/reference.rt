@@ -1,9 +1,11 @@
-use super::{relaxed, steps_of};
-use crate::{Relaxed, Step};
-use pc_list::Seq;
+use super::beside::is_end;
+use super::relaxed;
+use super::whole::{steps_of, whole};
+use crate::lists::Lists;
 use pc_model::Mult;
 use pc_num::{Frac, Memory, put_frac, put_scaled};
 use pc_program_bound::Program;
+use pc_simplex::{Relaxed, Step};
 use std::alloc::Global;
 use std::test::Fail;
 
@@ -14,7 +16,9 @@ const BIG: i128 = 1 << 122;
 
 // A program, the floors and the caps of a box, the relaxation, and the steps on the way to it, as a reference
 // implementation has them.
-const CASES: [(Numbers, [u64; 4], [u64; 4], &str, &str); 20] = [
+type Case = (Numbers, [u64; 4], [u64; 4], &'static str, &'static str);
+
+static CASES: [Case; 20] = [
     (
         (
             [1, 2, 6, 1],
@@ -277,18 +281,6 @@ const CASES: [(Numbers, [u64; 4], [u64; 4], &str, &str); 20] = [
     ),
 ];
 
-fn program(alloc: Global, numbers: &Numbers) -> Result<Program, Memory> {
-    let (masks, least, most, cap, gain) = numbers;
-    Ok(Program {
-        masks: Seq::from_slice(alloc, masks)?,
-        least: Seq::from_slice(alloc, least)?,
-        most: Seq::from_slice(alloc, most)?,
-        floor: Seq::from_slice(alloc, &[0, 0, 0, 0])?,
-        cap: Seq::from_slice(alloc, cap)?,
-        gain: Seq::from_slice(alloc, gain)?,
-    })
-}
-
 fn put_mult(alloc: Global, text: &mut Vec<u8>, mult: &Mult) -> Result<(), Memory> {
     text.extend_from_slice(b" by")?;
     for number in mult.by.as_slice() {
@@ -340,17 +332,47 @@ fn pairs_of(alloc: Global, steps: &[Step]) -> Result<Vec<u8>, Memory> {
     Ok(text)
 }
 
+fn has_words(alloc: Global, relaxed: &Relaxed, wanted: &str) -> Result<bool, Memory> {
+    let words = words_of(alloc, relaxed)?;
+    Ok(words.as_slice() == wanted.as_bytes())
+}
+
+fn has_steps(alloc: Global, steps: &[Step], wanted: &str) -> Result<bool, Memory> {
+    let pairs = pairs_of(alloc, steps)?;
+    Ok(pairs.as_slice() == wanted.as_bytes())
+}
+
+/// Whether the steps are those of the case, and the relaxation is what they end in.
+fn has_end(alloc: Global, p: &Program, case: &Case, found: &Relaxed) -> Result<bool, Fail> {
+    let (_, floor, cap, _, pairs) = case;
+    let end = whole(alloc, p, floor, cap)?;
+    Ok(is_end(p, floor, cap, found, &end) && has_steps(alloc, steps_of(&end), pairs)?)
+}
+
+fn is_case(alloc: Global, p: &Program, case: &Case) -> Result<bool, Fail> {
+    let (_, floor, cap, words, _) = case;
+    let found = relaxed(alloc, p, floor, cap)?;
+    Ok(has_words(alloc, &found, words)? && has_end(alloc, p, case, &found)?)
+}
+
+fn is_right(alloc: Global, case: &Case) -> Result<bool, Fail> {
+    let (masks, least, most, cap, gain) = &case.0;
+    let lists = Lists {
+        masks,
+        least,
+        most,
+        floor: &[0, 0, 0, 0],
+        cap,
+        gain,
+    };
+    is_case(alloc, &lists.program(alloc)?, case)
+}
+
 #[test]
 fn relaxations_of_small_programs(rt: HostRuntime) -> Result<(), Fail> {
     let alloc = rt.alloc();
-    for (place, (numbers, floor, cap, words, pairs)) in CASES.iter().enumerate() {
-        let p = program(alloc, numbers)?;
-        let found = relaxed(&rt, alloc, &p, floor, cap)?;
-        let told = words_of(alloc, &found)?;
-        assert!(rt; told.as_slice() == words.as_bytes(), "relaxation {place}");
-        let steps = steps_of(&rt, alloc, &p, floor, cap)?;
-        let taken = pairs_of(alloc, steps.as_slice())?;
-        assert!(rt; taken.as_slice() == pairs.as_bytes());
+    for (place, case) in CASES.iter().enumerate() {
+        assert!(rt; is_right(alloc, case)?, "relaxation {place}");
     }
     Ok(())
 }
