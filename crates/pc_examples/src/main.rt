@@ -12,7 +12,12 @@ use std::rt::Files;
 use trouble::Trouble;
 
 /// The folders of the examples.
-const EXAMPLES: [&str; 10] = [
+const EXAMPLES: [&str; 15] = [
+    "shop",
+    "shop-prove",
+    "shop-check",
+    "shop-show",
+    "month",
     "week",
     "covered",
     "uncovered",
@@ -24,9 +29,6 @@ const EXAMPLES: [&str; 10] = [
     "outer",
     "undecided",
 ];
-
-/// What an example's command loads.
-const FILES: [&str; 3] = ["schema.csv", "rows.csv", "constraints.txt"];
 
 fn main(rt: HostRuntime) -> ExitCode {
     match run_all(&rt) {
@@ -51,15 +53,27 @@ fn run_all<R: Files + Print + AllocGlobal>(rt: &R) -> Result<(), Trouble> {
 /// What the words of an example write over its files.
 fn report_of<R: Files + AllocGlobal>(rt: &R, folder: &str) -> Result<MemSink, Trouble> {
     let alloc = rt.alloc();
-    let mut shelf = MemShelf::new(alloc);
-    for file in FILES {
-        let bytes = fs::read(rt, path(alloc, folder, file)?.as_str())?;
-        shelf.add(file, bytes.as_slice())?;
-    }
     let words = words_of(rt, folder)?;
+    let mut shelf = files_of(rt, folder, words.as_slice())?;
     let mut sink = MemSink::new(alloc, 0);
     run(alloc, words.as_slice(), &mut shelf, &mut sink);
     Ok(sink)
+}
+
+/// The files of an example that its words name. A word that names none may be a query.
+fn files_of<R: Files + AllocGlobal>(
+    rt: &R,
+    folder: &str,
+    words: &[String],
+) -> Result<MemShelf, Trouble> {
+    let alloc = rt.alloc();
+    let mut shelf = MemShelf::new(alloc);
+    for word in words {
+        if let Ok(bytes) = fs::read(rt, path(alloc, folder, word.as_str())?.as_str()) {
+            shelf.add(word.as_str(), bytes.as_slice())?;
+        }
+    }
+    Ok(shelf)
 }
 
 /// The words of an example, one a line.
