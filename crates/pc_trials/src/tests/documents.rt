@@ -9,6 +9,10 @@ const CHECK: [&str; 5] = ["check", "s", "r", "c", "d"];
 const FRONT: &str =
     "pc 1\nquery sum(price)\ntree own\ncut branch {Chicago}\ncut price 149.99\nleaf 1 in\nleaf barren\nleaf barren\nrelation possible\nlow 150.00 exact\nby tree\nbound 1 0\n";
 
+/// A front without the second cut.
+const SHORTER: &str =
+    "pc 1\nquery sum(price)\ntree own\ncut branch {Chicago}\nleaf 1 in\nleaf barren\nrelation possible\nlow 150.00 exact\nby tree\nbound 1 0\n";
+
 const BACK: &str = "by tree\nbound 1 14999\n";
 
 const HIGH: &str = "high 899.95 exact\n";
@@ -26,102 +30,99 @@ fn shelf_with(alloc: Global, parts: &[&str]) -> Result<MemShelf, Fail> {
     Ok(shelf)
 }
 
+static DOCUMENTS_CASES: [(&[&str], &str, Status); 9] = [
+    (&[FRONT, HIGH, RUN, BACK, "end\n"], "yes\n", Status::Done),
+    (
+        &[FRONT, HIGH, "run 5: Chicago, 1, 149.98\n", BACK, "end\n"],
+        "no line 13 rule 6\n",
+        Status::SaidNo,
+    ),
+    (
+        &[FRONT, HIGH, RUN, BACK],
+        "no line 17 rule 1\n",
+        Status::SaidNo,
+    ),
+    (
+        &[SHORTER, HIGH, RUN, BACK, "end\n"],
+        "no line 5 rule 4\n",
+        Status::SaidNo,
+    ),
+    (
+        &[FRONT, "high 899.94 outer\n", BACK, "end\n"],
+        "no line 13 rule 12\n",
+        Status::SaidNo,
+    ),
+    (
+        &[FRONT, HIGH, "run 0: Chicago, 1, 149.99\n", BACK, "end\n"],
+        "no line 13 rule 5\n",
+        Status::SaidNo,
+    ),
+    (
+        &[FRONT, HIGH, RUN, BACK, "end\n\n"],
+        "no line 18 rule 1\n",
+        Status::SaidNo,
+    ),
+    (&["pc 1\nend\n"], "yes\n", Status::Done),
+    (&[], "no line 1 rule 1\n", Status::SaidNo),
+];
+
 #[test]
 fn documents(rt: HostRuntime) -> Result<(), Fail> {
-    let shorter =
-        "pc 1\nquery sum(price)\ntree own\ncut branch {Chicago}\nleaf 1 in\nleaf barren\nrelation possible\nlow 150.00 exact\nby tree\nbound 1 0\n";
-    let table: [(&[&str], &str, Status); 9] = [
-        (&[FRONT, HIGH, RUN, BACK, "end\n"], "yes\n", Status::Done),
-        (
-            &[FRONT, HIGH, "run 5: Chicago, 1, 149.98\n", BACK, "end\n"],
-            "no line 13 rule 6\n",
-            Status::SaidNo,
-        ),
-        (
-            &[FRONT, HIGH, RUN, BACK],
-            "no line 17 rule 1\n",
-            Status::SaidNo,
-        ),
-        (
-            &[shorter, HIGH, RUN, BACK, "end\n"],
-            "no line 5 rule 4\n",
-            Status::SaidNo,
-        ),
-        (
-            &[FRONT, "high 899.94 outer\n", BACK, "end\n"],
-            "no line 13 rule 12\n",
-            Status::SaidNo,
-        ),
-        (
-            &[FRONT, HIGH, "run 0: Chicago, 1, 149.99\n", BACK, "end\n"],
-            "no line 13 rule 5\n",
-            Status::SaidNo,
-        ),
-        (
-            &[FRONT, HIGH, RUN, BACK, "end\n\n"],
-            "no line 18 rule 1\n",
-            Status::SaidNo,
-        ),
-        (&["pc 1\nend\n"], "yes\n", Status::Done),
-        (&[], "no line 1 rule 1\n", Status::SaidNo),
-    ];
-    for (parts, want, status) in table {
-        let mut shelf = shelf_with(rt.alloc(), parts)?;
-        let mut sink = MemSink::new(rt.alloc(), 0);
-        let ended = run_words(rt.alloc(), &CHECK, &mut shelf, &mut sink)?;
-        assert_eq!(rt; sink.kept.as_slice(), want.as_bytes());
-        assert_eq!(rt; ended, status, "at {want}");
-        assert_eq!(rt; (shelf.calls, sink.calls), (4, 1));
+    for case in &DOCUMENTS_CASES {
+        let (parts, want, status) = *case;
+        let shelf = shelf_with(rt.alloc(), parts)?;
+        assert!(rt;
+            ends_after(rt.alloc(), &CHECK, shelf, (want, status), (4, 1))?,
+            "want {want}"
+        );
     }
     Ok(())
 }
 
-/// What `check` says of the document that `prove` writes for these words.
-fn checked_proof(alloc: Global, words: &[&str]) -> Result<(Status, Seq<u8>), Fail> {
+/// The document that `prove` writes for these words.
+fn proof_for(alloc: Global, words: &[&str]) -> Result<Seq<u8>, Fail> {
     let mut shelf = shelf_of(alloc, SHOP, SALES, CAPPED)?;
-    let mut proof = MemSink::new(alloc, 0);
-    let ended = run_words(alloc, words, &mut shelf, &mut proof)?;
-    if ended != Status::Done {
-        return Ok((ended, Seq::new(alloc)));
-    }
-    shelf.add("d", proof.kept.as_slice())?;
     let mut sink = MemSink::new(alloc, 0);
-    let ended = run_words(alloc, &CHECK, &mut shelf, &mut sink)?;
-    Ok((ended, sink.kept))
+    run_words(alloc, words, &mut shelf, &mut sink)?;
+    Ok(sink.kept)
 }
+
+/// Whether `check` says yes to a document.
+fn is_taken(alloc: Global, document: &[u8]) -> Result<bool, Fail> {
+    let mut shelf = shelf_of(alloc, SHOP, SALES, CAPPED)?;
+    shelf.add("d", document)?;
+    ends(alloc, &CHECK, shelf, ("yes\n", Status::Done))
+}
+
+static PROOFS_THAT_ARE_CHECKED_CASES: [&[&str]; 5] = [
+    &["prove", "s", "r", "c", "sum(price)"],
+    &["prove", "s", "r", "c", "count", "sum(price)"],
+    &["prove", "--nodes", "1", "s", "r", "c", "avg(price)"],
+    &[
+        "prove",
+        "s",
+        "r",
+        "c",
+        "max(price) where day <= 3 group by branch",
+    ],
+    &["prove", "s", "r", "c", "min(price) where branch = Trenton"],
+];
 
 #[test]
 fn proofs_that_are_checked(rt: HostRuntime) -> Result<(), Fail> {
-    let table: [&[&str]; 5] = [
-        &["prove", "s", "r", "c", "sum(price)"],
-        &["prove", "s", "r", "c", "count", "sum(price)"],
-        &["prove", "--nodes", "1", "s", "r", "c", "avg(price)"],
-        &[
-            "prove",
-            "s",
-            "r",
-            "c",
-            "max(price) where day <= 3 group by branch",
-        ],
-        &["prove", "s", "r", "c", "min(price) where branch = Trenton"],
-    ];
-    for words in table {
-        let (ended, said) = checked_proof(rt.alloc(), words)?;
-        assert_eq!(rt; ended, Status::Done);
-        assert_eq!(rt; said.as_slice(), b"yes\n".as_slice());
+    for words in &PROOFS_THAT_ARE_CHECKED_CASES {
+        let proof = proof_for(rt.alloc(), *words)?;
+        assert!(rt; is_taken(rt.alloc(), proof.as_slice())?);
     }
     Ok(())
 }
 
 #[test]
 fn one_tree_for_two_questions(rt: HostRuntime) -> Result<(), Fail> {
-    let mut shelf = shelf_of(rt.alloc(), SHOP, SALES, CAPPED)?;
-    let mut sink = MemSink::new(rt.alloc(), 0);
     let words = ["prove", "s", "r", "c", "count", "sum(price)"];
-    let ended = run_words(rt.alloc(), &words, &mut shelf, &mut sink)?;
-    assert_eq!(rt; ended, Status::Done);
+    let proof = proof_for(rt.alloc(), &words)?;
     let mut same = 0;
-    for line in sink.kept.as_slice().split(|byte| *byte == b'\n') {
+    for line in proof.as_slice().split(|byte| *byte == b'\n') {
         if line == b"tree same".as_slice() && same < 9 {
             same += 1;
         }
@@ -130,57 +131,64 @@ fn one_tree_for_two_questions(rt: HostRuntime) -> Result<(), Fail> {
     Ok(())
 }
 
-/// What is said where the load of this number fails, and the put keeps so many bytes or all.
-fn failing(alloc: Global, load: Option<u64>, put: Option<u64>) -> Result<(Status, Seq<u8>), Fail> {
+/// Whether a check ends so where the load of this number fails, and the put keeps so many bytes or all.
+fn fails_so(
+    alloc: Global,
+    load: Option<u64>,
+    put: Option<u64>,
+    ending: Ending<'_>,
+) -> Result<bool, Fail> {
     let mut shelf = shelf_with(alloc, &[FRONT, HIGH, RUN, BACK])?;
-    let mut sink = MemSink::new(alloc, put.unwrap_or(0));
     if let Some(number) = load {
         shelf.fail(number)?;
     }
+    let mut sink = MemSink::new(alloc, put.unwrap_or(0));
     if put.is_some() {
         sink.fail(0)?;
     }
-    let ended = run_words(alloc, &CHECK, &mut shelf, &mut sink)?;
-    Ok((ended, sink.kept))
+    ends_in(alloc, &CHECK, shelf, sink, ending)
 }
+
+static CHECKS_THAT_FAIL_CASES: [(Option<u64>, Option<u64>, &str, Status); 8] = [
+    (Some(0), None, "read fault: schema\n", Status::ReadFault),
+    (Some(1), None, "read fault: rows\n", Status::ReadFault),
+    (
+        Some(2),
+        None,
+        "read fault: constraints\n",
+        Status::ReadFault,
+    ),
+    (Some(3), None, "read fault: document\n", Status::ReadFault),
+    (Some(3), Some(7), "read fa", Status::ReadFault),
+    (None, Some(0), "", Status::WriteFault),
+    (None, Some(7), "no line", Status::WriteFault),
+    (None, None, "no line 17 rule 1\n", Status::SaidNo),
+];
 
 #[test]
 fn checks_that_fail(rt: HostRuntime) -> Result<(), Fail> {
-    let table = [
-        (Some(0), None, "read fault: schema\n", Status::ReadFault),
-        (Some(1), None, "read fault: rows\n", Status::ReadFault),
-        (
-            Some(2),
-            None,
-            "read fault: constraints\n",
-            Status::ReadFault,
-        ),
-        (Some(3), None, "read fault: document\n", Status::ReadFault),
-        (Some(3), Some(7), "read fa", Status::ReadFault),
-        (None, Some(0), "", Status::WriteFault),
-        (None, Some(7), "no line", Status::WriteFault),
-        (None, None, "no line 17 rule 1\n", Status::SaidNo),
-    ];
-    for (load, put, want, status) in table {
-        let (ended, said) = failing(rt.alloc(), load, put)?;
-        assert_eq!(rt; said.as_slice(), want.as_bytes(), "at {want}");
-        assert_eq!(rt; ended, status, "at {want}");
+    for case in &CHECKS_THAT_FAIL_CASES {
+        let (load, put, want, status) = *case;
+        assert!(rt;
+            fails_so(rt.alloc(), load, put, (want, status))?,
+            "at {want}"
+        );
     }
     Ok(())
 }
 
-#[test]
-fn hostile_documents(rt: HostRuntime) -> Result<(), Fail> {
-    let mut shelf = shelf_of(rt.alloc(), SHOP, SALES, CAPPED)?;
-    let mut document = String::from_str(rt.alloc(), "pc 1\nquery sum(price)\ntree own\n")?;
+/// The front of a document whose tree has so many cuts below one another.
+fn deep_tree(alloc: Global) -> Result<String, Fail> {
+    let mut document = String::from_str(alloc, "pc 1\nquery sum(price)\ntree own\n")?;
     for _ in 0..3_000 {
         document.push_str("cut price 0.01\n")?;
     }
-    shelf.add("d", document.as_bytes())?;
-    let mut sink = MemSink::new(rt.alloc(), 0);
-    let ended = run_words(rt.alloc(), &CHECK, &mut shelf, &mut sink)?;
-    assert_eq!(rt; sink.kept.as_slice(), b"no line 3004 rule 1\n".as_slice());
-    assert_eq!(rt; ended, Status::SaidNo);
+    Ok(document)
+}
+
+/// The same with its leaves and an answer.
+fn deep_document(alloc: Global) -> Result<String, Fail> {
+    let mut document = deep_tree(alloc)?;
     for _ in 0..3_001 {
         document.push_str("leaf barren\n")?;
     }
@@ -188,28 +196,37 @@ fn hostile_documents(rt: HostRuntime) -> Result<(), Fail> {
     document.push_str(
         "high 899.95 exact\nrun 5: Chicago, 1, 149.99\nby tree\nbound 1 14999\nend\n",
     )?;
-    shelf.add("d", document.as_bytes())?;
-    let mut sink = MemSink::new(rt.alloc(), 0);
-    let ended = run_words(rt.alloc(), &CHECK, &mut shelf, &mut sink)?;
-    assert_eq!(rt; sink.kept.as_slice(), b"no line 5 rule 3\n".as_slice());
-    assert_eq!(rt; ended, Status::SaidNo);
+    Ok(document)
+}
+
+#[test]
+fn hostile_documents(rt: HostRuntime) -> Result<(), Fail> {
+    let cut_off = deep_tree(rt.alloc())?;
+    let shelf = shelf_with(rt.alloc(), &[cut_off.as_str()])?;
+    let ending = ("no line 3004 rule 1\n", Status::SaidNo);
+    assert!(rt; ends(rt.alloc(), &CHECK, shelf, ending)?);
+    Ok(())
+}
+
+#[test]
+fn hostile_documents_with_their_leaves(rt: HostRuntime) -> Result<(), Fail> {
+    let whole = deep_document(rt.alloc())?;
+    let shelf = shelf_with(rt.alloc(), &[whole.as_str()])?;
+    let ending = ("no line 5 rule 3\n", Status::SaidNo);
+    assert!(rt; ends(rt.alloc(), &CHECK, shelf, ending)?);
     Ok(())
 }
 
 #[test]
 fn what_check_refuses(rt: HostRuntime) -> Result<(), Fail> {
-    let mut shelf = shelf_of(rt.alloc(), SHOP, SALES, CAPPED)?;
-    let mut sink = MemSink::new(rt.alloc(), 0);
-    let ended = run_words(rt.alloc(), &CHECK, &mut shelf, &mut sink)?;
-    assert_eq!(rt; sink.kept.as_slice(), b"read fault: document\n".as_slice());
-    assert_eq!(rt; ended, Status::ReadFault);
-    shelf.add("c", b"c: true => true, 5..2\n".as_slice())?;
-    let mut sink = MemSink::new(rt.alloc(), 0);
-    let ended = run_words(rt.alloc(), &CHECK, &mut shelf, &mut sink)?;
-    assert_eq!(rt;
-        sink.kept.as_slice(),
-        b"malformed constraints at 1: reason 18 LeastOverMost\n".as_slice()
+    let shelf = shelf_of(rt.alloc(), SHOP, SALES, CAPPED)?;
+    let ending = ("read fault: document\n", Status::ReadFault);
+    assert!(rt; ends(rt.alloc(), &CHECK, shelf, ending)?);
+    let shelf = shelf_of(rt.alloc(), SHOP, SALES, "c: true => true, 5..2\n")?;
+    let ending = (
+        "malformed constraints at 1: reason 18 LeastOverMost\n",
+        Status::Malformed,
     );
-    assert_eq!(rt; ended, Status::Malformed);
+    assert!(rt; ends(rt.alloc(), &CHECK, shelf, ending)?);
     Ok(())
 }

@@ -1,5 +1,5 @@
 use super::*;
-use overlaps::has_part;
+use overlaps::has_ends;
 use std::alloc::AllocError;
 use sums::{BELOW_ZERO, SEEN, SIGNS, TWO_TO_FIVE};
 
@@ -114,12 +114,12 @@ static REPORTS: [(&str, &str, &str, &str, &str); 12] = [
 #[test]
 fn least_and_greatest_numbers(rt: HostRuntime) -> Result<(), Fail> {
     for (schema, rows, constraints, query, want) in &REPORTS {
-        let mut shelf = shelf_of(rt.alloc(), schema, rows, constraints)?;
-        let mut sink = MemSink::new(rt.alloc(), 0);
+        let shelf = shelf_of(rt.alloc(), schema, rows, constraints)?;
         let words = ["bound", "s", "r", "c", *query];
-        let ended = run_words(rt.alloc(), &words, &mut shelf, &mut sink)?;
-        assert_eq!(rt; sink.kept.as_slice(), want.as_bytes(), "at {query}");
-        assert_eq!(rt; ended, Status::Done);
+        assert!(rt;
+            ends(rt.alloc(), &words, shelf, (want, Status::Done))?,
+            "at {query}"
+        );
     }
     Ok(())
 }
@@ -145,12 +145,12 @@ static OPEN: [(&str, &str, &str, &str, &str); 2] = [
 #[test]
 fn least_and_greatest_numbers_that_stay_open(rt: HostRuntime) -> Result<(), Fail> {
     for (schema, rows, constraints, query, want) in &OPEN {
-        let mut shelf = shelf_of(rt.alloc(), schema, rows, constraints)?;
-        let mut sink = MemSink::new(rt.alloc(), 0);
+        let shelf = shelf_of(rt.alloc(), schema, rows, constraints)?;
         let words = ["bound", "--nodes", "1", "s", "r", "c", *query];
-        let ended = run_words(rt.alloc(), &words, &mut shelf, &mut sink)?;
-        assert_eq!(rt; sink.kept.as_slice(), want.as_bytes(), "at {query}");
-        assert_eq!(rt; ended, Status::Done);
+        assert!(rt;
+            ends(rt.alloc(), &words, shelf, (want, Status::Done))?,
+            "at {query}"
+        );
     }
     Ok(())
 }
@@ -190,18 +190,10 @@ static MONTHS: [(&str, &str, &str); 2] = [
 fn prices_of_a_month(rt: HostRuntime) -> Result<(), Fail> {
     let rows = month_rows(rt.alloc())?;
     for (query, low, high) in &MONTHS {
-        let mut shelf = shelf_of(rt.alloc(), SHOP, rows.as_str(), MONTH)?;
-        let mut sink = MemSink::new(rt.alloc(), 0);
-        let words = ["bound", "s", "r", "c", *query];
-        let ended = run_words(rt.alloc(), &words, &mut shelf, &mut sink)?;
-        assert_eq!(rt; ended, Status::Done);
+        let shelf = shelf_of(rt.alloc(), SHOP, rows.as_str(), MONTH)?;
         assert!(rt;
-            has_part(sink.kept.as_slice(), low.as_bytes()),
-            "want {low}"
-        );
-        assert!(rt;
-            has_part(sink.kept.as_slice(), high.as_bytes()),
-            "want {high}"
+            has_ends(rt.alloc(), query, shelf, low, high)?,
+            "at {query}"
         );
     }
     Ok(())

@@ -1,6 +1,7 @@
 //! Several queries in one call, and queries by group.
 use super::*;
 use extremes::{MONTH, month_rows};
+use pc_list::Seq;
 use std::alloc::AllocError;
 use std::process::Abort;
 use std::str::from_utf8;
@@ -81,32 +82,41 @@ fn without_runs(alloc: Global, text: &str) -> Result<String, AllocError> {
     Ok(kept)
 }
 
-/// The report of `bound` with these queries.
-fn report_of(
-    rt: &impl Abort,
-    alloc: Global,
-    schema: &str,
-    rows: &str,
-    constraints: &str,
-    queries: &[&str],
-) -> Result<MemSink, Fail> {
-    let mut shelf = shelf_of(alloc, schema, rows, constraints)?;
-    let mut sink = MemSink::new(alloc, 0);
+/// The words of `bound` with these queries.
+fn words_with<'a>(alloc: Global, queries: &[&'a str]) -> Result<Vec<&'a str>, Fail> {
     let mut words = vec![in alloc; "bound", "s", "r", "c"]?;
     for query in queries {
         words.push(*query)?;
     }
-    let ended = run_words(alloc, words.as_slice(), &mut shelf, &mut sink)?;
-    assert_eq!(rt; ended, Status::Done);
-    assert_eq!(rt; (shelf.calls, sink.calls), (3, 1));
-    Ok(sink)
+    Ok(words)
+}
+
+/// What the words write over a shelf, which they use up, if they are answered by three loads and one put.
+fn answered(alloc: Global, words: &[&str], mut shelf: MemShelf) -> Result<Option<Seq<u8>>, Fail> {
+    let mut sink = MemSink::new(alloc, 0);
+    let ended = run_words(alloc, words, &mut shelf, &mut sink)?;
+    if ended != Status::Done || (shelf.calls, sink.calls) != (3, 1) {
+        return Ok(None);
+    }
+    Ok(Some(sink.kept))
+}
+
+/// Whether a text is this one but for the lines of runs.
+fn is_without_runs(rt: &impl Abort, alloc: Global, text: &[u8], want: &str) -> Result<bool, Fail> {
+    let text = from_utf8(text).expect(rt, "a report is a text");
+    let kept = without_runs(alloc, text)?;
+    Ok(kept.as_str() == want)
 }
 
 fn assert_trial(rt: &impl Abort, alloc: Global, trial: &Trial<'_>) -> Result<(), Fail> {
     let (schema, rows, constraints, queries, want) = *trial;
-    let sink = report_of(rt, alloc, schema, rows, constraints, queries)?;
-    let text = from_utf8(sink.kept.as_slice()).expect(rt, "a report is a text");
-    assert_eq!(rt; without_runs(alloc, text)?.as_str(), want, "want {want}");
+    let words = words_with(alloc, queries)?;
+    let shelf = shelf_of(alloc, schema, rows, constraints)?;
+    let text = answered(alloc, words.as_slice(), shelf)?.expect(rt, "a report");
+    assert!(rt;
+        is_without_runs(rt, alloc, text.as_slice(), want)?,
+        "want {want}"
+    );
     Ok(())
 }
 
@@ -200,17 +210,21 @@ fn names_without_rows(rt: HostRuntime) -> Result<(), Fail> {
     assert_trial(&rt, alloc, &trial)
 }
 
-/// Asserts that the summary of a generated case has these lines in front, and is the same when it is made again.
-fn assert_summary(rt: &impl Abort, alloc: Global, words: &[&str], front: &str) -> Result<(), Fail> {
+/// What the words write over an empty shelf, of which they load nothing.
+fn summary_of(rt: &impl Abort, alloc: Global, words: &[&str]) -> Result<Seq<u8>, Fail> {
     let mut shelf = MemShelf::new(alloc);
     let mut sink = MemSink::new(alloc, 0);
-    let mut again = MemSink::new(alloc, 0);
     let ended = run_words(alloc, words, &mut shelf, &mut sink)?;
-    assert_eq!(rt; ended, Status::Done);
-    run_words(alloc, words, &mut shelf, &mut again)?;
-    assert_eq!(rt; shelf.calls, 0);
-    assert!(rt; sink.kept.as_slice() == again.kept.as_slice());
-    let text = from_utf8(sink.kept.as_slice()).expect(rt, "a summary is a text");
+    assert!(rt; ended == Status::Done && shelf.calls == 0);
+    Ok(sink.kept)
+}
+
+/// Asserts that the summary of a generated case has these lines in front, and is the same when it is made again.
+fn assert_summary(rt: &impl Abort, alloc: Global, words: &[&str], front: &str) -> Result<(), Fail> {
+    let summary = summary_of(rt, alloc, words)?;
+    let again = summary_of(rt, alloc, words)?;
+    assert!(rt; summary.as_slice() == again.as_slice());
+    let text = from_utf8(summary.as_slice()).expect(rt, "a summary is a text");
     assert_eq!(rt; text.lines().count(), 7);
     assert!(rt; text.starts_with(front), "want {front}");
     Ok(())

@@ -11,8 +11,23 @@ pub(super) fn has_part(text: &[u8], part: &[u8]) -> bool {
     text.windows(part.len()).any(|other| other == part)
 }
 
+/// Whether a query is answered by a report with both of the lines.
+pub(super) fn has_ends(
+    alloc: Global,
+    query: &str,
+    mut shelf: MemShelf,
+    low: &str,
+    high: &str,
+) -> Result<bool, Fail> {
+    let mut sink = MemSink::new(alloc, 0);
+    let words = ["bound", "s", "r", "c", query];
+    let ended = run_words(alloc, &words, &mut shelf, &mut sink)?;
+    let text = sink.kept.as_slice();
+    Ok(ended == Status::Done && has_part(text, low.as_bytes()) && has_part(text, high.as_bytes()))
+}
+
 // The schema, the rows, the constraints, the query and the lines of the ends.
-const REPORTS: [(&str, &str, &str, &str, &str, &str); 5] = [
+static REPORTS: [(&str, &str, &str, &str, &str, &str); 5] = [
     (
         SHOP,
         SALES,
@@ -62,18 +77,10 @@ const REPORTS: [(&str, &str, &str, &str, &str, &str); 5] = [
 #[test]
 fn overlapping_constraints(rt: HostRuntime) -> Result<(), Fail> {
     for (schema, rows, constraints, query, low, high) in &REPORTS {
-        let mut shelf = shelf_of(rt.alloc(), schema, rows, constraints)?;
-        let mut sink = MemSink::new(rt.alloc(), 0);
-        let words = ["bound", "s", "r", "c", *query];
-        let ended = run_words(rt.alloc(), &words, &mut shelf, &mut sink)?;
-        assert_eq!(rt; ended, Status::Done, "at {constraints}");
+        let shelf = shelf_of(rt.alloc(), schema, rows, constraints)?;
         assert!(rt;
-            has_part(sink.kept.as_slice(), low.as_bytes()),
-            "want {low}"
-        );
-        assert!(rt;
-            has_part(sink.kept.as_slice(), high.as_bytes()),
-            "want {high}"
+            has_ends(rt.alloc(), query, shelf, low, high)?,
+            "at {constraints}"
         );
     }
     Ok(())
@@ -82,13 +89,8 @@ fn overlapping_constraints(rt: HostRuntime) -> Result<(), Fail> {
 #[test]
 fn overlapping_constraints_that_no_list_meets(rt: HostRuntime) -> Result<(), Fail> {
     let constraints = "a: true => true, 3..5\nb: week in 1..4 => true, 0..2\n";
-    let mut shelf = shelf_of(rt.alloc(), SCHEMA, ROWS, constraints)?;
-    let mut sink = MemSink::new(rt.alloc(), 0);
-    let ended = run_words(rt.alloc(), &WORDS, &mut shelf, &mut sink)?;
-    assert_eq!(rt;
-        sink.kept.as_slice(),
-        b"query count\nrelation impossible\n".as_slice()
-    );
-    assert_eq!(rt; ended, Status::Done);
+    let shelf = shelf_of(rt.alloc(), SCHEMA, ROWS, constraints)?;
+    let ending = ("query count\nrelation impossible\n", Status::Done);
+    assert!(rt; ends(rt.alloc(), &WORDS, shelf, ending)?);
     Ok(())
 }

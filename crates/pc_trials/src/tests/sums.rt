@@ -120,12 +120,12 @@ const REPORTS: [(&str, &str, &str, &str, &str); 13] = [
 #[test]
 fn counts_and_sums(rt: HostRuntime) -> Result<(), Fail> {
     for (schema, rows, constraints, query, want) in &REPORTS {
-        let mut shelf = shelf_of(rt.alloc(), schema, rows, constraints)?;
-        let mut sink = MemSink::new(rt.alloc(), 0);
+        let shelf = shelf_of(rt.alloc(), schema, rows, constraints)?;
         let words = ["bound", "s", "r", "c", *query];
-        let ended = run_words(rt.alloc(), &words, &mut shelf, &mut sink)?;
-        assert_eq!(rt; sink.kept.as_slice(), want.as_bytes(), "at {query}");
-        assert_eq!(rt; ended, Status::Done);
+        assert!(rt;
+            ends(rt.alloc(), &words, shelf, (want, Status::Done))?,
+            "at {query}"
+        );
     }
     Ok(())
 }
