@@ -2,16 +2,24 @@ use Rattle.std.proofs.Common.{ap, ◌∙◌}
 use Rattle.pc_agg.specs.Extremes.{judged}
 use Rattle.pc_agg.proofs.judged.judge.Goals as goal
 
-pub lack_from-requires-clause-sized : goal.lack_from-requires-clause-sized
-lack_from-requires-clause-sized c = rw c.as_slice-picks.ensures c.requires.sized
+pub settle_found-requires-clause-sized : goal.settle_found-requires-clause-sized
+settle_found-requires-clause-sized c = rw c.as_slice.ensures c.requires.sized
+
+pub both_ends-requires-clause-low : goal.both_ends-requires-clause-low
+both_ends-requires-clause-low c = rw (c.as_slice-2.ensures, c.in_ok-settled.ensures.found) c.requires.low
+
+pub both_ends-requires-clause-high : goal.both_ends-requires-clause-high
+both_ends-requires-clause-high c = rw (c.as_slice-2.ensures, c.in_ok-settled.ensures.found) c.requires.high
 
 pub returns : goal.returns
 returns c = record {
   low_end = c.in_ok-low.low;
-  high_end = c.in_ok-high.high;
-  lack = c.in_ok-lack.lack;
-  low_is = rw c.as_slice-3.ensures at c.in_ok-low.ensures;
-  high_is = rw c.as_slice-4.ensures at c.in_ok-high.ensures;
-  lack_is = rw (c.as_slice-picks.ensures, c.as_slice-2.ensures) at c.in_ok-lack.ensures;
-  answer_is = c.judged.ensures ∙ ap (λ relation. judged c.args.observed relation c.in_ok-lack.lack c.in_ok-low.low c.in_ok-high.high) (rw (c.as_slice-picks.ensures, c.as_slice.ensures) at c.in_ok-relation.ensures);
+  high_end = c.in_ok-low.high;
+  lack = c.in_ok-settled.settled.lack;
+  low_is = rw (c.as_slice-2.ensures, c.in_ok-settled.ensures.found) at c.in_ok-low.ensures.low;
+  high_is = rw (c.as_slice-2.ensures, c.in_ok-settled.ensures.found) at c.in_ok-low.ensures.high;
+  lack_is = rw c.as_slice.ensures at c.in_ok-settled.ensures.lack;
+  answer_is =
+      c.judged.ensures
+      ∙ ap (λ relation. judged c.args.observed relation c.in_ok-settled.settled.lack c.in_ok-low.low c.in_ok-low.high) (rw c.as_slice.ensures at c.in_ok-settled.ensures.relation);
 }
