@@ -124,6 +124,13 @@ pub record CanStand (stand : Stand) (found : List (List ℕ)) : Type 0 where
   pub picked : length stand.picks ≡ cells_of stand.program
   pub small : nat_abs stand.key ≤ 2 ^ 63
 
+pub record IsJudgedOver (observed : Bool) (settled : Settled) (low high : Stand) (answer : Answer) : Type 0 where
+  pub low_end : End
+  pub high_end : End
+  pub low_is : IsEndAt Low low settled.found low_end
+  pub high_is : IsEndAt High high settled.found high_end
+  pub answer_is : answer ≡ judged observed settled.relation settled.lack low_end high_end
+
 pub record IsJudged (s : Setting) (observed : Bool) (lacking : Lacking) (low high : Stand) (found : List (List ℕ)) (answer : Answer) : Type 0 where
   pub low_end : End
   pub high_end : End

@@ -153,8 +153,15 @@ fn between(
     requires high { CanEnd settled.found aims.high }
     ensures { IfOk result (IsAnswer seen.now agg settled.relation settled.found aims.low aims.high) }
 {
-    let (low, high) = both_ends(alloc, seen, agg, aims, settled.found.as_slice())?;
-    Ok(answer_over(settled, low, high))
+    let (relation, found) = without_lack(settled);
+    let (low, high) = both_ends(alloc, seen, agg, aims, found.as_slice())?;
+    Ok(answer_over(relation, low, high))
+}
+
+fn without_lack(settled: Settled) -> (Relation, FoundCounts)
+    ensures { result ≡ (settled.relation, settled.found) }
+{
+    (settled.relation, settled.found)
 }
 
 fn both_ends(
@@ -178,14 +185,9 @@ fn both_ends(
 }
 
 /// Nothing where that is impossible, and else both ends.
-fn answer_over(settled: Settled, low: End, high: End) -> Answer
-    ensures { result ≡ answer_over settled.relation low high }
+fn answer_over(relation: Relation, low: End, high: End) -> Answer
+    ensures { result ≡ answer_over relation low high }
 {
-    let Settled {
-        relation,
-        lack: _,
-        found: _,
-    } = settled;
     if let Relation::Impossible(why) = relation {
         return impossible_by(why);
     }

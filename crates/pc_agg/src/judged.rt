@@ -11,7 +11,7 @@ ghost use Rattle.pc_branch.specs.Ends.{HasSmallGains};
 ghost use Rattle.pc_branch_licences.specs.Pools.{AreLawful};
 ghost use Rattle.pc_agg_search.specs.declared.extreme.Extreme.TheVariants.{Low, High};
 ghost use Rattle.pc_agg_search.specs.Asked.{AreCells};
-ghost use Rattle.pc_agg.specs.Extremes.{always_as, crossed, judged, relation_from, CanStand, IsJudged, IsLackFrom, IsOpenLack};
+ghost use Rattle.pc_agg.specs.Extremes.{always_as, crossed, judged, relation_from, CanStand, IsJudged, IsJudgedOver, IsLackFrom, IsOpenLack};
 ghost use Rattle.pc_agg_search.specs.Ends.{signed};
 ghost use Rattle.pc_agg_search.specs.Settings.{unseen};
 ghost use Rattle.pc_agg_search.specs.Wants.{IsFound, IsMet};
@@ -62,6 +62,21 @@ pub(crate) fn judge(
         Grounds { lacking, found },
         low.picks.as_slice(),
     )?;
+    judge_settled(alloc, observed, settled, low, high)
+}
+
+/// The answer over what is settled, where both ends stand.
+fn judge_settled(
+    alloc: Global,
+    observed: bool,
+    settled: Settled,
+    low: Stand,
+    high: Stand,
+) -> Result<Answer, Memory>
+    requires low { CanStand low settled.found }
+    requires high { CanStand high settled.found }
+    ensures { IfOk result (IsJudgedOver observed settled low high) }
+{
     let (low, high) = both_ends(alloc, low, high, settled.found.as_slice())?;
     Ok(judged(observed, settled.relation, settled.lack, low, high))
 }

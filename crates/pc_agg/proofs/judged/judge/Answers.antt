@@ -1,25 +1,28 @@
 use Rattle.std.proofs.Common.{ap, ◌∙◌}
+use Rattle.std.proofs.lemmas.Result.{IfOk-weaker}
 use Rattle.pc_agg.specs.Extremes.{judged}
 use Rattle.pc_agg.proofs.judged.judge.Goals as goal
 
 pub settle_found-requires-clause-sized : goal.settle_found-requires-clause-sized
 settle_found-requires-clause-sized c = rw c.as_slice.ensures c.requires.sized
 
-pub both_ends-requires-clause-low : goal.both_ends-requires-clause-low
-both_ends-requires-clause-low c = rw (c.as_slice-2.ensures, c.in_ok-settled.ensures.found) c.requires.low
+pub judge_settled-requires-clause-low : goal.judge_settled-requires-clause-low
+judge_settled-requires-clause-low c = rw c.in_ok-settled.ensures.found c.requires.low
 
-pub both_ends-requires-clause-high : goal.both_ends-requires-clause-high
-both_ends-requires-clause-high c = rw (c.as_slice-2.ensures, c.in_ok-settled.ensures.found) c.requires.high
+pub judge_settled-requires-clause-high : goal.judge_settled-requires-clause-high
+judge_settled-requires-clause-high c = rw c.in_ok-settled.ensures.found c.requires.high
 
 pub returns : goal.returns
-returns c = record {
-  low_end = c.in_ok-low.low;
-  high_end = c.in_ok-low.high;
-  lack = c.in_ok-settled.settled.lack;
-  low_is = rw (c.as_slice-2.ensures, c.in_ok-settled.ensures.found) at c.in_ok-low.ensures.low;
-  high_is = rw (c.as_slice-2.ensures, c.in_ok-settled.ensures.found) at c.in_ok-low.ensures.high;
-  lack_is = rw c.as_slice.ensures at c.in_ok-settled.ensures.lack;
-  answer_is =
-      c.judged.ensures
-      ∙ ap (λ relation. judged c.args.observed relation c.in_ok-settled.settled.lack c.in_ok-low.low c.in_ok-low.high) (rw c.as_slice.ensures at c.in_ok-settled.ensures.relation);
-}
+returns c =
+    let settled = c.in_ok-settled.settled in
+    IfOk-weaker c.judge_settled.result _ _
+    (λ answer is. record {
+      low_end = is.low_end;
+      high_end = is.high_end;
+      lack = settled.lack;
+      low_is = rw c.in_ok-settled.ensures.found at is.low_is;
+      high_is = rw c.in_ok-settled.ensures.found at is.high_is;
+      lack_is = rw c.as_slice.ensures at c.in_ok-settled.ensures.lack;
+      answer_is = is.answer_is ∙ ap (λ relation. judged c.args.observed relation settled.lack is.low_end is.high_end) (rw c.as_slice.ensures at c.in_ok-settled.ensures.relation);
+    })
+    c.judge_settled.ensures
