@@ -8,18 +8,24 @@ use Rattle.pc_model.specs.declared.schema.Schema.{Schema}
 use Rattle.pc_model.specs.declared.constraint.Constraint.{Constraint}
 use Rattle.pc_model.specs.declared.tree.CutNode.{CutNode}
 use Rattle.pc_model.specs.declared.query.Agg.{Agg}
+use Rattle.pc_model.specs.declared.query.Folded.{Folded}
 use Rattle.pc_model.specs.declared.query.Query.{Query}
 use Rattle.pc_model.specs.Accepted.{AreConstraints}
 use Rattle.pc_model.specs.Cells.{Class}
 use Rattle.pc_program_bound.specs.Allocation.{IsProgram, IsAllocation, cells_of}
 use Rattle.pc_program_bound.specs.CellPrograms.{program_with}
 use Rattle.pc_branch.specs.Ends.{HasSmallGains}
+use Rattle.pc_proof.specs.declared.answer.Answer.{Answer}
+use Rattle.pc_proof.specs.declared.answer.End.{End}
+use Rattle.pc_proof.specs.declared.answer.Relation.{Relation}
+use Rattle.pc_proof.specs.declared.answer.Relation.TheVariants.{Possible, Impossible, Undecided}
 use Rattle.pc_proof.specs.Setting.{Setting, cells, program_for}
 use Rattle.pc_branch_licences.specs.Pools.{AreLawful}
 use Rattle.pc_agg.specs.declared.aim.Aim.{Aim}
 use Rattle.pc_agg_search.specs.declared.extreme.Extreme.{Extreme}
+use Rattle.pc_agg_search.specs.declared.extreme.Extreme.TheVariants.{Low, High}
 use Rattle.pc_agg_search.specs.Limits.{found_of}
-use Rattle.pc_agg.specs.Answered.{CanEnd}
+use Rattle.pc_agg.specs.Answered.{answer_over, CanEnd, IsAnswer, IsEnd}
 use Rattle.pc_agg_search.specs.Ends.{gain_towards, IsPick, program_towards}
 use Rattle.pc_agg.specs.Marks.{IsAim, IsAmong}
 use Rattle.pc_agg_search.specs.Settings.{unseen}
@@ -118,3 +124,11 @@ some_of (counts ∷ more) test = omega arith
 pub none_of : (found joined : List (List ℕ)) → found ≡ joined → (length found == 0) ≡ true → joined ≡ []
 none_of [] joined is test = sym is
 none_of (counts ∷ more) joined is test = let short = eqb-true (length (counts ∷ more)) 0 test in absurd (omega (arith, short))
+
+-- ---- the answer over both ends
+
+pub answer_ends : (seen : Folded) (agg : Agg) (relation : Relation) (found : List (List ℕ)) (low high : Aim) (low_end high_end : End) (answer : Answer) → IsEnd seen agg Low found low low_end → IsEnd seen agg High found high high_end →
+    answer ≡ answer_over relation low_end high_end → IsAnswer seen agg relation found low high answer
+answer_ends seen agg (Impossible why) found low high low_end high_end answer low_is high_is is = is
+answer_ends seen agg (Possible runs) found low high low_end high_end answer low_is high_is is = record { low_end = low_end; high_end = high_end; low_is = low_is; high_is = high_is; answer_is = is }
+answer_ends seen agg Undecided found low high low_end high_end answer low_is high_is is = record { low_end = low_end; high_end = high_end; low_is = low_is; high_is = high_is; answer_is = is }

@@ -1,5 +1,5 @@
 -- Both ends of a least or a greatest number, over what the searches of both found.
-use Rattle.std.proofs.Common.{ℕ, ◌<◌, ℤ, inl, inr, List, ◌++◌, length, All, Any, Option, sym, ap, subst, ◌∙◌, arith}
+use Rattle.std.proofs.Common.{◌≡◌, ℕ, ◌<◌, ℤ, inl, inr, List, ◌++◌, length, All, Any, Option, sym, ap, subst, ◌∙◌, arith}
 use Rattle.std.specs.Prelude.{is_some, Bool}
 use Rattle.std.proofs.lemmas.List.{append_assoc, length-append}
 use Rattle.std.proofs.lemmas.List.Elements.{All-append}
@@ -7,14 +7,17 @@ use Rattle.pc_proof.specs.Setting.{Setting}
 use Rattle.pc_branch_licences.specs.Pools.{AreLawful}
 use Rattle.pc_agg_search.specs.declared.extreme.Extreme.{Extreme}
 use Rattle.pc_agg_search.specs.declared.extreme.Extreme.TheVariants.{Low, High}
+use Rattle.pc_agg.specs.declared.extremes.Pair.{Pair}
 use Rattle.pc_agg.specs.declared.ladder.Test.{Test}
 use Rattle.pc_agg.specs.declared.ladder.Test.TheVariants.{Reach, Avoid}
 use Rattle.pc_agg.specs.declared.stand.Stand.{Stand}
+use Rattle.pc_agg.specs.declared.stand.Stood.{Stood}
+use Rattle.pc_agg.specs.declared.stand.Stood.TheVariants as stoods
 use Rattle.pc_agg_search.specs.declared.want.Want.TheVariants as wants
-use Rattle.pc_agg.specs.Extremes.{test_at, key_at, AreStands}
+use Rattle.pc_agg.specs.Extremes.{test_at, key_at, pair_at, AreStands, IsPair, IsPairSurely}
 use Rattle.pc_agg_search.specs.Wants.{want_for, most_chosen}
 use Rattle.pc_agg.specs.Rungs.{reaches, avoids}
-use Rattle.pc_agg.specs.Stands.{IsWanted, IsStand, IsStoodAt}
+use Rattle.pc_agg.specs.Stands.{IsWanted, IsStand, IsStood, IsStoodAt, IsStoodSurely}
 use Rattle.pc_agg_search.specs.Wants.{IsFound, IsDoubt}
 use Rattle.pc_agg.proofs.Lacking.{any_grown, doubt_grown}
 
@@ -67,3 +70,11 @@ module _ (u : Setting) (budget : ℕ) (far : Extreme) (number : Option ℤ) (bef
 
     pub low_surely : Any (IsFound low.program low.want) first → Any (IsFound low.program low.want) found
     low_surely some = subst (Any (IsFound low.program low.want)) (sym high_at.grown) (any_grown (IsFound low.program low.want) first high_at.more some)
+
+  pub pair_from : (stood : Stood) (pair : Pair) → IsStood u budget High (test_at far High) (key_at High number) first stood → pair ≡ pair_at low stood → IsPair u budget far number before pair
+  pair_from (stoods.At on) pair high_at is = subst (IsPair u budget far number before) (sym is) (stands_from on.stand on.found high_at)
+  pair_from (stoods.Empty tree) pair void is = subst (IsPair u budget far number before) (sym is) void
+
+  pub pair_surely : (stood : Stood) (pair : Pair) → IsStood u budget High (test_at far High) (key_at High number) first stood → pair ≡ pair_at low stood → Any (IsFound low.program low.want) first → IsStoodSurely stood → IsPairSurely pair
+  pair_surely (stoods.At on) pair high_at is some surely = subst IsPairSurely (sym is) (low_surely on.stand on.found high_at some, surely)
+  pair_surely (stoods.Empty tree) pair void is some surely = subst IsPairSurely (sym is) tt

@@ -1,6 +1,6 @@
 -- What is settled over the grounds of an aggregate that can lack a value owes what it must.
-use Rattle.std.proofs.Common.{◌≡◌, ℕ, ◌<◌, pos, Bool, false, List, length, All, Contains, refl, sym, ap, ap₂, subst, ◌∙◌, true≢false, Any, nat_lt, ltb-true, ltb-false, arith}
-use Rattle.std.specs.Prelude.{◌||◌}
+use Rattle.std.proofs.Common.{◌≡◌, ℕ, ◌<◌, pos, Bool, false, List, length, All, Contains, refl, sym, ap, ap₂, subst, ◌∙◌, Result, Ok, Err, true≢false, Any, nat_lt, ltb-true, ltb-false, arith}
+use Rattle.std.specs.Prelude.{◌||◌, IfOk}
 use Rattle.std.proofs.lemmas.Int.{ints}
 use Rattle.std.proofs.lemmas.List.Elements.{All-nil}
 use Rattle.pc_model.specs.declared.schema.Schema.{Schema}
@@ -65,14 +65,18 @@ settled_always u ground tree picks passed found also relation same rows picked l
     subst (λ g. IsSettledFrom u g (record { relation = relation; lack = lacks.Always (alwayses.Tree tree); found = found })) (sym same)
     (record { picks = picks; rows = rows; relation_is = is ∙ ap₂ relation_from picked listed; found_is = refl }, refl)
 
-pub settled_open : (u : Setting) (ground : Grounded) (grounds : Grounds) (picks passed : List Row) (also again : List (List ℕ)) (relation : Relation) (lack : Lack) → ground ≡ grounded.Open grounds → AreRowsOfCells u picks →
-    passed ≡ picks → also ≡ grounds.found → again ≡ grounds.found → relation ≡ relation_from passed also → IsLackFrom u passed again grounds.lacking lack →
-    IsSettledFrom u ground (record { relation = relation; lack = lack; found = grounds.found })
-settled_open u ground grounds picks passed also again relation lack same rows picked listed listed_again is from =
-    subst (λ g. IsSettledFrom u g (record { relation = relation; lack = lack; found = grounds.found })) (sym same) (
-      record { picks = picks; rows = rows; relation_is = is ∙ ap₂ relation_from picked listed; found_is = refl },
-      subst (λ p. IsLackFrom u p grounds.found grounds.lacking lack) picked (subst (λ f. IsLackFrom u passed f grounds.lacking lack) listed_again from),
+pub settled_open : (u : Setting) (ground : Grounded) (grounds : Grounds) (picks passed : List Row) (settled : Settled) → ground ≡ grounded.Open grounds → AreRowsOfCells u picks → passed ≡ picks →
+    settled.relation ≡ relation_from passed grounds.found → IsLackFrom u passed grounds.found grounds.lacking settled.lack → settled.found ≡ grounds.found → IsSettledFrom u ground settled
+settled_open u ground grounds picks passed settled same rows picked is from listed =
+    subst (λ g. IsSettledFrom u g settled) (sym same) (
+      record { picks = picks; rows = rows; relation_is = is ∙ ap (λ p. relation_from p grounds.found) picked; found_is = listed },
+      subst (λ p. IsLackFrom u p grounds.found grounds.lacking settled.lack) picked from,
     )
+
+-- what holds of a good result by three clauses
+pub ok_all : {X E : Type 0} (r : Result X E) (P Q R S : X → Type 0) → IfOk r P → IfOk r Q → IfOk r R → ((x : X) → P x → Q x → R x → S x) → IfOk r S
+ok_all (Ok x) P Q R S first second third join = join x first second third
+ok_all (Err e) P Q R S first second third join = tt
 
 module _ (schema : Schema) (constraints : List Constraint) (query : Query) (seen : Folded) (nodes : List CutNode) (formed : IsWellFormed schema) (limited : AreConstraints schema constraints)
     (tree : IsSettledTree schema constraints query.chosen nodes) (budget : ℕ) (asking : Asking schema constraints query seen) (lacks_value : always_has_value query.agg ≡ false) where

@@ -25,7 +25,7 @@ use Rattle.pc_agg.specs.declared.settling.Settled.{Settled}
 use Rattle.pc_agg.specs.declared.settling.Total.{Total}
 use Rattle.pc_agg.specs.declared.settling.Total.TheVariants as totals
 use Rattle.pc_agg_search.specs.Limits.{IsLimit, IsReached, IsCutShort, IsEmpty}
-use Rattle.pc_agg.specs.Settling.{AreRowsOfCells, AreOpenTotals, IsLimitOfGain, IsSettled, IsLeftOpen, IsTotal, IsTotalOf, left_open}
+use Rattle.pc_agg.specs.Settling.{AreRowsOfCells, AreOpenTotals, IsLimitOfGain, IsSettled, IsLeftOpen, IsTotal, IsTotalOf, left_open, settled_after}
 use Rattle.pc_agg_search.proofs.Empty.{void_tree}
 use Rattle.pc_agg_search.proofs.Shorts.{fit_limit}
 use Rattle.pc_agg.proofs.Ending.{within_limit}
@@ -121,6 +121,10 @@ module _ (u : Setting) where
         lack = refl;
         lawful = All-nil (AreLawful u);
       }
+
+  pub settled_by_fewest : (budget : ℕ) (most : Limit) (fewest : Total) → IsLeftOpen (program_for u one) budget most → IsTotal u budget (program_for u minus_one) fewest → IsSettled u budget (settled_after most fewest)
+  settled_by_fewest budget most (totals.Settled settled) is_most is = is
+  settled_by_fewest budget most (totals.Open fewest) is_most is = settled_open budget most fewest is_most is
 
   -- ---- ends that are totals
 

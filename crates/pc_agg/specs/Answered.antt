@@ -37,6 +37,12 @@ answer_between relation low high =
     (impossible_by (Ends (bounded_by low) (bounded_by high)))
     (record { relation = relation; lack = Silent; ends = Some (low, high) })
 
+-- nothing where that is impossible, and else both ends
+abbrev pub answer_over : Relation → End → End → Answer
+answer_over (Impossible why) low high = impossible_by why
+answer_over (Possible runs) low high = answer_between (Possible runs) low high
+answer_over Undecided low high = answer_between Undecided low high
+
 -- what an end needs of the aim and of what was found
 pub record CanEnd (found : List (List ℕ)) (aim : Aim) : Type 0 where
   pub program : IsProgram aim.limit.program

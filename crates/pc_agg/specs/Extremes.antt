@@ -30,6 +30,8 @@ use Rattle.pc_agg.specs.declared.ladder.Test.{Test}
 use Rattle.pc_agg.specs.declared.ladder.Test.TheVariants.{Reach, Avoid}
 use Rattle.pc_agg.specs.declared.settling.Settled.{Settled}
 use Rattle.pc_agg.specs.declared.stand.Stand.{Stand}
+use Rattle.pc_agg.specs.declared.stand.Stood.{Stood}
+use Rattle.pc_agg.specs.declared.stand.Stood.TheVariants as stoods
 use Rattle.pc_agg_search.specs.declared.want.Want.TheVariants as wants
 use Rattle.pc_agg.specs.Answered.{impossible_by, bounded_by}
 use Rattle.pc_agg_search.specs.Ends.{signed}
@@ -68,6 +70,11 @@ pub record AreStands (s : Setting) (budget : ℕ) (far : Extreme) (number : Opti
 abbrev pub IsPair : Setting → ℕ → Extreme → Option ℤ → List (List ℕ) → Pair → Type 0
 IsPair s budget far number before (pairs.At low high found) = AreStands s budget far number before low high found
 IsPair s budget far number before (pairs.Empty tree) = IsVoidTree s tree
+
+-- the low end, with what the search of the high one came to
+abbrev pub pair_at : Stand → Stood → Pair
+pair_at low (stoods.At on) = pairs.At low on.stand on.found
+pair_at low (stoods.Empty tree) = pairs.Empty tree
 
 abbrev pub IsPairSurely : Pair → Type 0
 IsPairSurely (pairs.At low high found) = Any (IsFound low.program low.want) found × Any (IsFound high.program high.want) found
@@ -116,6 +123,13 @@ pub record CanStand (stand : Stand) (found : List (List ℕ)) : Type 0 where
   pub met : All (IsMet stand.program) found
   pub picked : length stand.picks ≡ cells_of stand.program
   pub small : nat_abs stand.key ≤ 2 ^ 63
+
+pub record IsJudgedOver (observed : Bool) (settled : Settled) (low high : Stand) (answer : Answer) : Type 0 where
+  pub low_end : End
+  pub high_end : End
+  pub low_is : IsEndAt Low low settled.found low_end
+  pub high_is : IsEndAt High high settled.found high_end
+  pub answer_is : answer ≡ judged observed settled.relation settled.lack low_end high_end
 
 pub record IsJudged (s : Setting) (observed : Bool) (lacking : Lacking) (low high : Stand) (found : List (List ℕ)) (answer : Answer) : Type 0 where
   pub low_end : End

@@ -15,7 +15,11 @@ use Rattle.pc_agg_search.specs.declared.limit.Limit.{Limit}
 use Rattle.pc_agg.specs.declared.aim.Aim.{Aim}
 use Rattle.pc_agg.specs.declared.aim.Aimed.{Aimed}
 use Rattle.pc_agg.specs.declared.aim.Aimed.TheVariants.{At, Nothing}
+use Rattle.pc_agg.specs.declared.aim.Aims.{Aims}
+use Rattle.pc_agg.specs.declared.aim.BothAimed.{BothAimed}
+use Rattle.pc_agg.specs.declared.aim.BothAimed.TheVariants as both
 use Rattle.pc_agg_search.specs.declared.extreme.Extreme.{Extreme}
+use Rattle.pc_agg_search.specs.declared.extreme.Extreme.TheVariants.{Low, High}
 use Rattle.pc_agg_search.specs.Ends.{IsPick, program_towards}
 use Rattle.pc_agg_search.specs.Fitting.{IsVoidTree}
 use Rattle.pc_agg_search.specs.Limits.{IsLimit, IsReached}
@@ -48,3 +52,21 @@ IsAimed s agg budget extreme (Nothing tree) = IsVoidTree s tree
 abbrev pub IsAimReached : Setting → Agg → Extreme → Aimed → Type 0
 IsAimReached s agg extreme (At aim) = IsReached (program_towards s agg extreme) aim.limit.most aim.limit.found
 IsAimReached s agg extreme (Nothing tree) = ⊤
+
+-- the aims of both ends
+pub record AreAims (s : Setting) (agg : Agg) (budget : ℕ) (aims : Aims) : Type 0 where
+  pub low : IsAim s agg budget Low aims.low
+  pub high : IsAim s agg budget High aims.high
+
+abbrev pub AreAimed : Setting → Agg → ℕ → BothAimed → Type 0
+AreAimed s agg budget (both.At aims) = AreAims s agg budget aims
+AreAimed s agg budget (both.Nothing tree) = IsVoidTree s tree
+
+-- neither search was cut short
+pub record AreAimsReached (s : Setting) (agg : Agg) (aims : Aims) : Type 0 where
+  pub low : IsReached (program_towards s agg Low) aims.low.limit.most aims.low.limit.found
+  pub high : IsReached (program_towards s agg High) aims.high.limit.most aims.high.limit.found
+
+abbrev pub AreAimedReached : Setting → Agg → BothAimed → Type 0
+AreAimedReached s agg (both.At aims) = AreAimsReached s agg aims
+AreAimedReached s agg (both.Nothing tree) = ⊤

@@ -97,3 +97,8 @@ left_open most fewest =
     cond (int_lt most.most (neg_ℤ fewest.most))
     (record { relation = relations.Impossible (whys.Cross most.tree fewest.tree); lack = lacks.Silent; found = [] })
     (record { relation = relations.Undecided; lack = lacks.Silent; found = [] })
+
+-- what the search for the fewest rows settles, or both limits
+abbrev pub settled_after : Limit → Total → Settled
+settled_after most (totals.Settled settled) = settled
+settled_after most (totals.Open fewest) = left_open most fewest

@@ -1,12 +1,20 @@
 ghost use Rattle.std.specs.Prelude.{◌≡◌, ◌≤◌, ◌^◌, ◌++◌, nat_abs, true, IfOk};
 ghost use Rattle.pc_model.specs.declared.query.Agg.TheVariants as aggs;
 ghost use Rattle.pc_model.specs.Right.{always_has_value};
-ghost use Rattle.pc_agg.specs.Answered.{answer_between, bounded_by, impossible_by, is_open, CanEnd, IsAnswer};
+ghost use Rattle.pc_model.specs.Accepted.{AreConstraints};
+ghost use Rattle.pc_model.specs.Membership.{AreDisjoint};
+ghost use Rattle.pc_model.specs.WellFormed.{IsWellFormed};
+ghost use Rattle.pc_proof.specs.Unbroken.{IsDecided};
+ghost use Rattle.pc_agg_search.specs.declared.extreme.Extreme.TheVariants.{Low, High};
+ghost use Rattle.pc_agg.specs.Answered.{answer_between, answer_over, bounded_by, impossible_by, is_open, CanEnd, IsAnswer, IsEnd};
+ghost use Rattle.pc_agg.specs.Marks.{AreAims, AreAimsReached, IsAmong};
+ghost use Rattle.pc_agg.specs.Settling.{IsSettled};
 ghost use Rattle.pc_agg_search.specs.Limits.{found_of};
-ghost use Rattle.pc_agg_search.specs.Asked.{AreAsked, Asking, setting_for};
+ghost use Rattle.pc_agg_search.specs.Asked.{AreAsked, AreCells, Asking, setting_for};
+ghost use Rattle.pc_agg_search.specs.Settings.{unseen};
 ghost use Rattle.pc_agg.specs.Owed.{Owes};
 
-use crate::aim::{Aim, Aimed, aim_at};
+use crate::aim::{Aims, BothAimed, aim_at_both};
 use crate::ends::end_towards;
 use crate::settling::{Settled, listed, settle_open};
 use pc_agg_search::{Extreme, FoundCounts, Limit};
@@ -66,46 +74,50 @@ fn bound(
     requires has_value { always_has_value query.now.agg ≡ true }
     ensures owes { IfOk result (λ answer. (asking : Asking schema.now constraints.now query.now seen.now) → Owes (setting_for schema.now constraints.now query.now seen.now cells.now.tree.nodes asking) nodes answer) }
 {
-    let low = match aim_at(
-        alloc,
-        schema,
-        constraints,
-        cells,
-        query,
-        Extreme::Low,
-        nodes,
-    )? {
-        Aimed::At(aim) => aim,
-        Aimed::Nothing(tree) => return Ok(impossible_by(Why::Void(tree))),
-    };
-    let high = match aim_at(
-        alloc,
-        schema,
-        constraints,
-        cells,
-        query,
-        Extreme::High,
-        nodes,
-    )? {
-        Aimed::At(aim) => aim,
-        Aimed::Nothing(tree) => return Ok(impossible_by(Why::Void(tree))),
-    };
-    let found = found_by(alloc, &low.limit, &high.limit)?;
-    if !found.is_empty() {
-        let settled = listed(alloc, low.picks.as_slice(), found)?;
-        return between(alloc, seen, query.agg, settled, low, high);
+    match aim_at_both(alloc, schema, constraints, cells, query, nodes)? {
+        BothAimed::At(aims) => {
+            let settled = settle_over(alloc, schema, constraints, cells, query, nodes, &aims)?;
+            between(alloc, seen, query.agg, settled, aims)
+        }
+        BothAimed::Nothing(tree) => Ok(impossible_by(Why::Void(tree))),
     }
-    let settled = settle_open(
+}
+
+/// A list of the first counts that were found, or the relation by the totals where nothing was.
+fn settle_over(
+    alloc: Global,
+    schema: &Schema,
+    constraints: &[Constraint],
+    cells: &Cells,
+    query: &Query,
+    nodes: u32,
+    aims: &Aims,
+) -> Result<Settled, Memory>
+    requires well_formed { IsWellFormed schema.now }
+    requires constraints { AreConstraints schema.now constraints.now }
+    requires cells { AreCells schema.now constraints.now query.now cells.now }
+    requires nodes { (1 ≤ nodes) × (nodes ≤ 100_000) }
+    requires aims { AreAims (unseen schema.now constraints.now query.now cells.now.tree.nodes) query.now.agg nodes aims.now }
+    requires reached { AreDisjoint schema.now constraints.now → AreAimsReached (unseen schema.now constraints.now query.now cells.now.tree.nodes) query.now.agg aims.now }
+    ensures settled { IfOk result (IsSettled (unseen schema.now constraints.now query.now cells.now.tree.nodes) nodes) }
+    ensures low { IfOk result (λ settled. IsAmong settled.found aims.now.low.limit) }
+    ensures high { IfOk result (λ settled. IsAmong settled.found aims.now.high.limit) }
+    ensures disjoint { AreDisjoint schema.now constraints.now → IfOk result (λ settled. IsDecided settled.relation) }
+{
+    let found = found_by(alloc, &aims.low.limit, &aims.high.limit)?;
+    if !found.is_empty() {
+        return listed(alloc, aims.low.picks.as_slice(), found);
+    }
+    settle_open(
         alloc,
         schema,
         constraints,
         cells,
         query,
         nodes,
-        &low.limit,
-        &high.limit,
-    )?;
-    between(alloc, seen, query.agg, settled, low, high)
+        &aims.low.limit,
+        &aims.high.limit,
+    )
 }
 
 /// What the searches of both ends found.
@@ -127,32 +139,59 @@ fn with_found(found: FoundCounts, more: &Option<Seq<u64>>) -> Result<FoundCounts
     Ok(all)
 }
 
-/// The answer over what was settled: nothing where that is impossible, or both ends.
+/// The answer over what was settled. Where that is impossible nothing was found, so that the ends cost no memory.
 fn between(
     alloc: Global,
     seen: &Folded,
     agg: Agg,
     settled: Settled,
-    low: Aim,
-    high: Aim,
+    aims: Aims,
 ) -> Result<Answer, Memory>
     requires few_seen { seen.now.count ≤ 1_000_000 }
     requires small_seen { nat_abs seen.now.sum ≤ 2 ^ 83 }
-    requires low { CanEnd settled.found low }
-    requires high { CanEnd settled.found high }
-    ensures { IfOk result (IsAnswer seen.now agg settled.relation settled.found low high) }
+    requires low { CanEnd settled.found aims.low }
+    requires high { CanEnd settled.found aims.high }
+    ensures { IfOk result (IsAnswer seen.now agg settled.relation settled.found aims.low aims.high) }
 {
-    let Settled {
-        relation,
-        lack: _,
-        found,
-    } = settled;
+    let (relation, found) = without_lack(settled);
+    let (low, high) = both_ends(alloc, seen, agg, aims, found.as_slice())?;
+    Ok(answer_over(relation, low, high))
+}
+
+fn without_lack(settled: Settled) -> (Relation, FoundCounts)
+    ensures { result ≡ (settled.relation, settled.found) }
+{
+    (settled.relation, settled.found)
+}
+
+fn both_ends(
+    alloc: Global,
+    seen: &Folded,
+    agg: Agg,
+    aims: Aims,
+    found: &[Seq<u64>],
+) -> Result<(End, End), Memory>
+    requires few_seen { seen.now.count ≤ 1_000_000 }
+    requires small_seen { nat_abs seen.now.sum ≤ 2 ^ 83 }
+    requires low { CanEnd found.now aims.low }
+    requires high { CanEnd found.now aims.high }
+    ensures low { IfOk result (λ ends. IsEnd seen.now agg Low found.now aims.low ends.0) }
+    ensures high { IfOk result (λ ends. IsEnd seen.now agg High found.now aims.high ends.1) }
+{
+    let Aims { low, high } = aims;
+    let low = end_towards(alloc, seen, agg, Extreme::Low, low, found)?;
+    let high = end_towards(alloc, seen, agg, Extreme::High, high, found)?;
+    Ok((low, high))
+}
+
+/// Nothing where that is impossible, and else both ends.
+fn answer_over(relation: Relation, low: End, high: End) -> Answer
+    ensures { result ≡ answer_over relation low high }
+{
     if let Relation::Impossible(why) = relation {
-        return Ok(impossible_by(why));
+        return impossible_by(why);
     }
-    let low = end_towards(alloc, seen, agg, Extreme::Low, low, found.as_slice())?;
-    let high = end_towards(alloc, seen, agg, Extreme::High, high, found.as_slice())?;
-    Ok(answer_between(relation, low, high))
+    answer_between(relation, low, high)
 }
 
 fn answer_between(relation: Relation, low: End, high: End) -> Answer

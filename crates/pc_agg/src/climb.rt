@@ -18,7 +18,7 @@ use std::alloc::Global;
 
 /// The rung that an end stands on, with a tree that rules out the rung before it, unless it is the first, and all counts
 /// that were found so far.
-#[derive(Debug, Drop)]
+#[derive(Drop)]
 pub(crate) struct Standing {
     pub place: usize,
     pub tree: Option<Tree>,
@@ -26,7 +26,7 @@ pub(crate) struct Standing {
 }
 
 /// Where an end stands, or a tree that shows that no lost rows meet the constraints.
-#[derive(Debug, Drop)]
+#[derive(Drop)]
 pub(crate) enum Climbed {
     At(Standing),
     Empty(Tree),
@@ -82,7 +82,7 @@ pub(crate) fn climb(
 
 /// The rungs among which an end stands, from the first to the last, with a tree that rules out the rung before them,
 /// unless the first is that of the ladder, and all counts that were found so far.
-#[derive(Debug, Drop)]
+#[derive(Drop)]
 struct Span {
     from: usize,
     to: usize,
@@ -91,7 +91,7 @@ struct Span {
 }
 
 /// Fewer rungs, or a tree that shows that no lost rows meet the constraints.
-#[derive(Debug, Drop)]
+#[derive(Drop)]
 enum Halved {
     Within(Span),
     Empty(Tree),

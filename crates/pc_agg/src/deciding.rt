@@ -9,8 +9,8 @@ ghost use Rattle.pc_agg.specs.Owed.{OwesSettled};
 ghost use Rattle.pc_agg_search.specs.Settings.{unseen};
 ghost use Rattle.pc_agg.specs.Extremes.{HasLawful, IsSettledFrom};
 
-use crate::grounds::{Grounded, Grounds, ground};
-use crate::judged::{lack_from, relation_from};
+use crate::grounds::{Grounded, ground};
+use crate::judged::{relation_from, settle_found};
 use crate::settling::{Settled, impossible, rows_of_cells, settle_totals};
 use pc_cells::Cells;
 use pc_model::{Agg, Constraint, Folded, Query, Schema};
@@ -79,23 +79,14 @@ fn settle_grounded(
                 found,
             })
         }
-        Grounded::Open(Grounds { lacking, found }) => {
-            let relation = relation_from(alloc, picks, found.as_slice())?;
-            let lack = lack_from(
-                alloc,
-                schema,
-                constraints,
-                cells,
-                query,
-                lacking,
-                picks,
-                found.as_slice(),
-            )?;
-            Ok(Settled {
-                relation,
-                lack,
-                found,
-            })
-        }
+        Grounded::Open(grounds) => settle_found(
+            alloc,
+            schema,
+            constraints,
+            cells,
+            query,
+            grounds,
+            picks,
+        ),
     }
 }

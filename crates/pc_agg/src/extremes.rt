@@ -5,7 +5,7 @@ ghost use Rattle.pc_model.specs.WellFormed.{IsWellFormed};
 ghost use Rattle.pc_model.specs.declared.query.Agg.TheVariants as aggs;
 ghost use Rattle.pc_branch_licences.specs.Pools.{AreLawful};
 ghost use Rattle.pc_agg_search.specs.Asked.{AreAsked, AreCells, Asking, setting_for};
-ghost use Rattle.pc_agg.specs.Extremes.{agg_of, key_at, seen_number, test_at, IsPair, IsPairSurely};
+ghost use Rattle.pc_agg.specs.Extremes.{agg_of, key_at, pair_at, seen_number, test_at, IsPair, IsPairSurely};
 ghost use Rattle.pc_agg_search.specs.Wants.{most_chosen, want_for};
 ghost use Rattle.pc_agg.specs.Grounds.{HasValues};
 ghost use Rattle.pc_agg.specs.Owed.{Owes};
@@ -142,7 +142,7 @@ fn seen_number(seen: &Folded, far: Extreme) -> Option<i64>
 }
 
 /// Both ends, with all counts that were found, or a tree that shows that there is no list.
-#[derive(Debug, Drop)]
+#[derive(Drop)]
 enum Pair {
     At {
         low: Stand,
@@ -202,13 +202,16 @@ fn stand_both(
         found,
         nodes,
     )?;
+    Ok(pair_at(low, stood))
+}
+
+/// The low end, with what the search of the high one came to.
+fn pair_at(low: Stand, stood: Stood) -> Pair
+    ensures { result ≡ pair_at low stood }
+{
     match stood {
-        Stood::At(on) => Ok(Pair::At {
-            low,
-            high: on.stand,
-            found: on.found,
-        }),
-        Stood::Empty(tree) => Ok(Pair::Empty(tree)),
+        Stood::At(On { stand: high, found }) => Pair::At { low, high, found },
+        Stood::Empty(tree) => Pair::Empty(tree),
     }
 }
 

@@ -3,9 +3,12 @@ ghost use Rattle.pc_model.specs.Accepted.{AreConstraints};
 ghost use Rattle.pc_model.specs.Membership.{AreDisjoint};
 ghost use Rattle.pc_model.specs.WellFormed.{IsWellFormed};
 ghost use Rattle.pc_cells.specs.declared.cells.Cell.{Cell};
+ghost use Rattle.pc_program_bound.specs.Allocation.{IsProgram};
+ghost use Rattle.pc_program.specs.Settled.{HasOneBits};
+ghost use Rattle.pc_branch.specs.Ends.{HasSmallGains};
 ghost use Rattle.pc_branch_licences.specs.Pools.{AreLawful};
 ghost use Rattle.pc_agg_search.specs.Asked.{AreCells};
-ghost use Rattle.pc_agg_search.specs.Wants.{want_for};
+ghost use Rattle.pc_agg_search.specs.Wants.{want_for, IsMet, IsProbed, IsSure};
 ghost use Rattle.pc_agg.specs.Grounds.{HasValues, IsGrounded, IsGroundedSurely, IsLacking, IsLackingSurely, IsUnlistedIfNone};
 ghost use Rattle.pc_agg_search.specs.Settings.{unseen};
 
@@ -16,18 +19,19 @@ use pc_agg_search::{
 use pc_cells::Cells;
 use pc_model::{Constraint, Query, Schema, Tree};
 use pc_num::Memory;
+use pc_program_bound::Program;
 use pc_proof::{NeverBy, Relation, Why};
 use std::alloc::Global;
 
 /// Whether the aggregate can lack a value: never, or it may, unless the budget was spent.
-#[derive(Debug, Drop)]
+#[derive(Drop)]
 pub(crate) enum Lacking {
     Never(NeverBy),
     Open,
 }
 
 /// What is known of the lack, and the counts that were found.
-#[derive(Debug, Drop)]
+#[derive(Drop)]
 pub(crate) struct Grounds {
     pub lacking: Lacking,
     pub found: FoundCounts,
@@ -35,7 +39,7 @@ pub(crate) struct Grounds {
 
 /// What the programs of all rows and of the chosen ones come to: that there is no list, that none gives a value, or neither.
 /// Then a list with a value was found, or may be there.
-#[derive(Debug, Drop)]
+#[derive(Drop)]
 pub(crate) enum Grounded {
     Impossible(Why),
     Always(Tree, FoundCounts),
@@ -108,7 +112,7 @@ fn ground_unseen(
         return Ok(Grounded::Always(tree, found));
     }
     let fewest = chosen_program(alloc, schema, constraints, cells, query, -1)?;
-    let Probed { verdict, found } = probe(alloc, &fewest, Want::Without, found, nodes)?;
+    let Probed { verdict, found } = probe_once(alloc, fewest, Want::Without, found, nodes)?;
     let lacking = match verdict {
         ProbeVerdict::Empty(tree) => return Ok(Grounded::Impossible(Why::Void(tree))),
         ProbeVerdict::Short(tree) => Lacking::Never(NeverBy::Tree(tree)),
@@ -165,11 +169,29 @@ fn ground_most(
 {
     let most = chosen_program(alloc, schema, constraints, cells, query, 1)?;
     let want = want_for(observed);
-    let Probed { verdict, found } = probe(alloc, &most, want, found, nodes)?;
+    let Probed { verdict, found } = probe_once(alloc, most, want, found, nodes)?;
     match verdict {
         ProbeVerdict::Empty(tree) => Ok(Grounded::Impossible(Why::Void(tree))),
         ProbeVerdict::Short(tree) if observed => Ok(Grounded::Impossible(Why::Void(tree))),
         ProbeVerdict::Short(tree) => Ok(Grounded::Always(tree, found)),
         ProbeVerdict::Open => Ok(Grounded::Open(Grounds { lacking, found })),
     }
+}
+
+/// A probe of a program that is not needed any more.
+fn probe_once(
+    alloc: Global,
+    program: Program,
+    want: Want,
+    found: FoundCounts,
+    nodes: u32,
+) -> Result<Probed, Memory>
+    requires program { IsProgram program }
+    requires small { HasSmallGains program }
+    requires met { All (IsMet program) found }
+    requires nodes { (1 ≤ nodes) × (nodes ≤ 100_000) }
+    ensures probed { IfOk result (IsProbed program want nodes found) }
+    ensures disjoint { HasOneBits program → IfOk result (IsSure program want) }
+{
+    probe(alloc, &program, want, found, nodes)
 }

@@ -1,4 +1,4 @@
-ghost use Rattle.std.specs.Prelude.{◌≡◌, ◌≤◌, ◌^◌, nat_abs, List, All, IfOk, length};
+ghost use Rattle.std.specs.Prelude.{◌≡◌, ◌<◌, ◌≤◌, ◌^◌, nat_abs, List, [], All, IfOk, MatchOption, length, slice_index_or};
 ghost use Rattle.std.specs.List.{AllZip};
 ghost use Rattle.pc_model.specs.Accepted.{AreConstraints};
 ghost use Rattle.pc_model.specs.Cells.{IsInSome};
@@ -6,22 +6,27 @@ ghost use Rattle.pc_model.specs.WellFormed.{IsWellFormed};
 ghost use Rattle.pc_cells.specs.declared.cells.Cell.{Cell};
 ghost use Rattle.pc_cells.specs.Found.{IsFilled};
 ghost use Rattle.pc_model.specs.declared.row.Row.{Row};
+ghost use Rattle.pc_program_bound.specs.Allocation.{IsProgram};
+ghost use Rattle.pc_branch.specs.Ends.{HasSmallGains};
 ghost use Rattle.pc_branch_licences.specs.Pools.{AreLawful};
+ghost use Rattle.pc_agg_search.specs.declared.extreme.Extreme.TheVariants.{Low, High};
 ghost use Rattle.pc_agg_search.specs.Asked.{AreCells};
-ghost use Rattle.pc_agg.specs.Extremes.{always_as, crossed, judged, relation_from, CanStand, IsJudged, IsLackFrom, IsOpenLack};
+ghost use Rattle.pc_agg.specs.Extremes.{always_as, crossed, judged, relation_from, CanStand, IsJudged, IsJudgedOver, IsLackFrom, IsOpenLack};
 ghost use Rattle.pc_agg_search.specs.Ends.{signed};
 ghost use Rattle.pc_agg_search.specs.Settings.{unseen};
+ghost use Rattle.pc_agg_search.specs.Wants.{IsFound, IsMet};
 ghost use Rattle.pc_agg.specs.Stands.{IsEndAt, IsMarkedBy};
 
 use crate::bounds::{bounded_by, impossible_by};
-use crate::grounds::Lacking;
-use crate::settling::rows_of_cells;
+use crate::grounds::{Grounds, Lacking};
+use crate::settling::{Settled, rows_of_cells};
 use crate::stand::Stand;
 use pc_agg_search::{Extreme, FoundCounts, Want, chosen_program, find_wanted};
 use pc_cells::Cells;
 use pc_list::Seq;
 use pc_model::{Constraint, Query, Row, Schema};
 use pc_num::{Frac, Memory};
+use pc_program_bound::Program;
 use pc_proof::{AlwaysBy, Answer, End, Lack, Mark, Relation, Why};
 use pc_witness::rebuild;
 use std::alloc::Global;
@@ -48,7 +53,55 @@ pub(crate) fn judge(
     requires high { CanStand high found }
     ensures { IfOk result (IsJudged (unseen schema.now constraints.now query.now cells.now.tree.nodes) observed lacking low high found) }
 {
-    let picks = low.picks.as_slice();
+    let settled = settle_found(
+        alloc,
+        schema,
+        constraints,
+        cells,
+        query,
+        Grounds { lacking, found },
+        low.picks.as_slice(),
+    )?;
+    judge_settled(alloc, observed, settled, low, high)
+}
+
+/// The answer over what is settled, where both ends stand.
+fn judge_settled(
+    alloc: Global,
+    observed: bool,
+    settled: Settled,
+    low: Stand,
+    high: Stand,
+) -> Result<Answer, Memory>
+    requires low { CanStand low settled.found }
+    requires high { CanStand high settled.found }
+    ensures { IfOk result (IsJudgedOver observed settled low high) }
+{
+    let (low, high) = both_ends(alloc, low, high, settled.found.as_slice())?;
+    Ok(judged(observed, settled.relation, settled.lack, low, high))
+}
+
+/// A list of what was found, and what is known of the lack.
+pub(crate) fn settle_found(
+    alloc: Global,
+    schema: &Schema,
+    constraints: &[Constraint],
+    cells: &Cells,
+    query: &Query,
+    grounds: Grounds,
+    picks: &[Row],
+) -> Result<Settled, Memory>
+    requires well_formed { IsWellFormed schema.now }
+    requires constraints { AreConstraints schema.now constraints.now }
+    requires cells { AreCells schema.now constraints.now query.now cells.now }
+    requires lawful { All (AreLawful (unseen schema.now constraints.now query.now cells.now.tree.nodes)) grounds.found }
+    requires sized { length picks.now ≡ length cells.now.cells }
+    requires counted { All (λ counts. length picks.now ≡ length counts) grounds.found }
+    ensures relation { IfOk result (λ settled. settled.relation ≡ relation_from picks.now grounds.found) }
+    ensures lack { IfOk result (λ settled. IsLackFrom (unseen schema.now constraints.now query.now cells.now.tree.nodes) picks.now grounds.found grounds.lacking settled.lack) }
+    ensures found { IfOk result (λ settled. settled.found ≡ grounds.found) }
+{
+    let Grounds { lacking, found } = grounds;
     let relation = relation_from(alloc, picks, found.as_slice())?;
     let lack = lack_from(
         alloc,
@@ -60,9 +113,27 @@ pub(crate) fn judge(
         picks,
         found.as_slice(),
     )?;
-    let low = end_at(alloc, Extreme::Low, low, found.as_slice())?;
-    let high = end_at(alloc, Extreme::High, high, found.as_slice())?;
-    Ok(judged(observed, relation, lack, low, high))
+    Ok(Settled {
+        relation,
+        lack,
+        found,
+    })
+}
+
+fn both_ends(
+    alloc: Global,
+    low: Stand,
+    high: Stand,
+    found: &[Seq<u64>],
+) -> Result<(End, End), Memory>
+    requires low { CanStand low found.now }
+    requires high { CanStand high found.now }
+    ensures low { IfOk result (λ ends. IsEndAt Low low found.now ends.0) }
+    ensures high { IfOk result (λ ends. IsEndAt High high found.now ends.1) }
+{
+    let low = end_at(alloc, Extreme::Low, low, found)?;
+    let high = end_at(alloc, Extreme::High, high, found)?;
+    Ok((low, high))
 }
 
 /// The relation, the lack and both ends, unless the ends cross.
@@ -132,7 +203,7 @@ pub(crate) fn relation_from(
 }
 
 /// What is known of the lack, with lists of both kinds where it may be there and may not.
-pub(crate) fn lack_from(
+fn lack_from(
     alloc: Global,
     schema: &Schema,
     constraints: &[Constraint],
@@ -172,16 +243,26 @@ fn open_lack(
     ensures { IfOk result (IsOpenLack (unseen schema.now constraints.now query.now cells.now.tree.nodes) picks.now found.now) }
 {
     let fewest = chosen_program(alloc, schema, constraints, cells, query, -1)?;
-    let Some(without) = find_wanted(&fewest, Want::Without, found) else {
+    let Some(without) = place_in(fewest, Want::Without, found) else {
         return Ok(Lack::Undecided);
     };
     let most = chosen_program(alloc, schema, constraints, cells, query, 1)?;
-    let Some(with) = find_wanted(&most, Want::Gaining, found) else {
+    let Some(with) = place_in(most, Want::Gaining, found) else {
         return Ok(Lack::Undecided);
     };
     let without = rebuild(alloc, picks, found[without].as_slice())?;
     let with = rebuild(alloc, picks, found[with].as_slice())?;
     Ok(Lack::Sometimes { without, with })
+}
+
+/// The place of the first counts that are wanted of a program, which is not needed any more.
+fn place_in(program: Program, want: Want, found: &[Seq<u64>]) -> Option<usize>
+    requires program { IsProgram program }
+    requires small { HasSmallGains program }
+    requires met { All (IsMet program) found.now }
+    ensures { MatchOption result (All (λ counts. IsFound program want counts → ⊥) found.now) (λ place. (place < length found.now) × IsFound program want (slice_index_or found.now place [])) }
+{
+    find_wanted(&program, want, found)
 }
 
 /// The end of a stand, reached where some counts that were found are wanted.

@@ -19,7 +19,7 @@ use std::alloc::Global;
 
 /// How an end is tested at a number: whether some list has a row that reaches it, or whether some list has no row that
 /// falls short of it.
-#[derive(Clone, Copy, Debug, PartialEq, Eq)]
+#[derive(Clone, Copy, PartialEq, Eq)]
 pub(crate) enum Test {
     Reach,
     Avoid,
@@ -28,7 +28,7 @@ pub(crate) enum Test {
 /// The keys of the cells towards an end, and the keys at which the end can stand, greatest first. A key is the number at
 /// the end, with its sign turned for a low end, so that a greater key is farther out. It is 0 for a cell that is not
 /// chosen.
-#[derive(Debug, Drop)]
+#[derive(Drop)]
 pub(crate) struct Ladder {
     pub extreme: Extreme,
     pub test: Test,

@@ -16,12 +16,14 @@ ghost use Rattle.pc_branch_licences.specs.Pools.{AreLawful};
 ghost use Rattle.pc_agg_search.specs.Asked.{AreCells, AreAsked, Asking, setting_for};
 ghost use Rattle.pc_agg.specs.Owed.{OwesSettled};
 ghost use Rattle.pc_agg_search.specs.Settings.{unseen};
-ghost use Rattle.pc_agg.specs.Settling.{AreOpenTotals, IsLimitOfGain, IsSettled, IsTotal, IsTotalDecided, IsTotalOf, left_open};
+ghost use Rattle.pc_agg_search.specs.declared.limit.Limit.{Limit};
+ghost use Rattle.pc_agg.specs.declared.settling.Total.TheVariants as totals;
+ghost use Rattle.pc_agg.specs.Settling.{AreOpenTotals, IsLimitOfGain, IsSettled, IsTotal, IsTotalDecided, IsTotalOf, left_open, settled_after};
 
 use pc_agg_search::{FoundCounts, Limit, Sought, equal_gains, seek};
 use pc_cells::Cells;
 use pc_list::Seq;
-use pc_model::{Constraint, Folded, Query, Row, Schema};
+use pc_model::{Constraint, Folded, Query, Row, Schema, Tree};
 use pc_num::Memory;
 use pc_proof::{Lack, Relation, Why};
 use pc_witness::rebuild;
@@ -37,7 +39,7 @@ pub struct Settled {
 }
 
 /// What the search for the most or the fewest rows comes to: the relation, or a bound below which nothing was found.
-#[derive(Debug, Drop)]
+#[derive(Drop)]
 enum Total {
     Settled(Settled),
     Open(Limit),
@@ -126,11 +128,20 @@ pub(crate) fn settle_totals(
         Total::Settled(settled) => return Ok(settled),
         Total::Open(limit) => limit,
     };
-    let fewest = match find_total(alloc, schema, constraints, cells, query, -1, nodes)? {
-        Total::Settled(settled) => return Ok(settled),
-        Total::Open(limit) => limit,
-    };
-    Ok(left_open(alloc, most, fewest))
+    let fewest = find_total(alloc, schema, constraints, cells, query, -1, nodes)?;
+    Ok(settled_after(alloc, most, fewest))
+}
+
+/// What the search for the fewest rows settles, or both bounds.
+fn settled_after(alloc: Global, most: Limit, fewest: Total) -> Settled
+    requires small_most { nat_abs most.most ≤ 10 ^ 37 }
+    requires small_fewest { (limit : Limit) → fewest ≡ totals.Open limit → nat_abs limit.most ≤ 10 ^ 37 }
+    ensures { result ≡ settled_after most fewest }
+{
+    match fewest {
+        Total::Settled(settled) => settled,
+        Total::Open(fewest) => left_open(alloc, most, fewest),
+    }
 }
 
 /// The most rows that can be lost, by a gain of 1 for each, or the fewest, by a gain of -1.
@@ -252,10 +263,19 @@ fn left_open(alloc: Global, most: Limit, fewest: Limit) -> Settled
     requires small_fewest { nat_abs fewest.most ≤ 10 ^ 37 }
     ensures { result ≡ left_open most fewest }
 {
-    if most.most < negated(fewest.most) {
-        return impossible(alloc, Why::Cross(most.tree, fewest.tree));
+    let are_crossed = most.most < negated(fewest.most);
+    let most = tree_of(most);
+    let fewest = tree_of(fewest);
+    if are_crossed {
+        return impossible(alloc, Why::Cross(most, fewest));
     }
     undecided(alloc)
+}
+
+fn tree_of(limit: Limit) -> Tree
+    ensures { result ≡ limit.tree }
+{
+    limit.tree
 }
 
 fn negated(number: i128) -> i128

@@ -27,7 +27,7 @@ use std::alloc::Global;
 
 /// Where an end stands: its key, what shows that it holds, the program whose wanted counts attain it, and a row of each
 /// cell with the cell's number at that end.
-#[derive(Debug, Drop)]
+#[derive(Drop)]
 pub(crate) struct Stand {
     pub key: i128,
     pub proof: Proof,
@@ -37,14 +37,14 @@ pub(crate) struct Stand {
 }
 
 /// A stand, with all counts that were found so far.
-#[derive(Debug, Drop)]
+#[derive(Drop)]
 pub(crate) struct On {
     pub stand: Stand,
     pub found: FoundCounts,
 }
 
 /// Where an end stands, or a tree that shows that there is no list.
-#[derive(Debug, Drop)]
+#[derive(Drop)]
 pub(crate) enum Stood {
     At(On),
     Empty(Tree),
@@ -172,7 +172,7 @@ fn stand_on(
 }
 
 /// A program and which of its counts attain the end. Where a far end is that of an observed row, any list does.
-#[derive(Debug, Drop)]
+#[derive(Drop)]
 struct Attaining {
     program: Program,
     want: Want,

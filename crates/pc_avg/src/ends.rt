@@ -3,13 +3,17 @@ ghost use Rattle.pc_model.specs.Accepted.{AreConstraints, IsNumeric, IsColumnWhe
 ghost use Rattle.pc_model.specs.Membership.{AreDisjoint};
 ghost use Rattle.pc_model.specs.WellFormed.{IsWellFormed};
 ghost use Rattle.pc_num.specs.Signs.{Fits};
+ghost use Rattle.pc_model.specs.declared.query.Folded.{Folded};
+ghost use Rattle.pc_program.specs.Settled.{HasOneBits};
+ghost use Rattle.pc_proof.specs.Setting.{Setting};
 ghost use Rattle.pc_branch_licences.specs.Pools.{AreLawful};
 ghost use Rattle.pc_agg_search.specs.Asked.{AreCells};
 ghost use Rattle.pc_agg_search.specs.Ends.{signed};
 ghost use Rattle.pc_agg_search.specs.Settings.{unseen};
 ghost use Rattle.pc_avg.specs.Ends.{end_by_values, end_of, turned, CanTurn, IsEndIfAny, IsEndSurely};
+ghost use Rattle.pc_avg.specs.Sides.{IsSide};
 
-use crate::sides::side_of;
+use crate::sides::{Side, side_of};
 use pc_agg_search::Extreme;
 use pc_avg_ratio::{Highest, greatest_ratio, highest_of};
 use pc_cells::Cells;
@@ -44,6 +48,22 @@ pub(crate) fn search_end(
     ensures disjoint { AreDisjoint schema.now constraints.now → IfOk result (IsEndSurely (unseen schema.now constraints.now query.now cells.now.tree.nodes) seen.now extreme found.now) }
 {
     let side = side_of(alloc, schema, seen, constraints, cells, query, extreme)?;
+    end_on(alloc, extreme, &side, found, nodes)
+}
+
+/// The end of a side; none where no row can have a number.
+fn end_on(
+    alloc: Global,
+    extreme: Extreme,
+    side: &Side,
+    found: &[Seq<u64>],
+    nodes: u32,
+) -> Result<Option<End>, Memory>
+    requires side { (u : Setting) × (seen : Folded) × IsSide u seen extreme side.now × All (AreLawful u) found.now }
+    requires nodes { (1 ≤ nodes) × (nodes ≤ 100_000) }
+    ensures end { (u : Setting) (seen : Folded) → IsSide u seen extreme side.now → IfOk result (IsEndIfAny u seen nodes extreme found.now) }
+    ensures disjoint { (u : Setting) (seen : Folded) → IsSide u seen extreme side.now → HasOneBits side.now.fraction.rows → IfOk result (IsEndSurely u seen extreme found.now) }
+{
     let Some(outermost) = side.outermost else {
         return Ok(None);
     };

@@ -34,8 +34,8 @@ pub(crate) fn with_block(
     ensures { IfOk result (HasBlock written query.now name tree.nodes answer) }
 {
     let Written { mut blocks, last } = written;
-    let Said { tree, nodes } = said_after(last, tree)?;
-    let query = query.clone()?;
+    let (query, said) = asked_after(query, last, tree)?;
+    let Said { tree, nodes } = said;
     blocks.push(Block {
         query,
         name,
@@ -46,6 +46,22 @@ pub(crate) fn with_block(
         blocks,
         last: Some(nodes),
     })
+}
+
+/// What a block says before its answer: the query, and the tree where the last one was of other nodes.
+fn asked_after(
+    query: &Query,
+    last: Option<Seq<CutNode>>,
+    tree: CutTree,
+) -> Result<(Query, Said), Memory>
+    ensures query { IfOk result (λ asked. asked.0 ≡ query.now) }
+    ensures nodes { IfOk result (λ asked. asked.1.nodes ≡ tree.nodes) }
+    ensures says { IfOk result (λ asked. nodes_after last asked.1.tree ≡ Some tree.nodes) }
+    ensures own { IfOk result (λ asked. IsWrittenAfter last asked.1.tree) }
+{
+    let said = said_after(last, tree)?;
+    let query = query.clone()?;
+    Ok((query, said))
 }
 
 /// A tree of the same nodes as the last one is not written again.

@@ -8,8 +8,8 @@ use Rattle.pc_agg.proofs.Grounded.{probed_empty, most_probed, most_sure, most_no
 use Rattle.pc_agg.proofs.Lawful.{lawful_met}
 use Rattle.pc_agg.proofs.grounds.ground_most.Goals as goal
 
-pub probe-requires-clause-met : goal.probe-requires-clause-met
-probe-requires-clause-met c =
+pub probe_once-requires-clause-met : goal.probe_once-requires-clause-met
+probe_once-requires-clause-met c =
     subst (λ p. All (IsMet p) c.args.found) (sym c.in_ok-most.ensures.program)
     (lawful_met (unseen c.args.schema.now c.args.constraints.now c.args.query.now c.args.cells.now.tree.nodes) (on_chosen one) c.args.found c.requires.lawful)
 

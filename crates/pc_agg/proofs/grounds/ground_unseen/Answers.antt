@@ -17,8 +17,8 @@ returns-then-not-has_chosen-clause-grounded c =
     (none_chosen c.args.schema.now c.args.constraints.now c.args.query.now c.args.cells.now c.requires.well_formed c.requires.constraints c.requires.cells c.args.nodes c.args.found c.requires.nodes.0
     (c.if-not-has_chosen.ensures.none refl) c.requires.lawful c.requires.totals)
 
-pub probe-requires-clause-met : goal.probe-requires-clause-met
-probe-requires-clause-met c =
+pub probe_once-requires-clause-met : goal.probe_once-requires-clause-met
+probe_once-requires-clause-met c =
     subst (λ p. All (IsMet p) c.args.found) (sym c.in_ok-fewest.ensures.program)
     (lawful_met (unseen c.args.schema.now c.args.constraints.now c.args.query.now c.args.cells.now.tree.nodes) (on_chosen minus_one) c.args.found c.requires.lawful)
 

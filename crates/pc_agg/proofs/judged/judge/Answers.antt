@@ -1,17 +1,28 @@
 use Rattle.std.proofs.Common.{ap, ◌∙◌}
+use Rattle.std.proofs.lemmas.Result.{IfOk-weaker}
 use Rattle.pc_agg.specs.Extremes.{judged}
 use Rattle.pc_agg.proofs.judged.judge.Goals as goal
 
-pub lack_from-requires-clause-sized : goal.lack_from-requires-clause-sized
-lack_from-requires-clause-sized c = rw c.as_slice-picks.ensures c.requires.sized
+pub settle_found-requires-clause-sized : goal.settle_found-requires-clause-sized
+settle_found-requires-clause-sized c = rw c.as_slice.ensures c.requires.sized
+
+pub judge_settled-requires-clause-low : goal.judge_settled-requires-clause-low
+judge_settled-requires-clause-low c = rw c.in_ok-settled.ensures.found c.requires.low
+
+pub judge_settled-requires-clause-high : goal.judge_settled-requires-clause-high
+judge_settled-requires-clause-high c = rw c.in_ok-settled.ensures.found c.requires.high
 
 pub returns : goal.returns
-returns c = record {
-  low_end = c.in_ok-low.low;
-  high_end = c.in_ok-high.high;
-  lack = c.in_ok-lack.lack;
-  low_is = rw c.as_slice-3.ensures at c.in_ok-low.ensures;
-  high_is = rw c.as_slice-4.ensures at c.in_ok-high.ensures;
-  lack_is = rw (c.as_slice-picks.ensures, c.as_slice-2.ensures) at c.in_ok-lack.ensures;
-  answer_is = c.judged.ensures ∙ ap (λ relation. judged c.args.observed relation c.in_ok-lack.lack c.in_ok-low.low c.in_ok-high.high) (rw (c.as_slice-picks.ensures, c.as_slice.ensures) at c.in_ok-relation.ensures);
-}
+returns c =
+    let settled = c.in_ok-settled.settled in
+    IfOk-weaker c.judge_settled.result _ _
+    (λ answer is. record {
+      low_end = is.low_end;
+      high_end = is.high_end;
+      lack = settled.lack;
+      low_is = rw c.in_ok-settled.ensures.found at is.low_is;
+      high_is = rw c.in_ok-settled.ensures.found at is.high_is;
+      lack_is = rw c.as_slice.ensures at c.in_ok-settled.ensures.lack;
+      answer_is = is.answer_is ∙ ap (λ relation. judged c.args.observed relation settled.lack is.low_end is.high_end) (rw c.as_slice.ensures at c.in_ok-settled.ensures.relation);
+    })
+    c.judge_settled.ensures

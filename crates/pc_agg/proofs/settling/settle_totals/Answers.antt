@@ -1,9 +1,18 @@
 use Rattle.pc_agg_search.specs.Settings.{unseen}
-use Rattle.pc_agg.proofs.Totals.{settled_open}
+use Rattle.pc_agg.proofs.Totals.{settled_by_fewest}
 use Rattle.pc_agg.proofs.settling.settle_totals.Goals as goal
+
+pub settled_after-requires-clause-small_most : goal.settled_after-requires-clause-small_most
+settled_after-requires-clause-small_most c = (rw c.in-Open.is at c.in_ok-settled.ensures.total).limit_is.small
+
+pub settled_after-requires-clause-small_fewest : goal.settled_after-requires-clause-small_fewest
+settled_after-requires-clause-small_fewest c limit is = (rw is at c.in_ok-fewest.ensures.total).limit_is.small
 
 pub returns-clause-settled : goal.returns-clause-settled
 returns-clause-settled c =
-    rw c.left_open.ensures
-    (settled_open (unseen c.args.schema.now c.args.constraints.now c.args.query.now c.args.cells.now.tree.nodes) c.args.nodes c.in-Open.limit c.in-Open-2.limit
-    (rw c.in-Open.is at c.in_ok-settled.ensures.total) (rw c.in-Open-2.is at c.in_ok-settled-2.ensures.total))
+    rw c.settled_after.ensures
+    (settled_by_fewest (unseen c.args.schema.now c.args.constraints.now c.args.query.now c.args.cells.now.tree.nodes) c.args.nodes c.in-Open.limit c.in_ok-fewest.fewest
+    (rw c.in-Open.is at c.in_ok-settled.ensures.total) c.in_ok-fewest.ensures.total)
+
+pub returns-clause-disjoint : goal.returns-clause-disjoint
+returns-clause-disjoint c disjoint = absurd (rw c.in-Open.is at (c.in_ok-settled.ensures.disjoint disjoint))
