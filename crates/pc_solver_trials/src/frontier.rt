@@ -1,4 +1,5 @@
 ghost use Rattle.std.specs.Prelude.{◌≡◌, IfOk};
+ghost use Rattle.pc_frontier.specs.Frontier.{none_yet};
 ghost use Rattle.pc_solver_trials.specs.FrontierSamples.{two_splits};
 
 use pc_frontier::Frontier;
@@ -6,23 +7,34 @@ use pc_num::Memory;
 use std::alloc::{AllocError, Global};
 use std::test::Fail;
 
-#[test]
-fn calls_in_a_row(rt: HostRuntime) -> Result<(), Fail> {
-    let alloc = rt.alloc();
-    let mut frontier = Frontier::reserve(alloc, 5)?;
-    assert_eq!(rt; frontier.push_root(), 0);
-    assert_eq!(rt; frontier.split(0, 0, 0), (1, 2));
-    assert_eq!(rt; frontier.room(), 2);
+// Whether calls on a frontier of five nodes answer what they should, one after the other.
+fn are_answered_in_a_row(frontier: &mut Frontier) -> bool
+    requires { frontier.old ≡ none_yet 5 }
+{
+    let root = frontier.push_root();
+    let children = frontier.split(0, 0, 0);
+    let room = frontier.room();
     frontier.hold(1, 2);
     frontier.hold(2, 5);
-    assert_eq!(rt; frontier.best(), Some(5));
-    assert_eq!(rt; frontier.take_best(), Some(2));
-    assert_eq!(rt; frontier.split(2, 1, 0), (3, 4));
+    let best = frontier.best();
+    let taken = frontier.take_best();
+    let later_children = frontier.split(2, 1, 0);
     frontier.hold(3, 4);
     frontier.hold(4, 5);
-    assert_eq!(rt; frontier.prune_below(4), 2);
-    assert_eq!(rt; frontier.best(), Some(5));
-    assert_eq!(rt; frontier.room(), 0);
+    let pruned = frontier.prune_below(4);
+    if root != 0 || children != (1, 2) || room != 2 || best != Some(5) {
+        return false;
+    }
+    if taken != Some(2) || later_children != (3, 4) || pruned != 2 {
+        return false;
+    }
+    frontier.best() == Some(5) && frontier.room() == 0
+}
+
+#[test]
+fn calls_in_a_row(rt: HostRuntime) -> Result<(), Fail> {
+    let mut frontier = Frontier::reserve(rt.alloc(), 5)?;
+    assert!(rt; are_answered_in_a_row(&mut frontier));
     Ok(())
 }
 
