@@ -1,5 +1,5 @@
 -- What the answered tree of a search shows.
-use Rattle.std.proofs.Common.{◌≡◌, ℕ, List, All, length, Option, MatchOption, refl, sym, subst, ◌∙◌, arith}
+use Rattle.std.proofs.Common.{◌≡◌, ℕ, List, length, Option, MatchOption, refl, sym, subst, ◌∙◌, arith}
 use Rattle.std.specs.Prelude.{ℤ, ◌≤ℤ◌}
 use Rattle.pc_model.specs.declared.tree.Mult.{Mult}
 use Rattle.pc_program_bound.specs.declared.program.Program.{Program}

@@ -1,5 +1,5 @@
 -- The tree of a search while it grows: what is known of each of its nodes, by number.
-use Rattle.std.specs.Prelude.{◌≡◌, ◌<◌, ◌≤◌, ℕ, ℤ, pos, List, [], slice_index_or, All, Option, Some, None, ⊤}
+use Rattle.std.specs.Prelude.{◌≡◌, ◌<◌, ◌≤◌, ℕ, ℤ, pos, List, [], slice_index_or, Option, Some, None, ⊤}
 use Rattle.pc_num.specs.declared.Frac.{Frac}
 use Rattle.pc_model.specs.declared.tree.Mult.{Mult}
 use Rattle.pc_program_bound.specs.declared.program.Program.{Program}

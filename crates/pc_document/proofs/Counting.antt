@@ -36,8 +36,7 @@ use Rattle.pc_document_format.specs.Formats.{Lines, nodes_text, items_text}
 use Rattle.pc_document_lines.specs.NodeLines.{node_text, bare}
 use Rattle.pc_document_lines.specs.declared.tags.Side.{Side}
 use Rattle.pc_document_lines.specs.declared.tags.Side.TheVariants.{Low as low, High as high}
-use Rattle.pc_document_lines.specs.ValueLines.{outer_text}
-use Rattle.pc_document_lines.specs.TokenLines.{run_text, cut_node_text, bare_cut, query_line_text}
+use Rattle.pc_document_lines.specs.TokenLines.{cut_node_text, bare_cut}
 use Rattle.pc_document.specs.DocumentLines.{tree_lines, runs_lines, proof_lines, bounded_lines, crossing_lines, why_lines, relation_lines, never_lines, always_lines, lack_lines, mark_lines, end_lines, ends_lines, name_lines, block_tree_lines, answer_lines, after_lines, block_lines, document_lines}
 use Rattle.pc_document.specs.declared.tags.After.{After}
 use Rattle.pc_document.specs.Told.{IsDocumentText}

@@ -1,5 +1,5 @@
 -- The multipliers of a solved program fit.
-use Rattle.std.proofs.Common.{◌≡◌, ◌<◌, ◌^◌, ℕ, List, replicate, set, arith}
+use Rattle.std.proofs.Common.{◌<◌, ◌^◌, ℕ, List, replicate, set, arith}
 use Rattle.std.specs.Prelude.{ℤ, pos, negsuc, nat_abs, All}
 use Rattle.std.proofs.lemmas.Int.{ints}
 use Rattle.std.proofs.lemmas.List.Elements.{All-from_get_or, All-set, All-replicate}

@@ -7,5 +7,4 @@ pub mod Relaxation
 pub mod Runs
 pub mod Standing
 pub mod Tableau
-pub mod Wanting
 pub mod Ways

@@ -4,7 +4,7 @@ use Rattle.std.proofs.lemmas.List.Elements.{All-nil, All-cons}
 use Rattle.pc_program_bound.specs.Bound.{IsFit}
 use Rattle.pc_simplex_tableau.specs.Tableau.{Tableau, Columns}
 use Rattle.pc_simplex_tableau.specs.Conditions.{IsSizedRow, IsSized, IsFitRow, AreFitNumbers}
-use Rattle.pc_simplex_tableau.specs.Wanting.{wanting_columns, wanting_row, wanting_start}
+use Rattle.pc_solver_trials.specs.Wanting.{wanting_columns, wanting_row, wanting_start}
 
 fit_one : IsFit (pos 1)
 fit_one = omega arith

@@ -1,5 +1,5 @@
 ghost use Rattle.std.specs.Prelude.{◌≡◌, IfOk};
-ghost use Rattle.pc_simplex_tableau.specs.Wanting.{wanting_columns, wanting_row, wanting_start};
+ghost use Rattle.pc_solver_trials.specs.Wanting.{wanting_columns, wanting_row, wanting_start};
 
 mod numbers;
 

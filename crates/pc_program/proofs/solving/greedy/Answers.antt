@@ -2,7 +2,7 @@ use Rattle.std.proofs.Common.{arith, ◌≡◌, ◌∙◌, to_z, of_z}
 use Rattle.std.proofs.lemmas.Int.{ints}
 use mir.Syntax.{w128}
 use Rattle.pc_program.proofs.Optimal.{IsSolved-all}
-use Rattle.pc_program.proofs.Fitting.{fit_settled, fit_minus_one}
+use Rattle.pc_program.proofs.Fitting.{fit_settled}
 use Rattle.pc_program.proofs.solving.greedy.Goals as goal
 
 pub returns-in-All-clause-solved : goal.returns-in-All-clause-solved
