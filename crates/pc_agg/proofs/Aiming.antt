@@ -68,11 +68,6 @@ module _ (schema : Schema) (constraints : List Constraint) (query : Query) (node
   even_is gain classes gains count same long is =
       ap (program_with constraints (cells u)) (is ∙ ap (λ n. replicate n gain) (long ∙ ap length same) ∙ map_alike gain (cells u))
 
-  -- the program of the gains towards an end
-  pub towards_is : (agg : Agg) (extreme : Extreme) (classes : List Class) (gains : List ℤ) → classes ≡ cells u → gains ≡ map (gain_towards u agg extreme) classes →
-      program_with constraints (cells u) gains ≡ program_towards u agg extreme
-  towards_is agg extreme classes gains same is = ap (program_with constraints (cells u)) (is ∙ ap (map (gain_towards u agg extreme)) same)
-
   module _ (agg : Agg) (budget : ℕ) (low_side high_side : Extreme) (low high : Aim) (is_low : IsAim u agg budget low_side low) (is_high : IsAim u agg budget high_side high) where
     abbrev both : List (List ℕ)
     both = found_of low.limit.found ++ found_of high.limit.found

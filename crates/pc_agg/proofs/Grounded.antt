@@ -1,17 +1,11 @@
 -- What searches of the chosen rows say of the relation and of the lack.
-use Rattle.std.proofs.Common.{◌≡◌, ℕ, ◌<◌, ◌≤◌, ℤ, Bool, true, false, List, [], length, map, All, Any, refl, sym, ap, subst, ◌∙◌, arith}
+use Rattle.std.proofs.Common.{◌≡◌, ℕ, ◌<◌, ◌≤◌, ℤ, Bool, true, false, List, length, map, All, Any, refl, sym, ap, subst, ◌∙◌, arith}
 use Rattle.std.proofs.lemmas.List.{length-append, length-map, get_or-map}
 use Rattle.std.proofs.lemmas.List.Elements.{All-append, All-map}
-use Rattle.pc_model.specs.declared.schema.Schema.{Schema}
-use Rattle.pc_model.specs.declared.constraint.Constraint.{Constraint}
-use Rattle.pc_model.specs.declared.query.Query.{Query}
 use Rattle.pc_model.specs.declared.tree.Tree.{Tree}
-use Rattle.pc_model.specs.Accepted.{AreConstraints}
-use Rattle.pc_model.specs.WellFormed.{IsWellFormed}
 use Rattle.pc_model.specs.Cells.{Class}
 use Rattle.pc_program_bound.specs.declared.program.Program.{Program}
 use Rattle.pc_cells.specs.declared.cells.Cell.{Cell}
-use Rattle.pc_cells.specs.declared.cells.Cells.{Cells}
 use Rattle.pc_cells.specs.Found.{class_of_cell}
 use Rattle.pc_proof.specs.declared.answer.NeverBy.TheVariants as nevers
 use Rattle.pc_proof.specs.declared.answer.Relation.{Relation}
@@ -27,18 +21,18 @@ use Rattle.pc_agg_search.specs.declared.probes.Probed.{Probed}
 use Rattle.pc_agg_search.specs.declared.probes.ProbeVerdict.TheVariants as verdicts
 use Rattle.pc_agg_search.specs.declared.want.Want.{Want}
 use Rattle.pc_agg_search.specs.declared.want.Want.TheVariants as wants
-use Rattle.pc_agg_search.specs.Asked.{AreCells}
 use Rattle.pc_agg_search.specs.Fitting.{IsVoidTree}
 use Rattle.pc_agg_search.specs.Flat.{flat_tree}
 use Rattle.pc_agg_search.specs.Wants.{want_for, most_chosen, fewest_chosen}
 use Rattle.pc_agg.specs.Grounds.{HasValues, AreGrounds, AreAlways, AreGroundsSurely, IsLacking, IsLackingSurely, IsUnlistedIfNone}
-use Rattle.pc_agg_search.specs.Settings.{unseen}
+use Rattle.pc_agg_search.specs.declared.problem.Problem.{Problem}
+use Rattle.pc_agg_search.specs.Problem.{IsPosed, setting_of}
 use Rattle.pc_agg.specs.Settling.{IsRelation, IsUnlisted}
 use Rattle.pc_agg_search.specs.Wants.{FallsShort, IsDoubt, IsFound, IsProbed, IsSure, IsVerdict}
 use Rattle.pc_agg_search.proofs.Empty.{void_tree}
 use Rattle.pc_agg.proofs.Flat.{flat_none}
 use Rattle.pc_agg.proofs.Lacking.{unlisted_grown, lacking_grown, surely_grown}
-use Rattle.pc_agg_search.proofs.SettledPrograms.{classes_are}
+use Rattle.pc_agg_search.proofs.PosedPrograms.{own_classes}
 use Rattle.pc_agg_search.proofs.Shorts.{shows_no_gain, shows_some_row, short_empty, fit_short}
 
 any_map : {X Y : Type 0} (P : Y → Type 0) (f : X → Y) (xs : List X) → Any (λ x. P (f x)) xs → Any P (map f xs)
@@ -136,30 +130,30 @@ module _ (u : Setting) (observed : Bool) (budget : ℕ) (found : List (List ℕ)
 
 -- ---- where no cell is chosen, or some is
 
-module _ (schema : Schema) (constraints : List Constraint) (query : Query) (own : Cells) (formed : IsWellFormed schema) (limited : AreConstraints schema constraints) (are : AreCells schema constraints query own) where
+module _ (problem : Problem) (posed : IsPosed problem) where
   abbrev u : Setting
-  u = unseen schema constraints query own.tree.nodes
+  u = setting_of problem
 
-  classes : map class_of_cell own.cells ≡ cells u
-  classes = classes_are schema constraints query.chosen own.tree.nodes own.cells [] formed are.tree are.listed
+  classes : map class_of_cell problem.cells.now.cells ≡ cells u
+  classes = own_classes problem posed
 
-  pub some_chosen : Any (λ (cell : Cell). cell.chosen ≡ true) own.cells → HasValues u false
-  some_chosen some = subst (Any (λ (class : Class). class.chosen ≡ true)) classes (any_map (λ (class : Class). class.chosen ≡ true) class_of_cell own.cells some)
+  pub some_chosen : Any (λ (cell : Cell). cell.chosen ≡ true) problem.cells.now.cells → HasValues u false
+  some_chosen some = subst (Any (λ (class : Class). class.chosen ≡ true)) classes (any_map (λ (class : Class). class.chosen ≡ true) class_of_cell problem.cells.now.cells some)
 
-  pub none_chosen : (budget : ℕ) (found : List (List ℕ)) → 1 ≤ budget → All (λ (cell : Cell). cell.chosen ≡ true → ⊥) own.cells → All (AreLawful u) found → IsUnlistedIfNone u budget found →
-      AreAlways u false budget (flat_tree (length constraints)) found
+  pub none_chosen : (budget : ℕ) (found : List (List ℕ)) → 1 ≤ budget → All (λ (cell : Cell). cell.chosen ≡ true → ⊥) problem.cells.now.cells → All (AreLawful u) found → IsUnlistedIfNone u budget found →
+      AreAlways u false budget (flat_tree (length problem.constraints.now)) found
   none_chosen budget found some never lawful totals = record {
     unseen = refl;
     lawful = lawful;
     totals = totals;
-    shows = shows_no_gain (most_chosen u) budget (flat_tree (length constraints)) flat;
-    fits = fit_short (most_chosen u) wants.Gaining budget (flat_tree (length constraints)) flat;
+    shows = shows_no_gain (most_chosen u) budget (flat_tree (length problem.constraints.now)) flat;
+    fits = fit_short (most_chosen u) wants.Gaining budget (flat_tree (length problem.constraints.now)) flat;
   }
     where
-      flat : FallsShort (most_chosen u) wants.Gaining budget (flat_tree (length constraints))
+      flat : FallsShort (most_chosen u) wants.Gaining budget (flat_tree (length problem.constraints.now))
       flat =
-          flat_none schema constraints query own.tree.nodes formed limited are.tree budget some
-          (subst (All (λ (class : Class). class.chosen ≡ true → ⊥)) classes (All-map (λ (class : Class). class.chosen ≡ true → ⊥) class_of_cell own.cells never))
+          flat_none problem.schema.now problem.constraints.now problem.query.now problem.cells.now.tree.nodes posed.formed posed.limited posed.found.tree budget some
+          (subst (All (λ (class : Class). class.chosen ≡ true → ⊥)) classes (All-map (λ (class : Class). class.chosen ≡ true → ⊥) class_of_cell problem.cells.now.cells never))
 
 -- ---- what the totals settle
 

@@ -2,12 +2,6 @@
 use Rattle.std.proofs.Common.{◌≡◌, ℕ, ◌<◌, ◌≤◌, Bool, true, false, cond, List, length, map, get_or, refl, sym, ap, ap₂, subst, ◌∙◌, arith}
 use Rattle.std.specs.Prelude.{ℤ, pos, nat_abs, int_le, int_lt, ◌&&◌}
 use Rattle.std.proofs.lemmas.List.{length-map, get_or-map}
-use Rattle.pc_model.specs.declared.schema.Schema.{Schema}
-use Rattle.pc_model.specs.declared.constraint.Constraint.{Constraint}
-use Rattle.pc_model.specs.declared.query.Query.{Query}
-use Rattle.pc_model.specs.Accepted.{AreConstraints}
-use Rattle.pc_model.specs.Membership.{AreDisjoint}
-use Rattle.pc_model.specs.WellFormed.{IsWellFormed}
 use Rattle.pc_model.specs.Cells.{Class}
 use Rattle.pc_program_bound.specs.declared.program.Program.{Program}
 use Rattle.pc_program_bound.specs.Sums.{nat_at, int_at}
@@ -17,23 +11,23 @@ use Rattle.pc_simplex_tableau.specs.Numbers.{table}
 use Rattle.pc_branch.specs.Ends.{HasSmallGains}
 use Rattle.pc_program.specs.Settled.{HasOneBits}
 use Rattle.pc_cells.specs.declared.cells.Cell.{Cell}
-use Rattle.pc_cells.specs.declared.cells.Cells.{Cells}
 use Rattle.pc_cells.specs.Found.{class_of_cell}
 use Rattle.pc_proof.specs.Setting.{Setting, cells, on_chosen, counting, open_cap}
 use Rattle.pc_agg_search.specs.declared.extreme.Extreme.{Extreme}
 use Rattle.pc_agg.specs.declared.ladder.Ladder.{Ladder}
 use Rattle.pc_agg.specs.declared.ladder.Test.{Test}
 use Rattle.pc_agg.specs.declared.ladder.Test.TheVariants.{Reach, Avoid}
-use Rattle.pc_agg_search.specs.Asked.{AreCells}
 use Rattle.pc_agg.specs.Keyed.{reach_gain, avoid_cap, with_closed, tested_program}
 use Rattle.pc_agg_search.specs.Targets.{chosen_gain}
 use Rattle.pc_agg_search.specs.Keys.{key_of}
 use Rattle.pc_agg.specs.Rungs.{reaches, avoids, rung_program, program_at, IsLadder}
-use Rattle.pc_agg_search.specs.Settings.{unseen}
+use Rattle.pc_agg_search.specs.declared.problem.Problem.{Problem}
+use Rattle.pc_agg_search.specs.Problem.{IsEasy, IsPosed, setting_of}
 use Rattle.pc_agg_search.specs.Limits.{greatest_gain}
 use Rattle.pc_proof.proofs.Masks.{map_twice}
-use Rattle.pc_agg_search.proofs.ListedPrograms.{no_cell, table_mapped, gains_are, program_is, chosen_is, own_classes}
-use Rattle.pc_agg_search.proofs.UnseenPrograms.{tested_small, for_program, for_small, for_one_bits, without_program, without_small, without_one_bits}
+use Rattle.pc_agg_search.proofs.ListedPrograms.{no_cell, table_mapped, gains_are, program_is, chosen_is}
+use Rattle.pc_agg_search.proofs.PosedPrograms.{own_classes, for_program, for_small, for_one_bits, without_program, without_small, without_one_bits}
+use Rattle.pc_agg_search.proofs.UnseenPrograms.{tested_small}
 
 gain_same : (chosen : Bool) (rung key : ℤ) → cond (chosen && int_le rung (cond chosen key (pos 0))) (pos 1) (pos 0) ≡ cond (chosen && int_le rung key) (pos 1) (pos 0)
 gain_same true rung key = refl
@@ -96,15 +90,14 @@ module _ (s : Setting) (list : List Cell) (classes : map class_of_cell list ≡ 
     tested_is Reach = reaching_is
     tested_is Avoid = avoiding_is
 
--- ---- what the code makes of the cells of a settled tree
+-- ---- what the code makes of the cells of a problem
 
-module _ (schema : Schema) (constraints : List Constraint) (query : Query) (found : Cells) (formed : IsWellFormed schema)
-    (are : AreConstraints schema constraints) (own : AreCells schema constraints query found) where
+module _ (problem : Problem) (posed : IsPosed problem) where
   abbrev u : Setting
-  u = unseen schema constraints query found.tree.nodes
+  u = setting_of problem
 
-  classes : map class_of_cell found.cells ≡ cells u
-  classes = own_classes schema constraints query found formed are own
+  classes : map class_of_cell problem.cells.now.cells ≡ cells u
+  classes = own_classes problem posed
 
   module _ (extreme : Extreme) (key : ℤ) where
     abbrev passing : Class → ℤ
@@ -117,26 +110,26 @@ module _ (schema : Schema) (constraints : List Constraint) (query : Query) (foun
     short_of class = int_lt (key_of u extreme class) key
 
     pub rung_formed : (test : Test) → IsProgram (rung_program u extreme test key)
-    rung_formed Reach = for_program schema constraints query found.tree.nodes formed are own.tree passing
-    rung_formed Avoid = without_program schema constraints query found.tree.nodes formed are own.tree short_of
+    rung_formed Reach = for_program problem posed passing
+    rung_formed Avoid = without_program problem posed short_of
 
     pub rung_small : (test : Test) → HasSmallGains (rung_program u extreme test key)
-    rung_small Reach = for_small schema constraints query found.tree.nodes formed are own.tree passing passing_small
-    rung_small Avoid = without_small schema constraints query found.tree.nodes formed are own.tree short_of
+    rung_small Reach = for_small problem posed passing passing_small
+    rung_small Avoid = without_small problem posed short_of
 
-    pub rung_one_bits : (test : Test) → AreDisjoint schema constraints → HasOneBits (rung_program u extreme test key)
-    rung_one_bits Reach disjoint = for_one_bits schema constraints query found.tree.nodes formed are own.tree passing passing_small disjoint
-    rung_one_bits Avoid disjoint = without_one_bits schema constraints query found.tree.nodes formed are own.tree short_of disjoint
+    pub rung_one_bits : (test : Test) → IsEasy problem → HasOneBits (rung_program u extreme test key)
+    rung_one_bits Reach easy = for_one_bits problem posed passing passing_small easy
+    rung_one_bits Avoid easy = without_one_bits problem posed short_of easy
 
   -- ---- the program of a rung
 
   module _ (ladder : Ladder) (keyed : IsLadder u ladder) where
-    pub ladder_long : length ladder.keys ≡ length found.cells
-    ladder_long = keys_long u found.cells classes ladder.extreme ladder.keys keyed (pos 0)
+    pub ladder_long : length ladder.keys ≡ length problem.cells.now.cells
+    ladder_long = keys_long u problem.cells.now.cells classes ladder.extreme ladder.keys keyed (pos 0)
 
-    module _ (place : ℕ) (p : Program) (is : p ≡ tested_program constraints found.cells ladder.keys (int_at ladder.rungs place) ladder.test) where
+    module _ (place : ℕ) (p : Program) (is : p ≡ tested_program problem.constraints.now problem.cells.now.cells ladder.keys (int_at ladder.rungs place) ladder.test) where
       pub at_is : p ≡ program_at u ladder place
-      at_is = is ∙ tested_is u found.cells classes ladder.extreme ladder.keys keyed (int_at ladder.rungs place) ladder.test
+      at_is = is ∙ tested_is u problem.cells.now.cells classes ladder.extreme ladder.keys keyed (int_at ladder.rungs place) ladder.test
 
       pub at_formed : IsProgram p
       at_formed = subst IsProgram (sym at_is) (rung_formed ladder.extreme (int_at ladder.rungs place) ladder.test)
@@ -144,5 +137,5 @@ module _ (schema : Schema) (constraints : List Constraint) (query : Query) (foun
       pub at_small : HasSmallGains p
       at_small = subst HasSmallGains (sym at_is) (rung_small ladder.extreme (int_at ladder.rungs place) ladder.test)
 
-      pub at_one_bits : AreDisjoint schema constraints → HasOneBits p
-      at_one_bits disjoint = subst HasOneBits (sym at_is) (rung_one_bits ladder.extreme (int_at ladder.rungs place) ladder.test disjoint)
+      pub at_one_bits : IsEasy problem → HasOneBits p
+      at_one_bits easy = subst HasOneBits (sym at_is) (rung_one_bits ladder.extreme (int_at ladder.rungs place) ladder.test easy)

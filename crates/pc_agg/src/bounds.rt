@@ -1,23 +1,21 @@
 ghost use Rattle.std.specs.Prelude.{◌≡◌, ◌≤◌, ◌^◌, ◌++◌, nat_abs, true, IfOk};
 ghost use Rattle.pc_model.specs.declared.query.Agg.TheVariants as aggs;
 ghost use Rattle.pc_model.specs.Right.{always_has_value};
-ghost use Rattle.pc_model.specs.Accepted.{AreConstraints};
-ghost use Rattle.pc_model.specs.Membership.{AreDisjoint};
-ghost use Rattle.pc_model.specs.WellFormed.{IsWellFormed};
 ghost use Rattle.pc_proof.specs.Unbroken.{IsDecided};
 ghost use Rattle.pc_agg_search.specs.declared.extreme.Extreme.TheVariants.{Low, High};
 ghost use Rattle.pc_agg.specs.Answered.{answer_between, answer_over, bounded_by, impossible_by, is_open, CanEnd, IsAnswer, IsEnd};
 ghost use Rattle.pc_agg.specs.Marks.{AreAims, AreAimsReached, IsAmong};
 ghost use Rattle.pc_agg.specs.Settling.{IsSettled};
 ghost use Rattle.pc_agg_search.specs.Limits.{found_of};
-ghost use Rattle.pc_agg_search.specs.Asked.{AreAsked, AreCells, Asking, setting_for};
-ghost use Rattle.pc_agg_search.specs.Settings.{unseen};
+ghost use Rattle.pc_agg_search.specs.Asked.{AreAsked, Asking, setting_for};
+ghost use Rattle.pc_agg_search.specs.Problem.{IsEasy, IsPosed, setting_of};
+ghost use Rattle.pc_agg_search.specs.Posing.{AskingOf, IsAsked, answered_setting};
 ghost use Rattle.pc_agg.specs.Owed.{Owes};
 
 use crate::aim::{Aims, BothAimed, aim_at_both};
 use crate::ends::end_towards;
 use crate::settling::{Settled, listed, settle_open};
-use pc_agg_search::{Extreme, FoundCounts, Limit};
+use pc_agg_search::{Extreme, FoundCounts, Limit, Problem};
 use pc_cells::Cells;
 use pc_list::Seq;
 use pc_model::{Agg, Constraint, Folded, Query, Schema};
@@ -40,7 +38,14 @@ pub fn bound_count(
     requires counts { query.now.agg ≡ aggs.Count }
     ensures owes { IfOk result (λ answer. (asking : Asking schema.now constraints.now query.now seen.now) → Owes (setting_for schema.now constraints.now query.now seen.now cells.now.tree.nodes asking) nodes answer) }
 {
-    bound(alloc, schema, seen, constraints, cells, query, nodes)
+    let problem = Problem {
+        schema,
+        constraints,
+        query,
+        cells,
+        nodes,
+    };
+    bound(alloc, &problem, seen)
 }
 
 /// The range of the sum of a column over the rows that the query chooses, where those observed come to `seen`, by searches
@@ -58,66 +63,45 @@ pub fn bound_sum(
     requires sums { query.now.agg ≡ aggs.Sum }
     ensures owes { IfOk result (λ answer. (asking : Asking schema.now constraints.now query.now seen.now) → Owes (setting_for schema.now constraints.now query.now seen.now cells.now.tree.nodes asking) nodes answer) }
 {
-    bound(alloc, schema, seen, constraints, cells, query, nodes)
+    let problem = Problem {
+        schema,
+        constraints,
+        query,
+        cells,
+        nodes,
+    };
+    bound(alloc, &problem, seen)
 }
 
-fn bound(
-    alloc: Global,
-    schema: &Schema,
-    seen: &Folded,
-    constraints: &[Constraint],
-    cells: &Cells,
-    query: &Query,
-    nodes: u32,
-) -> Result<Answer, Memory>
-    requires asked { AreAsked schema.now seen.now constraints.now cells.now query.now nodes }
-    requires has_value { always_has_value query.now.agg ≡ true }
-    ensures owes { IfOk result (λ answer. (asking : Asking schema.now constraints.now query.now seen.now) → Owes (setting_for schema.now constraints.now query.now seen.now cells.now.tree.nodes asking) nodes answer) }
+fn bound(alloc: Global, problem: &Problem<'_>, seen: &Folded) -> Result<Answer, Memory>
+    requires asked { IsAsked problem.now seen.now }
+    requires has_value { always_has_value problem.now.query.now.agg ≡ true }
+    ensures owes { IfOk result (λ answer. (asking : AskingOf problem.now seen.now) → Owes (answered_setting problem.now seen.now asking) problem.now.nodes answer) }
 {
-    match aim_at_both(alloc, schema, constraints, cells, query, nodes)? {
+    match aim_at_both(alloc, problem)? {
         BothAimed::At(aims) => {
-            let settled = settle_over(alloc, schema, constraints, cells, query, nodes, &aims)?;
-            between(alloc, seen, query.agg, settled, aims)
+            let settled = settle_over(alloc, problem, &aims)?;
+            between(alloc, seen, problem.query.agg, settled, aims)
         }
         BothAimed::Nothing(tree) => Ok(impossible_by(Why::Void(tree))),
     }
 }
 
 /// A list of the first counts that were found, or the relation by the totals where nothing was.
-fn settle_over(
-    alloc: Global,
-    schema: &Schema,
-    constraints: &[Constraint],
-    cells: &Cells,
-    query: &Query,
-    nodes: u32,
-    aims: &Aims,
-) -> Result<Settled, Memory>
-    requires well_formed { IsWellFormed schema.now }
-    requires constraints { AreConstraints schema.now constraints.now }
-    requires cells { AreCells schema.now constraints.now query.now cells.now }
-    requires nodes { (1 ≤ nodes) × (nodes ≤ 100_000) }
-    requires aims { AreAims (unseen schema.now constraints.now query.now cells.now.tree.nodes) query.now.agg nodes aims.now }
-    requires reached { AreDisjoint schema.now constraints.now → AreAimsReached (unseen schema.now constraints.now query.now cells.now.tree.nodes) query.now.agg aims.now }
-    ensures settled { IfOk result (IsSettled (unseen schema.now constraints.now query.now cells.now.tree.nodes) nodes) }
+fn settle_over(alloc: Global, problem: &Problem<'_>, aims: &Aims) -> Result<Settled, Memory>
+    requires posed { IsPosed problem.now }
+    requires aims { AreAims (setting_of problem.now) problem.now.query.now.agg problem.now.nodes aims.now }
+    requires reached { IsEasy problem.now → AreAimsReached (setting_of problem.now) problem.now.query.now.agg aims.now }
+    ensures settled { IfOk result (IsSettled (setting_of problem.now) problem.now.nodes) }
     ensures low { IfOk result (λ settled. IsAmong settled.found aims.now.low.limit) }
     ensures high { IfOk result (λ settled. IsAmong settled.found aims.now.high.limit) }
-    ensures disjoint { AreDisjoint schema.now constraints.now → IfOk result (λ settled. IsDecided settled.relation) }
+    ensures disjoint { IsEasy problem.now → IfOk result (λ settled. IsDecided settled.relation) }
 {
     let found = found_by(alloc, &aims.low.limit, &aims.high.limit)?;
     if !found.is_empty() {
         return listed(alloc, aims.low.picks.as_slice(), found);
     }
-    settle_open(
-        alloc,
-        schema,
-        constraints,
-        cells,
-        query,
-        nodes,
-        &aims.low.limit,
-        &aims.high.limit,
-    )
+    settle_open(alloc, problem, &aims.low.limit, &aims.high.limit)
 }
 
 /// What the searches of both ends found.

@@ -1,18 +1,13 @@
-ghost use Rattle.std.specs.Prelude.{◌≡◌, ℕ, ◌<◌, ◌≤◌, List, All, IfOk, length};
-ghost use Rattle.pc_model.specs.WellFormed.{IsWellFormed};
-ghost use Rattle.pc_model.specs.Accepted.{AreConstraints};
-ghost use Rattle.pc_model.specs.Membership.{AreDisjoint};
+ghost use Rattle.std.specs.Prelude.{◌≡◌, ℕ, ◌<◌, List, All, IfOk, length};
 ghost use Rattle.pc_branch_licences.specs.Pools.{AreLawful};
-ghost use Rattle.pc_agg_search.specs.Asked.{AreCells};
 ghost use Rattle.pc_agg.specs.Climbing.{above, narrowed, IsSpan, IsHalved, IsSureSpan, IsSureHalf};
 ghost use Rattle.pc_agg.specs.Rungs.{program_at, IsLadder, IsClimbed, IsClimbedSurely};
-ghost use Rattle.pc_agg_search.specs.Settings.{unseen};
+ghost use Rattle.pc_agg_search.specs.Problem.{IsEasy, IsPosed, setting_of};
 
 use crate::ladder::{Ladder, Test};
 use crate::rungs::program_at;
-use pc_agg_search::{FoundCounts, ProbeVerdict, Probed, Want, probe};
-use pc_cells::Cells;
-use pc_model::{Constraint, Query, Schema, Tree};
+use pc_agg_search::{FoundCounts, ProbeVerdict, Probed, Problem, Want, probe};
+use pc_model::Tree;
 use pc_num::Memory;
 use std::alloc::Global;
 
@@ -36,24 +31,17 @@ pub(crate) enum Climbed {
 /// has none. The last rung is not tested.
 pub(crate) fn climb(
     alloc: Global,
-    schema: &Schema,
-    constraints: &[Constraint],
-    cells: &Cells,
-    query: &Query,
+    problem: &Problem<'_>,
     ladder: &Ladder,
     want: Want,
     found: FoundCounts,
-    nodes: u32,
 ) -> Result<Climbed, Memory>
-    requires well_formed { IsWellFormed schema.now }
-    requires constraints { AreConstraints schema.now constraints.now }
-    requires cells { AreCells schema.now constraints.now query.now cells.now }
-    requires keyed { IsLadder (unseen schema.now constraints.now query.now cells.now.tree.nodes) ladder.now }
+    requires posed { IsPosed problem.now }
+    requires keyed { IsLadder (setting_of problem.now) ladder.now }
     requires some { 0 < length ladder.now.rungs }
-    requires lawful { All (AreLawful (unseen schema.now constraints.now query.now cells.now.tree.nodes)) found }
-    requires nodes { (1 ≤ nodes) × (nodes ≤ 100_000) }
-    ensures climbed { IfOk result (IsClimbed (unseen schema.now constraints.now query.now cells.now.tree.nodes) nodes ladder.now want found) }
-    ensures disjoint { AreDisjoint schema.now constraints.now → IfOk result (IsClimbedSurely (unseen schema.now constraints.now query.now cells.now.tree.nodes) ladder.now want) }
+    requires lawful { All (AreLawful (setting_of problem.now)) found }
+    ensures climbed { IfOk result (IsClimbed (setting_of problem.now) problem.now.nodes ladder.now want found) }
+    ensures disjoint { IsEasy problem.now → IfOk result (IsClimbedSurely (setting_of problem.now) ladder.now want) }
 {
     let mut span = Span {
         from: 0,
@@ -62,17 +50,7 @@ pub(crate) fn climb(
         found,
     };
     while span.from < span.to {
-        match halve(
-            alloc,
-            schema,
-            constraints,
-            cells,
-            query,
-            ladder,
-            want,
-            span,
-            nodes,
-        )? {
+        match halve(alloc, problem, ladder, want, span)? {
             Halved::Within(narrower) => span = narrower,
             Halved::Empty(tree) => return Ok(Climbed::Empty(tree)),
         }
@@ -116,25 +94,18 @@ fn standing_of(span: Span) -> Standing
 /// Tests the rung in the middle.
 fn halve(
     alloc: Global,
-    schema: &Schema,
-    constraints: &[Constraint],
-    cells: &Cells,
-    query: &Query,
+    problem: &Problem<'_>,
     ladder: &Ladder,
     want: Want,
     span: Span,
-    nodes: u32,
 ) -> Result<Halved, Memory>
-    requires well_formed { IsWellFormed schema.now }
-    requires constraints { AreConstraints schema.now constraints.now }
-    requires cells { AreCells schema.now constraints.now query.now cells.now }
-    requires keyed { IsLadder (unseen schema.now constraints.now query.now cells.now.tree.nodes) ladder.now }
+    requires posed { IsPosed problem.now }
+    requires keyed { IsLadder (setting_of problem.now) ladder.now }
     requires several { span.from < span.to }
     requires inside { span.to < length ladder.now.rungs }
-    requires lawful { All (AreLawful (unseen schema.now constraints.now query.now cells.now.tree.nodes)) span.found }
-    requires nodes { (1 ≤ nodes) × (nodes ≤ 100_000) }
-    ensures halved { IfOk result (λ halved. (found : List (List ℕ)) → IsSpan (unseen schema.now constraints.now query.now cells.now.tree.nodes) nodes ladder.now want found span → IsHalved (unseen schema.now constraints.now query.now cells.now.tree.nodes) nodes ladder.now want found span halved) }
-    ensures disjoint { AreDisjoint schema.now constraints.now → IfOk result (λ halved. IsSureSpan (unseen schema.now constraints.now query.now cells.now.tree.nodes) ladder.now want span → IsSureHalf (unseen schema.now constraints.now query.now cells.now.tree.nodes) ladder.now want halved) }
+    requires lawful { All (AreLawful (setting_of problem.now)) span.found }
+    ensures halved { IfOk result (λ halved. (found : List (List ℕ)) → IsSpan (setting_of problem.now) problem.now.nodes ladder.now want found span → IsHalved (setting_of problem.now) problem.now.nodes ladder.now want found span halved) }
+    ensures disjoint { IsEasy problem.now → IfOk result (λ halved. IsSureSpan (setting_of problem.now) ladder.now want span → IsSureHalf (setting_of problem.now) ladder.now want halved) }
 {
     let Span {
         from,
@@ -143,8 +114,8 @@ fn halve(
         found,
     } = span;
     let middle = from + (to - from) / 2;
-    let program = program_at(alloc, schema, constraints, cells, query, ladder, middle)?;
-    let probed = probe(alloc, &program, want, found, nodes)?;
+    let program = program_at(alloc, problem, ladder, middle)?;
+    let probed = probe(alloc, &program, want, found, problem.nodes)?;
     Ok(narrowed(ladder.test, from, to, middle, tree, probed))
 }
 

@@ -1,17 +1,16 @@
-ghost use Rattle.std.specs.Prelude.{◌≡◌, ◌≤◌, All, IfOk};
-ghost use Rattle.pc_model.specs.Accepted.{AreConstraints};
+ghost use Rattle.std.specs.Prelude.{◌≡◌, All, IfOk};
 ghost use Rattle.pc_model.specs.Right.{always_has_value};
-ghost use Rattle.pc_model.specs.WellFormed.{IsWellFormed};
 ghost use Rattle.pc_branch_licences.specs.Pools.{AreLawful};
-ghost use Rattle.pc_agg_search.specs.Asked.{AreAsked, AreCells, Asking, setting_for};
-ghost use Rattle.pc_agg.specs.Grounds.{IsGrounded};
+ghost use Rattle.pc_agg_search.specs.Asked.{AreAsked, Asking, setting_for};
 ghost use Rattle.pc_agg.specs.Owed.{OwesSettled};
+ghost use Rattle.pc_agg_search.specs.Problem.{IsPosed, setting_of};
 ghost use Rattle.pc_agg_search.specs.Settings.{unseen};
 ghost use Rattle.pc_agg.specs.Extremes.{HasLawful, IsSettledFrom};
 
 use crate::grounds::{Grounded, ground};
 use crate::judged::{relation_from, settle_found};
 use crate::settling::{Settled, impossible, rows_of_cells, settle_totals};
+use pc_agg_search::Problem;
 use pc_cells::Cells;
 use pc_model::{Agg, Constraint, Folded, Query, Schema};
 use pc_num::Memory;
@@ -33,12 +32,19 @@ pub fn settle(
     ensures lawful { IfOk result (λ settled. All (AreLawful (unseen schema.now constraints.now query.now cells.now.tree.nodes)) settled.found) }
     ensures owes { IfOk result (λ settled. (asking : Asking schema.now constraints.now query.now seen.now) → OwesSettled (setting_for schema.now constraints.now query.now seen.now cells.now.tree.nodes asking) nodes settled.relation settled.lack settled.found) }
 {
+    let problem = Problem {
+        schema,
+        constraints,
+        query,
+        cells,
+        nodes,
+    };
     if always_has_value(query.agg) {
-        return settle_totals(alloc, schema, constraints, cells, query, nodes);
+        return settle_totals(alloc, &problem);
     }
     let observed = seen.count > 0;
-    let grounded = ground(alloc, schema, constraints, cells, query, observed, nodes)?;
-    settle_grounded(alloc, schema, constraints, cells, query, grounded)
+    let grounded = ground(alloc, &problem, observed)?;
+    settle_grounded(alloc, &problem, grounded)
 }
 
 /// Whether the aggregate has a value over any rows.
@@ -54,19 +60,14 @@ fn always_has_value(agg: Agg) -> bool
 /// What is settled, with lists of what was found.
 fn settle_grounded(
     alloc: Global,
-    schema: &Schema,
-    constraints: &[Constraint],
-    cells: &Cells,
-    query: &Query,
+    problem: &Problem<'_>,
     grounded: Grounded,
 ) -> Result<Settled, Memory>
-    requires well_formed { IsWellFormed schema.now }
-    requires constraints { AreConstraints schema.now constraints.now }
-    requires cells { AreCells schema.now constraints.now query.now cells.now }
-    requires grounded { HasLawful (unseen schema.now constraints.now query.now cells.now.tree.nodes) grounded }
-    ensures { IfOk result (IsSettledFrom (unseen schema.now constraints.now query.now cells.now.tree.nodes) grounded) }
+    requires posed { IsPosed problem.now }
+    requires grounded { HasLawful (setting_of problem.now) grounded }
+    ensures { IfOk result (IsSettledFrom (setting_of problem.now) grounded) }
 {
-    let picks = rows_of_cells(alloc, cells)?;
+    let picks = rows_of_cells(alloc, problem.cells)?;
     let picks = picks.as_slice();
     match grounded {
         Grounded::Impossible(why) => Ok(impossible(alloc, why)),
@@ -79,14 +80,6 @@ fn settle_grounded(
                 found,
             })
         }
-        Grounded::Open(grounds) => settle_found(
-            alloc,
-            schema,
-            constraints,
-            cells,
-            query,
-            grounds,
-            picks,
-        ),
+        Grounded::Open(grounds) => settle_found(alloc, problem, grounds, picks),
     }
 }

@@ -1,15 +1,14 @@
-ghost use Rattle.std.specs.Prelude.{◌≡◌, ◌<◌, ◌≤◌, All, Any, IfOk, IsSomeAnd, is_some, length};
-ghost use Rattle.pc_model.specs.Accepted.{AreConstraints, IsNumeric, IsColumnWhere};
-ghost use Rattle.pc_model.specs.Membership.{AreDisjoint};
-ghost use Rattle.pc_model.specs.WellFormed.{IsWellFormed};
+ghost use Rattle.std.specs.Prelude.{◌≡◌, ◌<◌, All, Any, IfOk, IsSomeAnd, is_some, length};
+ghost use Rattle.pc_model.specs.Accepted.{IsNumeric, IsColumnWhere};
 ghost use Rattle.pc_model.specs.declared.query.Agg.TheVariants as aggs;
 ghost use Rattle.pc_branch_licences.specs.Pools.{AreLawful};
-ghost use Rattle.pc_agg_search.specs.Asked.{AreAsked, AreCells, Asking, setting_for};
+ghost use Rattle.pc_agg_search.specs.Asked.{AreAsked, Asking, setting_for};
 ghost use Rattle.pc_agg.specs.Extremes.{agg_of, key_at, pair_at, seen_number, test_at, IsPair, IsPairSurely};
 ghost use Rattle.pc_agg_search.specs.Wants.{most_chosen, want_for};
 ghost use Rattle.pc_agg.specs.Grounds.{HasValues};
 ghost use Rattle.pc_agg.specs.Owed.{Owes};
-ghost use Rattle.pc_agg_search.specs.Settings.{unseen};
+ghost use Rattle.pc_agg_search.specs.Problem.{IsEasy, IsPosed, setting_of};
+ghost use Rattle.pc_agg_search.specs.Posing.{AskingOf, IsAsked, answered_setting};
 ghost use Rattle.pc_agg_search.specs.Wants.{IsDoubt, IsFound};
 
 use crate::bounds::impossible_by;
@@ -17,7 +16,7 @@ use crate::grounds::{Grounded, Grounds, ground};
 use crate::judged::{always_by, judge};
 use crate::ladder::Test;
 use crate::stand::{On, Stand, Stood, search_end};
-use pc_agg_search::{Extreme, FoundCounts};
+use pc_agg_search::{Extreme, FoundCounts, Problem};
 use pc_cells::Cells;
 use pc_model::{Constraint, Folded, Query, Schema, Tree};
 use pc_num::Memory;
@@ -39,16 +38,14 @@ pub fn bound_min(
     requires least { query.now.agg ≡ aggs.Min }
     ensures owes { IfOk result (λ answer. (asking : Asking schema.now constraints.now query.now seen.now) → Owes (setting_for schema.now constraints.now query.now seen.now cells.now.tree.nodes asking) nodes answer) }
 {
-    bound_extreme(
-        alloc,
+    let problem = Problem {
         schema,
-        seen,
         constraints,
-        cells,
         query,
-        Extreme::Low,
+        cells,
         nodes,
-    )
+    };
+    bound_extreme(alloc, &problem, seen, Extreme::Low)
 }
 
 /// The range of the greatest number that a column has among the rows that the query chooses, where those observed come to
@@ -66,68 +63,41 @@ pub fn bound_max(
     requires greatest { query.now.agg ≡ aggs.Max }
     ensures owes { IfOk result (λ answer. (asking : Asking schema.now constraints.now query.now seen.now) → Owes (setting_for schema.now constraints.now query.now seen.now cells.now.tree.nodes asking) nodes answer) }
 {
-    bound_extreme(
-        alloc,
+    let problem = Problem {
         schema,
-        seen,
         constraints,
-        cells,
         query,
-        Extreme::High,
+        cells,
         nodes,
-    )
+    };
+    bound_extreme(alloc, &problem, seen, Extreme::High)
 }
 
 /// The far end is the low one of a least number, and the high one of a greatest.
 fn bound_extreme(
     alloc: Global,
-    schema: &Schema,
+    problem: &Problem<'_>,
     seen: &Folded,
-    constraints: &[Constraint],
-    cells: &Cells,
-    query: &Query,
     far: Extreme,
-    nodes: u32,
 ) -> Result<Answer, Memory>
-    requires asked { AreAsked schema.now seen.now constraints.now cells.now query.now nodes }
-    requires extreme { query.now.agg ≡ agg_of far }
-    ensures owes { IfOk result (λ answer. (asking : Asking schema.now constraints.now query.now seen.now) → Owes (setting_for schema.now constraints.now query.now seen.now cells.now.tree.nodes asking) nodes answer) }
+    requires asked { IsAsked problem.now seen.now }
+    requires extreme { problem.now.query.now.agg ≡ agg_of far }
+    ensures owes { IfOk result (λ answer. (asking : AskingOf problem.now seen.now) → Owes (answered_setting problem.now seen.now asking) problem.now.nodes answer) }
 {
     let number = seen_number(seen, far);
     let observed = number.is_some();
-    let grounded = ground(alloc, schema, constraints, cells, query, observed, nodes)?;
+    let grounded = ground(alloc, problem, observed)?;
     let Grounds { lacking, found } = match grounded {
         Grounded::Impossible(why) => return Ok(impossible_by(why)),
         Grounded::Always(tree, found) => {
-            return always_by(alloc, cells, found.as_slice(), AlwaysBy::Tree(tree));
+            return always_by(alloc, problem.cells, found.as_slice(), AlwaysBy::Tree(tree));
         }
         Grounded::Open(grounds) => grounds,
     };
-    let pair = stand_both(
-        alloc,
-        schema,
-        constraints,
-        cells,
-        query,
-        far,
-        number,
-        found,
-        nodes,
-    )?;
+    let pair = stand_both(alloc, problem, far, number, found)?;
     match pair {
         Pair::Empty(tree) => Ok(impossible_by(Why::Void(tree))),
-        Pair::At { low, high, found } => judge(
-            alloc,
-            schema,
-            constraints,
-            cells,
-            query,
-            observed,
-            lacking,
-            low,
-            high,
-            found,
-        ),
+        Pair::At { low, high, found } => judge(alloc, problem, observed, lacking, low, high, found),
     }
 }
 
@@ -154,37 +124,26 @@ enum Pair {
 
 fn stand_both(
     alloc: Global,
-    schema: &Schema,
-    constraints: &[Constraint],
-    cells: &Cells,
-    query: &Query,
+    problem: &Problem<'_>,
     far: Extreme,
     number: Option<i64>,
     found: FoundCounts,
-    nodes: u32,
 ) -> Result<Pair, Memory>
-    requires well_formed { IsWellFormed schema.now }
-    requires constraints { AreConstraints schema.now constraints.now }
-    requires numbers { IsSomeAnd query.now.column (IsColumnWhere IsNumeric schema.now) }
-    requires cells { AreCells schema.now constraints.now query.now cells.now }
-    requires some { HasValues (unseen schema.now constraints.now query.now cells.now.tree.nodes) (is_some number) }
-    requires lawful { All (AreLawful (unseen schema.now constraints.now query.now cells.now.tree.nodes)) found }
-    requires doubt { IsDoubt (most_chosen (unseen schema.now constraints.now query.now cells.now.tree.nodes)) (want_for (is_some number)) nodes found }
-    requires nodes { (1 ≤ nodes) × (nodes ≤ 100_000) }
-    ensures pair { IfOk result (IsPair (unseen schema.now constraints.now query.now cells.now.tree.nodes) nodes far number found) }
-    ensures disjoint { AreDisjoint schema.now constraints.now → 0 < length found → Any (IsFound (most_chosen (unseen schema.now constraints.now query.now cells.now.tree.nodes)) (want_for (is_some number))) found → IfOk result IsPairSurely }
+    requires posed { IsPosed problem.now }
+    requires numbers { IsSomeAnd problem.now.query.now.column (IsColumnWhere IsNumeric problem.now.schema.now) }
+    requires some { HasValues (setting_of problem.now) (is_some number) }
+    requires lawful { All (AreLawful (setting_of problem.now)) found }
+    requires doubt { IsDoubt (most_chosen (setting_of problem.now)) (want_for (is_some number)) problem.now.nodes found }
+    ensures pair { IfOk result (IsPair (setting_of problem.now) problem.now.nodes far number found) }
+    ensures disjoint { IsEasy problem.now → 0 < length found → Any (IsFound (most_chosen (setting_of problem.now)) (want_for (is_some number))) found → IfOk result IsPairSurely }
 {
     let stood = search_end(
         alloc,
-        schema,
-        constraints,
-        cells,
-        query,
+        problem,
         Extreme::Low,
         test_at(far, Extreme::Low),
         key_at(Extreme::Low, number),
         found,
-        nodes,
     )?;
     let On { stand: low, found } = match stood {
         Stood::At(on) => on,
@@ -192,15 +151,11 @@ fn stand_both(
     };
     let stood = search_end(
         alloc,
-        schema,
-        constraints,
-        cells,
-        query,
+        problem,
         Extreme::High,
         test_at(far, Extreme::High),
         key_at(Extreme::High, number),
         found,
-        nodes,
     )?;
     Ok(pair_at(low, stood))
 }

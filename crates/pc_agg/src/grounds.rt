@@ -1,23 +1,19 @@
 ghost use Rattle.std.specs.Prelude.{◌≡◌, ◌<◌, ◌≤◌, true, false, All, Any, IfOk, IsTrue, length};
-ghost use Rattle.pc_model.specs.Accepted.{AreConstraints};
-ghost use Rattle.pc_model.specs.Membership.{AreDisjoint};
-ghost use Rattle.pc_model.specs.WellFormed.{IsWellFormed};
 ghost use Rattle.pc_cells.specs.declared.cells.Cell.{Cell};
 ghost use Rattle.pc_program_bound.specs.Allocation.{IsProgram};
 ghost use Rattle.pc_program.specs.Settled.{HasOneBits};
 ghost use Rattle.pc_branch.specs.Ends.{HasSmallGains};
 ghost use Rattle.pc_branch_licences.specs.Pools.{AreLawful};
-ghost use Rattle.pc_agg_search.specs.Asked.{AreCells};
 ghost use Rattle.pc_agg_search.specs.Wants.{want_for, IsMet, IsProbed, IsSure};
 ghost use Rattle.pc_agg.specs.Grounds.{HasValues, IsGrounded, IsGroundedSurely, IsLacking, IsLackingSurely, IsUnlistedIfNone};
-ghost use Rattle.pc_agg_search.specs.Settings.{unseen};
+ghost use Rattle.pc_agg_search.specs.Problem.{IsEasy, IsPosed, setting_of};
 
 use crate::settling::{Settled, settle_totals};
 use pc_agg_search::{
-    FoundCounts, ProbeVerdict, Probed, Want, chosen_program, flat_tree, probe, want_for,
+    FoundCounts, ProbeVerdict, Probed, Problem, Want, chosen_program, flat_tree, probe, want_for,
 };
 use pc_cells::Cells;
-use pc_model::{Constraint, Query, Schema, Tree};
+use pc_model::Tree;
 use pc_num::Memory;
 use pc_program_bound::Program;
 use pc_proof::{NeverBy, Relation, Why};
@@ -49,86 +45,52 @@ pub(crate) enum Grounded {
 /// Searches for lists, for those without a chosen row, and for those with one, where rows were observed or not.
 pub(crate) fn ground(
     alloc: Global,
-    schema: &Schema,
-    constraints: &[Constraint],
-    cells: &Cells,
-    query: &Query,
+    problem: &Problem<'_>,
     observed: bool,
-    nodes: u32,
 ) -> Result<Grounded, Memory>
-    requires well_formed { IsWellFormed schema.now }
-    requires constraints { AreConstraints schema.now constraints.now }
-    requires cells { AreCells schema.now constraints.now query.now cells.now }
-    requires nodes { (1 ≤ nodes) × (nodes ≤ 100_000) }
-    ensures grounded { IfOk result (IsGrounded (unseen schema.now constraints.now query.now cells.now.tree.nodes) observed nodes) }
-    ensures disjoint { AreDisjoint schema.now constraints.now → IfOk result (IsGroundedSurely (unseen schema.now constraints.now query.now cells.now.tree.nodes) observed) }
+    requires posed { IsPosed problem.now }
+    ensures grounded { IfOk result (IsGrounded (setting_of problem.now) observed problem.now.nodes) }
+    ensures disjoint { IsEasy problem.now → IfOk result (IsGroundedSurely (setting_of problem.now) observed) }
 {
     let Settled {
         relation,
         lack: _,
         found,
-    } = settle_totals(alloc, schema, constraints, cells, query, nodes)?;
+    } = settle_totals(alloc, problem)?;
     if let Relation::Impossible(why) = relation {
         return Ok(Grounded::Impossible(why));
     }
     if observed {
         let lacking = Lacking::Never(NeverBy::Rows);
-        return ground_most(
-            alloc,
-            schema,
-            constraints,
-            cells,
-            query,
-            true,
-            lacking,
-            found,
-            nodes,
-        );
+        return ground_most(alloc, problem, true, lacking, found);
     }
-    ground_unseen(alloc, schema, constraints, cells, query, found, nodes)
+    ground_unseen(alloc, problem, found)
 }
 
 /// The same where no row was observed, so that a list without chosen rows gives no value.
 fn ground_unseen(
     alloc: Global,
-    schema: &Schema,
-    constraints: &[Constraint],
-    cells: &Cells,
-    query: &Query,
+    problem: &Problem<'_>,
     found: FoundCounts,
-    nodes: u32,
 ) -> Result<Grounded, Memory>
-    requires well_formed { IsWellFormed schema.now }
-    requires constraints { AreConstraints schema.now constraints.now }
-    requires cells { AreCells schema.now constraints.now query.now cells.now }
-    requires lawful { All (AreLawful (unseen schema.now constraints.now query.now cells.now.tree.nodes)) found }
-    requires totals { IsUnlistedIfNone (unseen schema.now constraints.now query.now cells.now.tree.nodes) nodes found }
-    requires nodes { (1 ≤ nodes) × (nodes ≤ 100_000) }
-    ensures grounded { IfOk result (IsGrounded (unseen schema.now constraints.now query.now cells.now.tree.nodes) false nodes) }
-    ensures disjoint { AreDisjoint schema.now constraints.now → 0 < length found → IfOk result (IsGroundedSurely (unseen schema.now constraints.now query.now cells.now.tree.nodes) false) }
+    requires posed { IsPosed problem.now }
+    requires lawful { All (AreLawful (setting_of problem.now)) found }
+    requires totals { IsUnlistedIfNone (setting_of problem.now) problem.now.nodes found }
+    ensures grounded { IfOk result (IsGrounded (setting_of problem.now) false problem.now.nodes) }
+    ensures disjoint { IsEasy problem.now → 0 < length found → IfOk result (IsGroundedSurely (setting_of problem.now) false) }
 {
-    if !has_chosen(cells) {
-        let tree = flat_tree(alloc, constraints.len())?;
+    if !has_chosen(problem.cells) {
+        let tree = flat_tree(alloc, problem.constraints.len())?;
         return Ok(Grounded::Always(tree, found));
     }
-    let fewest = chosen_program(alloc, schema, constraints, cells, query, -1)?;
-    let Probed { verdict, found } = probe_once(alloc, fewest, Want::Without, found, nodes)?;
+    let fewest = chosen_program(alloc, problem, -1)?;
+    let Probed { verdict, found } = probe_once(alloc, fewest, Want::Without, found, problem.nodes)?;
     let lacking = match verdict {
         ProbeVerdict::Empty(tree) => return Ok(Grounded::Impossible(Why::Void(tree))),
         ProbeVerdict::Short(tree) => Lacking::Never(NeverBy::Tree(tree)),
         ProbeVerdict::Open => Lacking::Open,
     };
-    ground_most(
-        alloc,
-        schema,
-        constraints,
-        cells,
-        query,
-        false,
-        lacking,
-        found,
-        nodes,
-    )
+    ground_most(alloc, problem, false, lacking, found)
 }
 
 /// Whether some cell is chosen.
@@ -147,29 +109,22 @@ fn has_chosen(cells: &Cells) -> bool
 /// Searches for a list with a chosen row, or for any list where rows were observed.
 fn ground_most(
     alloc: Global,
-    schema: &Schema,
-    constraints: &[Constraint],
-    cells: &Cells,
-    query: &Query,
+    problem: &Problem<'_>,
     observed: bool,
     lacking: Lacking,
     found: FoundCounts,
-    nodes: u32,
 ) -> Result<Grounded, Memory>
-    requires well_formed { IsWellFormed schema.now }
-    requires constraints { AreConstraints schema.now constraints.now }
-    requires cells { AreCells schema.now constraints.now query.now cells.now }
-    requires some { HasValues (unseen schema.now constraints.now query.now cells.now.tree.nodes) observed }
-    requires lawful { All (AreLawful (unseen schema.now constraints.now query.now cells.now.tree.nodes)) found }
-    requires totals { IsUnlistedIfNone (unseen schema.now constraints.now query.now cells.now.tree.nodes) nodes found }
-    requires lacking { IsLacking (unseen schema.now constraints.now query.now cells.now.tree.nodes) observed nodes found lacking }
-    requires nodes { (1 ≤ nodes) × (nodes ≤ 100_000) }
-    ensures grounded { IfOk result (IsGrounded (unseen schema.now constraints.now query.now cells.now.tree.nodes) observed nodes) }
-    ensures disjoint { AreDisjoint schema.now constraints.now → 0 < length found → IsLackingSurely (unseen schema.now constraints.now query.now cells.now.tree.nodes) found lacking → IfOk result (IsGroundedSurely (unseen schema.now constraints.now query.now cells.now.tree.nodes) observed) }
+    requires posed { IsPosed problem.now }
+    requires some { HasValues (setting_of problem.now) observed }
+    requires lawful { All (AreLawful (setting_of problem.now)) found }
+    requires totals { IsUnlistedIfNone (setting_of problem.now) problem.now.nodes found }
+    requires lacking { IsLacking (setting_of problem.now) observed problem.now.nodes found lacking }
+    ensures grounded { IfOk result (IsGrounded (setting_of problem.now) observed problem.now.nodes) }
+    ensures disjoint { IsEasy problem.now → 0 < length found → IsLackingSurely (setting_of problem.now) found lacking → IfOk result (IsGroundedSurely (setting_of problem.now) observed) }
 {
-    let most = chosen_program(alloc, schema, constraints, cells, query, 1)?;
+    let most = chosen_program(alloc, problem, 1)?;
     let want = want_for(observed);
-    let Probed { verdict, found } = probe_once(alloc, most, want, found, nodes)?;
+    let Probed { verdict, found } = probe_once(alloc, most, want, found, problem.nodes)?;
     match verdict {
         ProbeVerdict::Empty(tree) => Ok(Grounded::Impossible(Why::Void(tree))),
         ProbeVerdict::Short(tree) if observed => Ok(Grounded::Impossible(Why::Void(tree))),

@@ -1,8 +1,6 @@
 ghost use Rattle.std.specs.Prelude.{◌≡◌, ◌<◌, ◌≤◌, ◌^◌, nat_abs, List, [], All, IfOk, MatchOption, length, slice_index_or};
 ghost use Rattle.std.specs.List.{AllZip};
-ghost use Rattle.pc_model.specs.Accepted.{AreConstraints};
 ghost use Rattle.pc_model.specs.Cells.{IsInSome};
-ghost use Rattle.pc_model.specs.WellFormed.{IsWellFormed};
 ghost use Rattle.pc_cells.specs.declared.cells.Cell.{Cell};
 ghost use Rattle.pc_cells.specs.Found.{IsFilled};
 ghost use Rattle.pc_model.specs.declared.row.Row.{Row};
@@ -10,10 +8,9 @@ ghost use Rattle.pc_program_bound.specs.Allocation.{IsProgram};
 ghost use Rattle.pc_branch.specs.Ends.{HasSmallGains};
 ghost use Rattle.pc_branch_licences.specs.Pools.{AreLawful};
 ghost use Rattle.pc_agg_search.specs.declared.extreme.Extreme.TheVariants.{Low, High};
-ghost use Rattle.pc_agg_search.specs.Asked.{AreCells};
 ghost use Rattle.pc_agg.specs.Extremes.{always_as, crossed, judged, relation_from, CanStand, IsJudged, IsJudgedOver, IsLackFrom, IsOpenLack};
 ghost use Rattle.pc_agg_search.specs.Ends.{signed};
-ghost use Rattle.pc_agg_search.specs.Settings.{unseen};
+ghost use Rattle.pc_agg_search.specs.Problem.{IsPosed, setting_of};
 ghost use Rattle.pc_agg_search.specs.Wants.{IsFound, IsMet};
 ghost use Rattle.pc_agg.specs.Stands.{IsEndAt, IsMarkedBy};
 
@@ -21,10 +18,10 @@ use crate::bounds::{bounded_by, impossible_by};
 use crate::grounds::{Grounds, Lacking};
 use crate::settling::{Settled, rows_of_cells};
 use crate::stand::Stand;
-use pc_agg_search::{Extreme, FoundCounts, Want, chosen_program, find_wanted};
+use pc_agg_search::{Extreme, FoundCounts, Problem, Want, chosen_program, find_wanted};
 use pc_cells::Cells;
 use pc_list::Seq;
-use pc_model::{Constraint, Query, Row, Schema};
+use pc_model::Row;
 use pc_num::{Frac, Memory};
 use pc_program_bound::Program;
 use pc_proof::{AlwaysBy, Answer, End, Lack, Mark, Relation, Why};
@@ -34,31 +31,23 @@ use std::alloc::Global;
 /// The answer where both ends stand, over all counts that were found.
 pub(crate) fn judge(
     alloc: Global,
-    schema: &Schema,
-    constraints: &[Constraint],
-    cells: &Cells,
-    query: &Query,
+    problem: &Problem<'_>,
     observed: bool,
     lacking: Lacking,
     low: Stand,
     high: Stand,
     found: FoundCounts,
 ) -> Result<Answer, Memory>
-    requires well_formed { IsWellFormed schema.now }
-    requires constraints { AreConstraints schema.now constraints.now }
-    requires cells { AreCells schema.now constraints.now query.now cells.now }
-    requires lawful { All (AreLawful (unseen schema.now constraints.now query.now cells.now.tree.nodes)) found }
-    requires sized { length low.picks ≡ length cells.now.cells }
+    requires posed { IsPosed problem.now }
+    requires lawful { All (AreLawful (setting_of problem.now)) found }
+    requires sized { length low.picks ≡ length problem.now.cells.now.cells }
     requires low { CanStand low found }
     requires high { CanStand high found }
-    ensures { IfOk result (IsJudged (unseen schema.now constraints.now query.now cells.now.tree.nodes) observed lacking low high found) }
+    ensures { IfOk result (IsJudged (setting_of problem.now) observed lacking low high found) }
 {
     let settled = settle_found(
         alloc,
-        schema,
-        constraints,
-        cells,
-        query,
+        problem,
         Grounds { lacking, found },
         low.picks.as_slice(),
     )?;
@@ -84,35 +73,21 @@ fn judge_settled(
 /// A list of what was found, and what is known of the lack.
 pub(crate) fn settle_found(
     alloc: Global,
-    schema: &Schema,
-    constraints: &[Constraint],
-    cells: &Cells,
-    query: &Query,
+    problem: &Problem<'_>,
     grounds: Grounds,
     picks: &[Row],
 ) -> Result<Settled, Memory>
-    requires well_formed { IsWellFormed schema.now }
-    requires constraints { AreConstraints schema.now constraints.now }
-    requires cells { AreCells schema.now constraints.now query.now cells.now }
-    requires lawful { All (AreLawful (unseen schema.now constraints.now query.now cells.now.tree.nodes)) grounds.found }
-    requires sized { length picks.now ≡ length cells.now.cells }
+    requires posed { IsPosed problem.now }
+    requires lawful { All (AreLawful (setting_of problem.now)) grounds.found }
+    requires sized { length picks.now ≡ length problem.now.cells.now.cells }
     requires counted { All (λ counts. length picks.now ≡ length counts) grounds.found }
     ensures relation { IfOk result (λ settled. settled.relation ≡ relation_from picks.now grounds.found) }
-    ensures lack { IfOk result (λ settled. IsLackFrom (unseen schema.now constraints.now query.now cells.now.tree.nodes) picks.now grounds.found grounds.lacking settled.lack) }
+    ensures lack { IfOk result (λ settled. IsLackFrom (setting_of problem.now) picks.now grounds.found grounds.lacking settled.lack) }
     ensures found { IfOk result (λ settled. settled.found ≡ grounds.found) }
 {
     let Grounds { lacking, found } = grounds;
     let relation = relation_from(alloc, picks, found.as_slice())?;
-    let lack = lack_from(
-        alloc,
-        schema,
-        constraints,
-        cells,
-        query,
-        lacking,
-        picks,
-        found.as_slice(),
-    )?;
+    let lack = lack_from(alloc, problem, lacking, picks, found.as_slice())?;
     Ok(Settled {
         relation,
         lack,
@@ -205,48 +180,38 @@ pub(crate) fn relation_from(
 /// What is known of the lack, with lists of both kinds where it may be there and may not.
 fn lack_from(
     alloc: Global,
-    schema: &Schema,
-    constraints: &[Constraint],
-    cells: &Cells,
-    query: &Query,
+    problem: &Problem<'_>,
     lacking: Lacking,
     picks: &[Row],
     found: &[Seq<u64>],
 ) -> Result<Lack, Memory>
-    requires well_formed { IsWellFormed schema.now }
-    requires constraints { AreConstraints schema.now constraints.now }
-    requires cells { AreCells schema.now constraints.now query.now cells.now }
-    requires lawful { All (AreLawful (unseen schema.now constraints.now query.now cells.now.tree.nodes)) found.now }
-    requires sized { length picks.now ≡ length cells.now.cells }
-    ensures { IfOk result (IsLackFrom (unseen schema.now constraints.now query.now cells.now.tree.nodes) picks.now found.now lacking) }
+    requires posed { IsPosed problem.now }
+    requires lawful { All (AreLawful (setting_of problem.now)) found.now }
+    requires sized { length picks.now ≡ length problem.now.cells.now.cells }
+    ensures { IfOk result (IsLackFrom (setting_of problem.now) picks.now found.now lacking) }
 {
     match lacking {
         Lacking::Never(by) => Ok(Lack::Never(by)),
-        Lacking::Open => open_lack(alloc, schema, constraints, cells, query, picks, found),
+        Lacking::Open => open_lack(alloc, problem, picks, found),
     }
 }
 
 fn open_lack(
     alloc: Global,
-    schema: &Schema,
-    constraints: &[Constraint],
-    cells: &Cells,
-    query: &Query,
+    problem: &Problem<'_>,
     picks: &[Row],
     found: &[Seq<u64>],
 ) -> Result<Lack, Memory>
-    requires well_formed { IsWellFormed schema.now }
-    requires constraints { AreConstraints schema.now constraints.now }
-    requires cells { AreCells schema.now constraints.now query.now cells.now }
-    requires lawful { All (AreLawful (unseen schema.now constraints.now query.now cells.now.tree.nodes)) found.now }
-    requires sized { length picks.now ≡ length cells.now.cells }
-    ensures { IfOk result (IsOpenLack (unseen schema.now constraints.now query.now cells.now.tree.nodes) picks.now found.now) }
+    requires posed { IsPosed problem.now }
+    requires lawful { All (AreLawful (setting_of problem.now)) found.now }
+    requires sized { length picks.now ≡ length problem.now.cells.now.cells }
+    ensures { IfOk result (IsOpenLack (setting_of problem.now) picks.now found.now) }
 {
-    let fewest = chosen_program(alloc, schema, constraints, cells, query, -1)?;
+    let fewest = chosen_program(alloc, problem, -1)?;
     let Some(without) = place_in(fewest, Want::Without, found) else {
         return Ok(Lack::Undecided);
     };
-    let most = chosen_program(alloc, schema, constraints, cells, query, 1)?;
+    let most = chosen_program(alloc, problem, 1)?;
     let Some(with) = place_in(most, Want::Gaining, found) else {
         return Ok(Lack::Undecided);
     };

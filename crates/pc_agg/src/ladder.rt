@@ -1,19 +1,15 @@
 ghost use Rattle.std.specs.Prelude.{◌≡◌, ◌++◌, ◌&&◌, [], ◌∷◌, cond, length, map, IfOk};
 ghost use Rattle.std.specs.Option.{option_to_list};
-ghost use Rattle.pc_model.specs.Cells.{classes_of, leaves_in};
-ghost use Rattle.pc_model.specs.WellFormed.{IsWellFormed};
-ghost use Rattle.pc_proof.specs.Setting.{on_chosen};
-ghost use Rattle.pc_agg_search.specs.Asked.{AreCells};
+ghost use Rattle.pc_proof.specs.Setting.{cells, on_chosen};
 ghost use Rattle.pc_agg.specs.Kept.{passes, AreKept};
 ghost use Rattle.pc_agg_search.specs.Keys.{key_of};
 ghost use Rattle.pc_agg.specs.Rungs.{AreRungs, IsLadder};
-ghost use Rattle.pc_agg_search.specs.Settings.{unseen};
+ghost use Rattle.pc_agg_search.specs.Problem.{IsPosed, setting_of};
 
 use crate::falling::falling_of;
-use pc_agg_search::Extreme;
-use pc_cells::{Cell, Cells};
+use pc_agg_search::{Extreme, Problem};
+use pc_cells::Cell;
 use pc_list::Seq;
-use pc_model::{Constraint, Query, Schema};
 use pc_num::Memory;
 use std::alloc::Global;
 
@@ -39,24 +35,26 @@ pub(crate) struct Ladder {
 /// The ladder of an end, where the observed rows reach a key.
 pub(crate) fn ladder_of(
     alloc: Global,
-    schema: &Schema,
-    constraints: &[Constraint],
-    cells: &Cells,
-    query: &Query,
+    problem: &Problem<'_>,
     extreme: Extreme,
     test: Test,
     keys: Seq<i128>,
     seen: Option<i128>,
 ) -> Result<Ladder, Memory>
-    requires well_formed { IsWellFormed schema.now }
-    requires cells { AreCells schema.now constraints.now query.now cells.now }
-    requires keyed { keys ≡ map (on_chosen (key_of (unseen schema.now constraints.now query.now cells.now.tree.nodes) extreme)) (classes_of (leaves_in schema.now cells.now.tree.nodes)) }
+    requires posed { IsPosed problem.now }
+    requires keyed { keys ≡ map (on_chosen (key_of (setting_of problem.now) extreme)) (cells (setting_of problem.now)) }
     ensures extreme { IfOk result (λ ladder. ladder.extreme ≡ extreme) }
     ensures test { IfOk result (λ ladder. ladder.test ≡ test) }
-    ensures keyed { IfOk result (IsLadder (unseen schema.now constraints.now query.now cells.now.tree.nodes)) }
-    ensures rungs { IfOk result (λ ladder. AreRungs (unseen schema.now constraints.now query.now cells.now.tree.nodes) extreme test seen ladder.rungs) }
+    ensures keyed { IfOk result (IsLadder (setting_of problem.now)) }
+    ensures rungs { IfOk result (λ ladder. AreRungs (setting_of problem.now) extreme test seen ladder.rungs) }
 {
-    let kept = kept_keys(alloc, cells.cells.as_slice(), keys.as_slice(), test, seen)?;
+    let kept = kept_keys(
+        alloc,
+        problem.cells.cells.as_slice(),
+        keys.as_slice(),
+        test,
+        seen,
+    )?;
     let numbers = with_seen(kept, seen)?;
     let rungs = falling_of(alloc, numbers.into_vec())?;
     Ok(Ladder {

@@ -1,7 +1,4 @@
-ghost use Rattle.std.specs.Prelude.{◌≡◌, ◌<◌, ◌≤◌, ◌&&◌, pos, int_le, int_lt, cond, length, map, IfOk};
-ghost use Rattle.pc_model.specs.WellFormed.{IsWellFormed};
-ghost use Rattle.pc_model.specs.Accepted.{AreConstraints};
-ghost use Rattle.pc_model.specs.Membership.{AreDisjoint};
+ghost use Rattle.std.specs.Prelude.{◌≡◌, ◌<◌, ◌&&◌, pos, int_le, int_lt, cond, length, map, IfOk};
 ghost use Rattle.pc_program_bound.specs.Allocation.{IsProgram};
 ghost use Rattle.pc_program_bound.specs.Sums.{int_at};
 ghost use Rattle.pc_program_bound.specs.CellPrograms.{program_with};
@@ -9,17 +6,16 @@ ghost use Rattle.pc_branch.specs.Ends.{HasSmallGains};
 ghost use Rattle.pc_program.specs.Settled.{HasOneBits};
 ghost use Rattle.pc_simplex_tableau.specs.Numbers.{table};
 ghost use Rattle.pc_cells.specs.Found.{class_of_cell};
-ghost use Rattle.pc_agg_search.specs.Asked.{AreCells};
 ghost use Rattle.pc_agg.specs.Keyed.{reach_gain, avoid_cap, with_closed, tested_program};
 ghost use Rattle.pc_agg_search.specs.Targets.{chosen_gain};
 ghost use Rattle.pc_agg.specs.Rungs.{program_at, IsLadder};
-ghost use Rattle.pc_agg_search.specs.Settings.{unseen};
+ghost use Rattle.pc_agg_search.specs.Problem.{IsEasy, IsPosed, setting_of};
 
 use crate::ladder::{Ladder, Test};
-use pc_agg_search::{chosen_gains, program_of};
+use pc_agg_search::{Problem, chosen_gains, program_of};
 use pc_cells::{Cell, Cells};
 use pc_list::Seq;
-use pc_model::{Constraint, Query, Schema};
+use pc_model::Constraint;
 use pc_num::Memory;
 use pc_program_bound::Program;
 use std::alloc::Global;
@@ -27,24 +23,19 @@ use std::alloc::Global;
 /// The program that tests a rung.
 pub(crate) fn program_at(
     alloc: Global,
-    schema: &Schema,
-    constraints: &[Constraint],
-    cells: &Cells,
-    query: &Query,
+    problem: &Problem<'_>,
     ladder: &Ladder,
     place: usize,
 ) -> Result<Program, Memory>
-    requires well_formed { IsWellFormed schema.now }
-    requires constraints { AreConstraints schema.now constraints.now }
-    requires cells { AreCells schema.now constraints.now query.now cells.now }
-    requires keyed { IsLadder (unseen schema.now constraints.now query.now cells.now.tree.nodes) ladder.now }
+    requires posed { IsPosed problem.now }
+    requires keyed { IsLadder (setting_of problem.now) ladder.now }
     requires there { place < length ladder.now.rungs }
-    ensures program { IfOk result (λ p. p ≡ program_at (unseen schema.now constraints.now query.now cells.now.tree.nodes) ladder.now place) }
+    ensures program { IfOk result (λ p. p ≡ program_at (setting_of problem.now) ladder.now place) }
     ensures is_program { IfOk result IsProgram }
     ensures small { IfOk result HasSmallGains }
-    ensures disjoint { AreDisjoint schema.now constraints.now → IfOk result HasOneBits }
+    ensures disjoint { IsEasy problem.now → IfOk result HasOneBits }
 {
-    tested(alloc, constraints, cells, ladder, place)
+    tested(alloc, problem.constraints, problem.cells, ladder, place)
 }
 
 /// The same by what the cells and the keys say alone.

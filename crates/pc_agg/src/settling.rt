@@ -1,11 +1,7 @@
 ghost use Rattle.std.specs.Prelude.{◌≡◌, ℕ, ◌<◌, ◌≤◌, ◌^◌, ◌⊎◌, pos, neg_ℤ, nat_abs, length, [], ◌∷◌, slice_index_or, true, None, All, IsTrue, IfOk, IfSome};
 ghost use Rattle.std.specs.List.{AllZip};
 ghost use Rattle.pc_cells.specs.declared.cells.Cell.{Cell};
-ghost use Rattle.pc_model.specs.Accepted.{AreConstraints};
-ghost use Rattle.pc_model.specs.Membership.{AreDisjoint};
-ghost use Rattle.pc_model.specs.Right.{always_has_value};
 ghost use Rattle.pc_model.specs.Runs.{runs_from};
-ghost use Rattle.pc_model.specs.WellFormed.{IsWellFormed};
 ghost use Rattle.pc_model.specs.Cells.{IsInSome};
 ghost use Rattle.pc_cells.specs.Found.{IsFilled};
 ghost use Rattle.pc_proof.specs.Setting.{program_for};
@@ -13,17 +9,15 @@ ghost use Rattle.pc_proof.specs.declared.answer.Relation.TheVariants as relation
 ghost use Rattle.pc_proof.specs.declared.answer.Lack.TheVariants as lacks;
 ghost use Rattle.pc_proof.specs.Unbroken.{IsDecided};
 ghost use Rattle.pc_branch_licences.specs.Pools.{AreLawful};
-ghost use Rattle.pc_agg_search.specs.Asked.{AreCells, AreAsked, Asking, setting_for};
-ghost use Rattle.pc_agg.specs.Owed.{OwesSettled};
-ghost use Rattle.pc_agg_search.specs.Settings.{unseen};
+ghost use Rattle.pc_agg_search.specs.Problem.{IsEasy, IsPosed, setting_of};
 ghost use Rattle.pc_agg_search.specs.declared.limit.Limit.{Limit};
 ghost use Rattle.pc_agg.specs.declared.settling.Total.TheVariants as totals;
 ghost use Rattle.pc_agg.specs.Settling.{AreOpenTotals, IsLimitOfGain, IsSettled, IsTotal, IsTotalDecided, IsTotalOf, left_open, settled_after};
 
-use pc_agg_search::{FoundCounts, Limit, Sought, equal_gains, seek};
+use pc_agg_search::{FoundCounts, Limit, Problem, Sought, equal_gains, seek};
 use pc_cells::Cells;
 use pc_list::Seq;
-use pc_model::{Constraint, Folded, Query, Row, Schema, Tree};
+use pc_model::{Row, Tree};
 use pc_num::Memory;
 use pc_proof::{Lack, Relation, Why};
 use pc_witness::rebuild;
@@ -49,28 +43,21 @@ enum Total {
 /// end and loses one towards the low, their programs are those of the totals, which are not searched again.
 pub(crate) fn settle_open(
     alloc: Global,
-    schema: &Schema,
-    constraints: &[Constraint],
-    cells: &Cells,
-    query: &Query,
-    nodes: u32,
+    problem: &Problem<'_>,
     low: &Limit,
     high: &Limit,
 ) -> Result<Settled, Memory>
-    requires well_formed { IsWellFormed schema.now }
-    requires constraints { AreConstraints schema.now constraints.now }
-    requires cells { AreCells schema.now constraints.now query.now cells.now }
-    requires nodes { (1 ≤ nodes) × (nodes ≤ 100_000) }
-    requires low { IsLimitOfGain (unseen schema.now constraints.now query.now cells.now.tree.nodes) nodes low.now }
-    requires high { IsLimitOfGain (unseen schema.now constraints.now query.now cells.now.tree.nodes) nodes high.now }
-    requires closed { AreDisjoint schema.now constraints.now → low.now.found ≡ None → ⊥ }
-    ensures settled { IfOk result (IsSettled (unseen schema.now constraints.now query.now cells.now.tree.nodes) nodes) }
-    ensures disjoint { AreDisjoint schema.now constraints.now → IfOk result (λ settled. IsDecided settled.relation) }
+    requires posed { IsPosed problem.now }
+    requires low { IsLimitOfGain (setting_of problem.now) problem.now.nodes low.now }
+    requires high { IsLimitOfGain (setting_of problem.now) problem.now.nodes high.now }
+    requires closed { IsEasy problem.now → low.now.found ≡ None → ⊥ }
+    ensures settled { IfOk result (IsSettled (setting_of problem.now) problem.now.nodes) }
+    ensures disjoint { IsEasy problem.now → IfOk result (λ settled. IsDecided settled.relation) }
 {
     if are_open_totals(low, high) {
         return Ok(undecided(alloc));
     }
-    settle_totals(alloc, schema, constraints, cells, query, nodes)
+    settle_totals(alloc, problem)
 }
 
 /// Whether the limits are those of the totals, with nothing found under them, and do not cross.
@@ -109,26 +96,16 @@ fn undecided(alloc: Global) -> Settled
 }
 
 /// Settles the relation by the most and the fewest rows that can be lost.
-pub(crate) fn settle_totals(
-    alloc: Global,
-    schema: &Schema,
-    constraints: &[Constraint],
-    cells: &Cells,
-    query: &Query,
-    nodes: u32,
-) -> Result<Settled, Memory>
-    requires well_formed { IsWellFormed schema.now }
-    requires constraints { AreConstraints schema.now constraints.now }
-    requires cells { AreCells schema.now constraints.now query.now cells.now }
-    requires nodes { (1 ≤ nodes) × (nodes ≤ 100_000) }
-    ensures settled { IfOk result (IsSettled (unseen schema.now constraints.now query.now cells.now.tree.nodes) nodes) }
-    ensures disjoint { AreDisjoint schema.now constraints.now → IfOk result (λ settled. IsDecided settled.relation) }
+pub(crate) fn settle_totals(alloc: Global, problem: &Problem<'_>) -> Result<Settled, Memory>
+    requires posed { IsPosed problem.now }
+    ensures settled { IfOk result (IsSettled (setting_of problem.now) problem.now.nodes) }
+    ensures disjoint { IsEasy problem.now → IfOk result (λ settled. IsDecided settled.relation) }
 {
-    let most = match find_total(alloc, schema, constraints, cells, query, 1, nodes)? {
+    let most = match find_total(alloc, problem, 1)? {
         Total::Settled(settled) => return Ok(settled),
         Total::Open(limit) => limit,
     };
-    let fewest = find_total(alloc, schema, constraints, cells, query, -1, nodes)?;
+    let fewest = find_total(alloc, problem, -1)?;
     Ok(settled_after(alloc, most, fewest))
 }
 
@@ -145,45 +122,24 @@ fn settled_after(alloc: Global, most: Limit, fewest: Total) -> Settled
 }
 
 /// The most rows that can be lost, by a gain of 1 for each, or the fewest, by a gain of -1.
-fn find_total(
-    alloc: Global,
-    schema: &Schema,
-    constraints: &[Constraint],
-    cells: &Cells,
-    query: &Query,
-    gain: i128,
-    nodes: u32,
-) -> Result<Total, Memory>
-    requires well_formed { IsWellFormed schema.now }
-    requires constraints { AreConstraints schema.now constraints.now }
-    requires cells { AreCells schema.now constraints.now query.now cells.now }
+fn find_total(alloc: Global, problem: &Problem<'_>, gain: i128) -> Result<Total, Memory>
+    requires posed { IsPosed problem.now }
     requires one { (gain ≡ pos 1) ⊎ (gain ≡ neg_ℤ (pos 1)) }
-    requires nodes { (1 ≤ nodes) × (nodes ≤ 100_000) }
-    ensures total { IfOk result (IsTotal (unseen schema.now constraints.now query.now cells.now.tree.nodes) nodes (program_for (unseen schema.now constraints.now query.now cells.now.tree.nodes) (λ _. gain))) }
-    ensures disjoint { AreDisjoint schema.now constraints.now → IfOk result IsTotalDecided }
+    ensures total { IfOk result (IsTotal (setting_of problem.now) problem.now.nodes (program_for (setting_of problem.now) (λ _. gain))) }
+    ensures disjoint { IsEasy problem.now → IfOk result IsTotalDecided }
 {
-    let gains = equal_gains(alloc, cells.cells.len(), gain)?;
-    let chosen = &query.chosen;
-    match seek(alloc, schema, constraints, chosen, cells, gains, nodes)? {
-        Sought::Within(limit) => settled_within(alloc, schema, constraints, cells, query, limit),
+    let gains = equal_gains(alloc, problem.cells.cells.len(), gain)?;
+    match seek(alloc, problem, gains)? {
+        Sought::Within(limit) => settled_within(alloc, problem, limit),
         Sought::Nothing(tree) => Ok(Total::Settled(impossible(alloc, Why::Void(tree)))),
     }
 }
 
 /// The relation where the search found something.
-fn settled_within(
-    alloc: Global,
-    schema: &Schema,
-    constraints: &[Constraint],
-    cells: &Cells,
-    query: &Query,
-    limit: Limit,
-) -> Result<Total, Memory>
-    requires well_formed { IsWellFormed schema.now }
-    requires constraints { AreConstraints schema.now constraints.now }
-    requires cells { AreCells schema.now constraints.now query.now cells.now }
-    requires lawful { IfSome limit.found (AreLawful (unseen schema.now constraints.now query.now cells.now.tree.nodes)) }
-    ensures total { IfOk result (IsTotalOf (unseen schema.now constraints.now query.now cells.now.tree.nodes) limit) }
+fn settled_within(alloc: Global, problem: &Problem<'_>, limit: Limit) -> Result<Total, Memory>
+    requires posed { IsPosed problem.now }
+    requires lawful { IfSome limit.found (AreLawful (setting_of problem.now)) }
+    ensures total { IfOk result (IsTotalOf (setting_of problem.now) limit) }
 {
     let Limit {
         program,
@@ -193,7 +149,7 @@ fn settled_within(
     } = limit;
     match found {
         Some(counts) => {
-            let settled = possible(alloc, schema, constraints, cells, query, counts)?;
+            let settled = possible(alloc, problem, counts)?;
             Ok(Total::Settled(settled))
         }
         None => Ok(Total::Open(Limit {
@@ -206,21 +162,13 @@ fn settled_within(
 }
 
 /// A list with these counts.
-fn possible(
-    alloc: Global,
-    schema: &Schema,
-    constraints: &[Constraint],
-    cells: &Cells,
-    query: &Query,
-    counts: Seq<u64>,
-) -> Result<Settled, Memory>
-    requires well_formed { IsWellFormed schema.now }
-    requires cells { AreCells schema.now constraints.now query.now cells.now }
-    requires lawful { AreLawful (unseen schema.now constraints.now query.now cells.now.tree.nodes) counts }
-    ensures settled { IfOk result (λ settled. (budget : ℕ) → IsSettled (unseen schema.now constraints.now query.now cells.now.tree.nodes) budget settled) }
+fn possible(alloc: Global, problem: &Problem<'_>, counts: Seq<u64>) -> Result<Settled, Memory>
+    requires posed { IsPosed problem.now }
+    requires lawful { AreLawful (setting_of problem.now) counts }
+    ensures settled { IfOk result (λ settled. (budget : ℕ) → IsSettled (setting_of problem.now) budget settled) }
     ensures decided { IfOk result (λ settled. IsDecided settled.relation) }
 {
-    let picks = rows_of_cells(alloc, cells)?;
+    let picks = rows_of_cells(alloc, problem.cells)?;
     let found = only(alloc, counts)?;
     listed(alloc, picks.as_slice(), found)
 }

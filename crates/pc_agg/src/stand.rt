@@ -1,13 +1,10 @@
 ghost use Rattle.std.specs.Prelude.{◌≡◌, ◌-◌, ◌<◌, ◌≤◌, ◌^◌, ◌==◌, nat_abs, length, All, Any, IfOk, IfSome, IsSomeAnd, is_some};
-ghost use Rattle.pc_model.specs.Accepted.{AreConstraints, IsNumeric, IsColumnWhere};
-ghost use Rattle.pc_model.specs.Membership.{AreDisjoint};
-ghost use Rattle.pc_model.specs.WellFormed.{IsWellFormed};
+ghost use Rattle.pc_model.specs.Accepted.{IsNumeric, IsColumnWhere};
 ghost use Rattle.pc_branch_licences.specs.Pools.{AreLawful};
-ghost use Rattle.pc_agg_search.specs.Asked.{AreCells};
 ghost use Rattle.pc_agg_search.specs.Wants.{most_chosen, want_for};
 ghost use Rattle.pc_agg.specs.Grounds.{HasValues};
 ghost use Rattle.pc_agg.specs.Rungs.{IsLadder};
-ghost use Rattle.pc_agg_search.specs.Settings.{unseen};
+ghost use Rattle.pc_agg_search.specs.Problem.{IsEasy, IsPosed, setting_of};
 ghost use Rattle.pc_agg.specs.Stands.{is_observed, proof_of, want_at, IsAttaining, IsStood, IsStoodOn, IsStoodSurely};
 ghost use Rattle.pc_agg_search.specs.Wants.{IsDoubt, IsFound};
 
@@ -15,11 +12,10 @@ use crate::climb::{Climbed, Standing, climb};
 use crate::ladder::{Ladder, Test, ladder_of};
 use crate::rungs::program_at;
 use pc_agg_search::{
-    Extreme, FoundCounts, Targets, Want, find_keys, flat_tree, total_program, want_for,
+    Extreme, FoundCounts, Problem, Targets, Want, find_keys, flat_tree, total_program, want_for,
 };
-use pc_cells::Cells;
 use pc_list::Seq;
-use pc_model::{Constraint, Query, Row, Schema, Tree};
+use pc_model::{Row, Tree};
 use pc_num::Memory;
 use pc_program_bound::Program;
 use pc_proof::Proof;
@@ -53,67 +49,30 @@ pub(crate) enum Stood {
 /// Searches an end of a least or a greatest number by one of the tests, where the observed rows reach a key.
 pub(crate) fn search_end(
     alloc: Global,
-    schema: &Schema,
-    constraints: &[Constraint],
-    cells: &Cells,
-    query: &Query,
+    problem: &Problem<'_>,
     extreme: Extreme,
     test: Test,
     seen: Option<i128>,
     found: FoundCounts,
-    nodes: u32,
 ) -> Result<Stood, Memory>
-    requires well_formed { IsWellFormed schema.now }
-    requires constraints { AreConstraints schema.now constraints.now }
-    requires numbers { IsSomeAnd query.now.column (IsColumnWhere IsNumeric schema.now) }
-    requires cells { AreCells schema.now constraints.now query.now cells.now }
-    requires some { HasValues (unseen schema.now constraints.now query.now cells.now.tree.nodes) (is_some seen) }
-    requires lawful { All (AreLawful (unseen schema.now constraints.now query.now cells.now.tree.nodes)) found }
-    requires doubt { IsDoubt (most_chosen (unseen schema.now constraints.now query.now cells.now.tree.nodes)) (want_for (is_some seen)) nodes found }
+    requires posed { IsPosed problem.now }
+    requires numbers { IsSomeAnd problem.now.query.now.column (IsColumnWhere IsNumeric problem.now.schema.now) }
+    requires some { HasValues (setting_of problem.now) (is_some seen) }
+    requires lawful { All (AreLawful (setting_of problem.now)) found }
+    requires doubt { IsDoubt (most_chosen (setting_of problem.now)) (want_for (is_some seen)) problem.now.nodes found }
     requires small_seen { IfSome seen (λ m. nat_abs m ≤ 2 ^ 63) }
-    requires nodes { (1 ≤ nodes) × (nodes ≤ 100_000) }
-    ensures stood { IfOk result (IsStood (unseen schema.now constraints.now query.now cells.now.tree.nodes) nodes extreme test seen found) }
-    ensures disjoint { AreDisjoint schema.now constraints.now → 0 < length found → Any (IsFound (most_chosen (unseen schema.now constraints.now query.now cells.now.tree.nodes)) (want_for (is_some seen))) found → IfOk result IsStoodSurely }
+    ensures stood { IfOk result (IsStood (setting_of problem.now) problem.now.nodes extreme test seen found) }
+    ensures disjoint { IsEasy problem.now → 0 < length found → Any (IsFound (most_chosen (setting_of problem.now)) (want_for (is_some seen))) found → IfOk result IsStoodSurely }
 {
-    let Targets { gains, picks } = find_keys(alloc, schema, constraints, cells, query, extreme)?;
+    let Targets { gains, picks } = find_keys(alloc, problem, extreme)?;
     let observed = seen.is_some();
-    let ladder = ladder_of(
-        alloc,
-        schema,
-        constraints,
-        cells,
-        query,
-        extreme,
-        test,
-        gains,
-        seen,
-    )?;
+    let ladder = ladder_of(alloc, problem, extreme, test, gains, seen)?;
     let want = want_at(test, observed);
-    let climbed = climb(
-        alloc,
-        schema,
-        constraints,
-        cells,
-        query,
-        &ladder,
-        want,
-        found,
-        nodes,
-    )?;
+    let climbed = climb(alloc, problem, &ladder, want, found)?;
     match climbed {
         Climbed::Empty(tree) => Ok(Stood::Empty(tree)),
         Climbed::At(standing) => {
-            let on = stand_on(
-                alloc,
-                schema,
-                constraints,
-                cells,
-                query,
-                &ladder,
-                observed,
-                standing,
-                picks,
-            )?;
+            let on = stand_on(alloc, problem, &ladder, observed, standing, picks)?;
             Ok(Stood::At(on))
         }
     }
@@ -132,35 +91,27 @@ fn want_at(test: Test, observed: bool) -> Want
 /// The stand on a rung of the ladder.
 fn stand_on(
     alloc: Global,
-    schema: &Schema,
-    constraints: &[Constraint],
-    cells: &Cells,
-    query: &Query,
+    problem: &Problem<'_>,
     ladder: &Ladder,
     observed: bool,
     standing: Standing,
     picks: Seq<Row>,
 ) -> Result<On, Memory>
-    requires well_formed { IsWellFormed schema.now }
-    requires constraints { AreConstraints schema.now constraints.now }
-    requires cells { AreCells schema.now constraints.now query.now cells.now }
-    requires keyed { IsLadder (unseen schema.now constraints.now query.now cells.now.tree.nodes) ladder.now }
+    requires posed { IsPosed problem.now }
+    requires keyed { IsLadder (setting_of problem.now) ladder.now }
     requires inside { standing.place < length ladder.now.rungs }
-    ensures stood { IfOk result (λ on. IsStoodOn (unseen schema.now constraints.now query.now cells.now.tree.nodes) (length constraints.now) ladder.now observed standing picks on.stand on.found) }
+    ensures stood { IfOk result (λ on. IsStoodOn (setting_of problem.now) (length problem.now.constraints.now) ladder.now observed standing picks on.stand on.found) }
 {
     let Standing { place, tree, found } = standing;
     let key = ladder.rungs.as_slice()[place];
-    let proof = proof_of(alloc, constraints.len(), ladder.test, observed, tree)?;
-    let Attaining { program, want } = attaining_at(
+    let proof = proof_of(
         alloc,
-        schema,
-        constraints,
-        cells,
-        query,
-        ladder,
+        problem.constraints.len(),
+        ladder.test,
         observed,
-        place,
+        tree,
     )?;
+    let Attaining { program, want } = attaining_at(alloc, problem, ladder, observed, place)?;
     let stand = Stand {
         key,
         proof,
@@ -180,29 +131,24 @@ struct Attaining {
 
 fn attaining_at(
     alloc: Global,
-    schema: &Schema,
-    constraints: &[Constraint],
-    cells: &Cells,
-    query: &Query,
+    problem: &Problem<'_>,
     ladder: &Ladder,
     observed: bool,
     place: usize,
 ) -> Result<Attaining, Memory>
-    requires well_formed { IsWellFormed schema.now }
-    requires constraints { AreConstraints schema.now constraints.now }
-    requires cells { AreCells schema.now constraints.now query.now cells.now }
-    requires keyed { IsLadder (unseen schema.now constraints.now query.now cells.now.tree.nodes) ladder.now }
+    requires posed { IsPosed problem.now }
+    requires keyed { IsLadder (setting_of problem.now) ladder.now }
     requires inside { place < length ladder.now.rungs }
-    ensures { IfOk result (λ made. IsAttaining (unseen schema.now constraints.now query.now cells.now.tree.nodes) ladder.now observed place made.program made.want) }
+    ensures { IfOk result (λ made. IsAttaining (setting_of problem.now) ladder.now observed place made.program made.want) }
 {
     if is_observed(ladder, observed, place) {
-        let program = total_program(alloc, schema, constraints, cells, query, 1)?;
+        let program = total_program(alloc, problem, 1)?;
         return Ok(Attaining {
             program,
             want: Want::Any,
         });
     }
-    let program = program_at(alloc, schema, constraints, cells, query, ladder, place)?;
+    let program = program_at(alloc, problem, ladder, place)?;
     let want = want_at(ladder.test, observed);
     Ok(Attaining { program, want })
 }

@@ -16,7 +16,7 @@ use Rattle.pc_model.specs.Cells.{Class, IsSettledTree, classes_of, boxes_of}
 use Rattle.pc_cells_laws.proofs.SettledTrees.{rows_of_tree}
 use Rattle.pc_proof.specs.Setting.{Setting, leaves}
 use Rattle.pc_cells.specs.declared.cells.Cell.{Cell}
-use Rattle.pc_cells.specs.Found.{class_of_cell, cell_of, cells_of}
+use Rattle.pc_cells.specs.Found.{cell_of, cells_of}
 use Rattle.pc_agg_search.specs.declared.extreme.Extreme.{Extreme}
 use Rattle.pc_agg_search.specs.declared.extreme.Extreme.TheVariants.{Low, High}
 use Rattle.pc_agg_search.specs.Ends.{gain_towards, adds, signed, IsPick}
@@ -46,12 +46,12 @@ module _ (s : Setting) (extreme : Extreme) (agg : Agg) (valued : always_has_valu
       by_column Max column e is valued measured = absurd (true≢false (sym valued))
       by_column Avg column e is valued measured = absurd (true≢false (sym valued))
 
-  each_gain : (classes : List Class) → map (gain_in s.question.query.column extreme) (map (cell_of (leaves s)) classes) ≡ map (gain_towards s agg extreme) (map class_of_cell (map (cell_of (leaves s)) classes))
+  each_gain : (classes : List Class) → map (gain_in s.question.query.column extreme) (map (cell_of (leaves s)) classes) ≡ map (gain_towards s agg extreme) classes
   each_gain [] = refl
   each_gain (class ∷ classes) = rw (gain_is class, each_gain classes) refl
 
-  pub gains_are : (cells : List Cell) (gains : List ℤ) → cells ≡ cells_of (leaves s) → gains ≡ map (gain_in s.question.query.column extreme) cells → gains ≡ map (gain_towards s agg extreme) (map class_of_cell cells)
-  gains_are cells gains cells_are gained = gained ∙ rw cells_are (each_gain (classes_of (leaves s)))
+  pub gains_are : (cells : List Cell) (gains : List ℤ) → cells ≡ cells_of (leaves s) → gains ≡ map (gain_in s.question.query.column extreme) cells → gains ≡ map (gain_towards s agg extreme) (classes_of (leaves s))
+  gains_are cells gains cells_are gained = gained ∙ ap (map (gain_in s.question.query.column extreme)) cells_are ∙ each_gain (classes_of (leaves s))
 
   module _ (row : Row) (boxes : List Region) (there : IfSome s.question.query.column (λ (named : ℕ). slice_get row.cells named ≡ Some (number_in s.question.query.column extreme boxes))) where
     added : adds agg s.question.query row ≡ cond (has s.question.query.chosen row) (number_in s.question.query.column extreme boxes) (pos 0)
@@ -83,12 +83,11 @@ module _ (s : Setting) (extreme : Extreme) (agg : Agg) (valued : always_has_valu
               ∙ gain_is class;
         }
 
-    each_pick : (classes : List Class) (picks : List Row) → AllZip (IsPickIn s.question.query.column extreme) (map (cell_of (leaves s)) classes) picks → AllZip (IsPick s agg extreme) (map class_of_cell (map (cell_of (leaves s)) classes)) picks
+    each_pick : (classes : List Class) (picks : List Row) → AllZip (IsPickIn s.question.query.column extreme) (map (cell_of (leaves s)) classes) picks → AllZip (IsPick s agg extreme) classes picks
     each_pick [] [] picked = tt
     each_pick [] (pick ∷ picks) picked = absurd picked
     each_pick (class ∷ classes) [] picked = absurd picked
     each_pick (class ∷ classes) (pick ∷ picks) picked = (pick_is class pick picked.0, each_pick classes picks picked.1)
 
-    pub picks_are : (cells : List Cell) (picks : List Row) → cells ≡ cells_of (leaves s) → AllZip (IsPickIn s.question.query.column extreme) cells picks → AllZip (IsPick s agg extreme) (map class_of_cell cells) picks
-    picks_are cells picks cells_are picked =
-        subst (λ (l : List Cell). AllZip (IsPickIn s.question.query.column extreme) l picks → AllZip (IsPick s agg extreme) (map class_of_cell l) picks) (sym cells_are) (each_pick (classes_of (leaves s)) picks) picked
+    pub picks_are : (cells : List Cell) (picks : List Row) → cells ≡ cells_of (leaves s) → AllZip (IsPickIn s.question.query.column extreme) cells picks → AllZip (IsPick s agg extreme) (classes_of (leaves s)) picks
+    picks_are cells picks cells_are picked = each_pick (classes_of (leaves s)) picks (subst (λ (l : List Cell). AllZip (IsPickIn s.question.query.column extreme) l picks) cells_are picked)

@@ -12,6 +12,8 @@ pub mod ListedPrograms
 pub mod LoweredCaps
 pub mod ManyCells
 pub mod OneBits
+pub mod PosedPrograms
+pub mod Posing
 pub mod Probing
 pub mod ProgramEnds
 pub mod SettledPrograms

@@ -2,12 +2,6 @@
 use Rattle.std.proofs.Common.{◌≡◌, ℕ, ◌<◌, ◌≤◌, false, List, [], ◌∷◌, length, map, replicate, get_or, refl, sym, ap, ap₂, subst, ◌∙◌, arith}
 use Rattle.std.specs.Prelude.{ℤ, pos, nat_abs}
 use Rattle.std.proofs.lemmas.List.{length-map, get_or-map, ext_get_or}
-use Rattle.pc_model.specs.declared.schema.Schema.{Schema}
-use Rattle.pc_model.specs.declared.constraint.Constraint.{Constraint}
-use Rattle.pc_model.specs.declared.query.Query.{Query}
-use Rattle.pc_model.specs.Accepted.{AreConstraints}
-use Rattle.pc_model.specs.Membership.{AreDisjoint}
-use Rattle.pc_model.specs.WellFormed.{IsWellFormed}
 use Rattle.pc_model.specs.Cells.{Class}
 use Rattle.pc_program_bound.specs.declared.program.Program.{Program}
 use Rattle.pc_program_bound.specs.Allocation.{IsProgram}
@@ -17,16 +11,15 @@ use Rattle.pc_simplex_tableau.proofs.Listed.{length-table, at-table}
 use Rattle.pc_branch.specs.Ends.{HasSmallGains}
 use Rattle.pc_program.specs.Settled.{HasOneBits}
 use Rattle.pc_cells.specs.declared.cells.Cell.{Cell}
-use Rattle.pc_cells.specs.declared.cells.Cells.{Cells}
 use Rattle.pc_cells.specs.Found.{class_of_cell}
 use Rattle.pc_proof.specs.Setting.{Setting, cells, on_chosen, program_for}
-use Rattle.pc_agg_search.specs.Asked.{AreCells}
+use Rattle.pc_agg_search.specs.declared.problem.Problem.{Problem}
 use Rattle.pc_agg_search.specs.Limits.{greatest_gain}
-use Rattle.pc_agg_search.specs.Settings.{unseen}
+use Rattle.pc_agg_search.specs.Problem.{IsEasy, IsPosed, setting_of}
 use Rattle.pc_agg_search.specs.Targets.{chosen_gain}
 use Rattle.pc_proof.proofs.Masks.{map_twice}
-use Rattle.pc_agg_search.proofs.SettledPrograms.{classes_are}
-use Rattle.pc_agg_search.proofs.UnseenPrograms.{tested_small, for_program, for_small, for_one_bits}
+use Rattle.pc_agg_search.proofs.PosedPrograms.{own_classes, for_program, for_small, for_one_bits}
+use Rattle.pc_agg_search.proofs.UnseenPrograms.{tested_small}
 
 abbrev pub no_cell : Cell
 no_cell = record { mask = 0; chosen = false; leaves = [] }
@@ -63,47 +56,43 @@ module _ (s : Setting) (list : List Cell) (classes : map class_of_cell list ≡ 
       program_is (replicate (length list) gain) (λ class. gain)
       (ap (λ n. replicate n gain) (sym (length-map list class_of_cell) ∙ ap length classes) ∙ map_alike gain (cells s))
 
--- ---- what the code makes of the cells of a settled tree
+-- ---- what the code makes of the cells of a problem
 
-module _ (schema : Schema) (constraints : List Constraint) (query : Query) (found : Cells) (formed : IsWellFormed schema)
-    (are : AreConstraints schema constraints) (own : AreCells schema constraints query found) where
+module _ (problem : Problem) (posed : IsPosed problem) where
   abbrev u : Setting
-  u = unseen schema constraints query found.tree.nodes
-
-  pub own_classes : map class_of_cell found.cells ≡ cells u
-  own_classes = classes_are schema constraints query.chosen found.tree.nodes found.cells [] formed own.tree own.listed
+  u = setting_of problem
 
   -- ---- the same gain in the chosen cells
 
-  module _ (gain : ℤ) (p : Program) (is : p ≡ program_with constraints (map class_of_cell found.cells) (table (length found.cells) (chosen_gain found.cells gain))) where
+  module _ (gain : ℤ) (p : Program) (is : p ≡ program_with problem.constraints.now (map class_of_cell problem.cells.now.cells) (table (length problem.cells.now.cells) (chosen_gain problem.cells.now.cells gain))) where
     pub chosen_for : p ≡ program_for u (on_chosen (λ class. gain))
-    chosen_for = is ∙ chosen_is u found.cells own_classes gain
+    chosen_for = is ∙ chosen_is u problem.cells.now.cells (own_classes problem posed) gain
 
     pub chosen_formed : IsProgram p
-    chosen_formed = subst IsProgram (sym chosen_for) (for_program schema constraints query found.tree.nodes formed are own.tree (on_chosen (λ class. gain)))
+    chosen_formed = subst IsProgram (sym chosen_for) (for_program problem posed (on_chosen (λ class. gain)))
 
     module _ (small : nat_abs gain ≤ greatest_gain) where
       each_small : (class : Class) → nat_abs (on_chosen (λ class. gain) class) ≤ greatest_gain
       each_small class = tested_small (greatest_gain) class.chosen gain small
 
       pub chosen_small : HasSmallGains p
-      chosen_small = subst HasSmallGains (sym chosen_for) (for_small schema constraints query found.tree.nodes formed are own.tree (on_chosen (λ class. gain)) each_small)
+      chosen_small = subst HasSmallGains (sym chosen_for) (for_small problem posed (on_chosen (λ class. gain)) each_small)
 
-      pub chosen_one_bits : AreDisjoint schema constraints → HasOneBits p
-      chosen_one_bits disjoint = subst HasOneBits (sym chosen_for) (for_one_bits schema constraints query found.tree.nodes formed are own.tree (on_chosen (λ class. gain)) each_small disjoint)
+      pub chosen_one_bits : IsEasy problem → HasOneBits p
+      chosen_one_bits easy = subst HasOneBits (sym chosen_for) (for_one_bits problem posed (on_chosen (λ class. gain)) each_small easy)
 
   -- ---- and in all cells
 
-  module _ (gain : ℤ) (p : Program) (is : p ≡ program_with constraints (map class_of_cell found.cells) (replicate (length found.cells) gain)) where
+  module _ (gain : ℤ) (p : Program) (is : p ≡ program_with problem.constraints.now (map class_of_cell problem.cells.now.cells) (replicate (length problem.cells.now.cells) gain)) where
     pub even_for : p ≡ program_for u (λ class. gain)
-    even_for = is ∙ even_is u found.cells own_classes gain
+    even_for = is ∙ even_is u problem.cells.now.cells (own_classes problem posed) gain
 
     pub even_formed : IsProgram p
-    even_formed = subst IsProgram (sym even_for) (for_program schema constraints query found.tree.nodes formed are own.tree (λ class. gain))
+    even_formed = subst IsProgram (sym even_for) (for_program problem posed (λ class. gain))
 
     module _ (small : nat_abs gain ≤ greatest_gain) where
       pub even_small : HasSmallGains p
-      even_small = subst HasSmallGains (sym even_for) (for_small schema constraints query found.tree.nodes formed are own.tree (λ class. gain) (λ class. small))
+      even_small = subst HasSmallGains (sym even_for) (for_small problem posed (λ class. gain) (λ class. small))
 
-      pub even_one_bits : AreDisjoint schema constraints → HasOneBits p
-      even_one_bits disjoint = subst HasOneBits (sym even_for) (for_one_bits schema constraints query found.tree.nodes formed are own.tree (λ class. gain) (λ class. small) disjoint)
+      pub even_one_bits : IsEasy problem → HasOneBits p
+      even_one_bits easy = subst HasOneBits (sym even_for) (for_one_bits problem posed (λ class. gain) (λ class. small) easy)

@@ -4,7 +4,9 @@ pub mod Fitting
 pub mod Flat
 pub mod Keys
 pub mod Limits
+pub mod Posing
 pub mod Probing
+pub mod Problem
 pub mod Settings
 pub mod Targets
 pub mod Wants

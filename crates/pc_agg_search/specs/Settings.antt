@@ -15,10 +15,6 @@ question_in schema observed constraints query name = record { schema = schema; o
 abbrev pub setting_in : Schema → List Row → List Constraint → Query → Option ℕ → List CutNode → Setting
 setting_in schema observed constraints query name nodes = record { question = question_in schema observed constraints query name; nodes = nodes }
 
--- a query that is not grouped
-abbrev pub setting_of : Schema → List Row → List Constraint → Query → List CutNode → Setting
-setting_of schema observed constraints query nodes = setting_in schema observed constraints query None nodes
-
 -- as if no rows were observed: what the cells alone say
 abbrev pub unseen : Schema → List Constraint → Query → List CutNode → Setting
-unseen schema constraints query nodes = setting_of schema [] constraints query nodes
+unseen schema constraints query nodes = setting_in schema [] constraints query None nodes

@@ -1,24 +1,20 @@
-ghost use Rattle.std.specs.Prelude.{◌≡◌, ◌≤◌, ◌^◌, nat_abs, pos, cond, length, map, replicate, All, IfOk};
-ghost use Rattle.pc_model.specs.WellFormed.{IsWellFormed};
-ghost use Rattle.pc_model.specs.Accepted.{AreConstraints};
-ghost use Rattle.pc_model.specs.Membership.{AreDisjoint};
-ghost use Rattle.pc_model.specs.Cells.{IsSettledTree, leaves_in, classes_of};
+ghost use Rattle.std.specs.Prelude.{◌≡◌, ◌≤◌, nat_abs, pos, cond, length, map, replicate, All, IfOk};
 ghost use Rattle.pc_program_bound.specs.Allocation.{IsProgram};
 ghost use Rattle.pc_program_bound.specs.CellPrograms.{program_with};
 ghost use Rattle.pc_branch.specs.Ends.{HasSmallGains};
 ghost use Rattle.pc_program.specs.Settled.{HasOneBits};
 ghost use Rattle.pc_simplex_tableau.specs.Numbers.{table};
-ghost use Rattle.pc_cells.specs.Found.{class_of_cell, cells_of};
+ghost use Rattle.pc_cells.specs.Found.{class_of_cell};
 ghost use Rattle.pc_proof.specs.Setting.{on_chosen, program_for};
-ghost use Rattle.pc_agg_search.specs.Asked.{AreCells};
 ghost use Rattle.pc_agg_search.specs.Targets.{chosen_gain};
 ghost use Rattle.pc_agg_search.specs.Limits.{greatest_gain};
-ghost use Rattle.pc_agg_search.specs.Settings.{unseen};
+ghost use Rattle.pc_agg_search.specs.Problem.{IsEasy, IsPosed, gained_program, setting_of};
 
+use crate::problem::Problem;
 use crate::programs::program_of;
 use pc_cells::{Cell, Cells};
 use pc_list::Seq;
-use pc_model::{Constraint, Query, Region, Schema};
+use pc_model::Constraint;
 use pc_num::Memory;
 use pc_program_bound::Program;
 use std::alloc::Global;
@@ -26,45 +22,35 @@ use std::alloc::Global;
 /// The program of the cells' counts with these gains.
 pub fn gained_program(
     alloc: Global,
-    schema: &Schema,
-    constraints: &[Constraint],
-    chosen: &Region,
-    cells: &Cells,
+    problem: &Problem<'_>,
     gains: Seq<i128>,
 ) -> Result<Program, Memory>
-    requires well_formed { IsWellFormed schema.now }
-    requires constraints { AreConstraints schema.now constraints.now }
-    requires settled { IsSettledTree schema.now constraints.now chosen.now cells.now.tree.nodes }
-    requires cells { cells.now.cells ≡ cells_of (leaves_in schema.now cells.now.tree.nodes) }
-    requires sized { length gains ≡ length cells.now.cells }
+    requires posed { IsPosed problem.now }
+    requires sized { length gains ≡ length problem.now.cells.now.cells }
     requires small_gains { All (λ gain. nat_abs gain ≤ greatest_gain) gains }
-    ensures program { IfOk result (λ p. p ≡ program_with constraints.now (classes_of (leaves_in schema.now cells.now.tree.nodes)) gains) }
+    ensures program { IfOk result (λ p. p ≡ gained_program problem.now gains) }
     ensures is_program { IfOk result IsProgram }
     ensures small { IfOk result HasSmallGains }
-    ensures disjoint { AreDisjoint schema.now constraints.now → IfOk result HasOneBits }
+    ensures disjoint { IsEasy problem.now → IfOk result HasOneBits }
 {
-    program_of(alloc, constraints, cells.cells.as_slice(), gains)
+    program_of(
+        alloc,
+        problem.constraints,
+        problem.cells.cells.as_slice(),
+        gains,
+    )
 }
 
 /// The program whose chosen cells have this gain, and the others none.
-pub fn chosen_program(
-    alloc: Global,
-    schema: &Schema,
-    constraints: &[Constraint],
-    cells: &Cells,
-    query: &Query,
-    gain: i128,
-) -> Result<Program, Memory>
-    requires well_formed { IsWellFormed schema.now }
-    requires constraints { AreConstraints schema.now constraints.now }
-    requires cells { AreCells schema.now constraints.now query.now cells.now }
+pub fn chosen_program(alloc: Global, problem: &Problem<'_>, gain: i128) -> Result<Program, Memory>
+    requires posed { IsPosed problem.now }
     requires gain { nat_abs gain ≤ greatest_gain }
-    ensures program { IfOk result (λ p. p ≡ program_for (unseen schema.now constraints.now query.now cells.now.tree.nodes) (on_chosen (λ _. gain))) }
+    ensures program { IfOk result (λ p. p ≡ program_for (setting_of problem.now) (on_chosen (λ _. gain))) }
     ensures is_program { IfOk result IsProgram }
     ensures small { IfOk result HasSmallGains }
-    ensures disjoint { AreDisjoint schema.now constraints.now → IfOk result HasOneBits }
+    ensures disjoint { IsEasy problem.now → IfOk result HasOneBits }
 {
-    chosen_alone(alloc, constraints, cells, gain)
+    chosen_alone(alloc, problem.constraints, problem.cells, gain)
 }
 
 /// The same by what the cells say alone.
@@ -82,24 +68,15 @@ fn chosen_alone(
 }
 
 /// The program all of whose cells have this gain.
-pub fn total_program(
-    alloc: Global,
-    schema: &Schema,
-    constraints: &[Constraint],
-    cells: &Cells,
-    query: &Query,
-    gain: i128,
-) -> Result<Program, Memory>
-    requires well_formed { IsWellFormed schema.now }
-    requires constraints { AreConstraints schema.now constraints.now }
-    requires cells { AreCells schema.now constraints.now query.now cells.now }
+pub fn total_program(alloc: Global, problem: &Problem<'_>, gain: i128) -> Result<Program, Memory>
+    requires posed { IsPosed problem.now }
     requires gain { nat_abs gain ≤ greatest_gain }
-    ensures program { IfOk result (λ p. p ≡ program_for (unseen schema.now constraints.now query.now cells.now.tree.nodes) (λ _. gain)) }
+    ensures program { IfOk result (λ p. p ≡ program_for (setting_of problem.now) (λ _. gain)) }
     ensures is_program { IfOk result IsProgram }
     ensures small { IfOk result HasSmallGains }
-    ensures disjoint { AreDisjoint schema.now constraints.now → IfOk result HasOneBits }
+    ensures disjoint { IsEasy problem.now → IfOk result HasOneBits }
 {
-    total_alone(alloc, constraints, cells, gain)
+    total_alone(alloc, problem.constraints, problem.cells, gain)
 }
 
 /// The same by what the cells say alone.

@@ -1,20 +1,15 @@
-ghost use Rattle.std.specs.Prelude.{◌≡◌, ◌≤◌, ◌^◌, nat_abs, length, All, IfOk};
-ghost use Rattle.pc_model.specs.Accepted.{AreConstraints};
-ghost use Rattle.pc_model.specs.Membership.{AreDisjoint};
-ghost use Rattle.pc_model.specs.WellFormed.{IsWellFormed};
-ghost use Rattle.pc_model.specs.Cells.{IsSettledTree, leaves_in, classes_of};
+ghost use Rattle.std.specs.Prelude.{◌≡◌, ◌≤◌, nat_abs, length, All, IfOk};
 ghost use Rattle.pc_program_bound.specs.Allocation.{IsProgram};
-ghost use Rattle.pc_program_bound.specs.CellPrograms.{program_with};
 ghost use Rattle.pc_branch.specs.Ends.{HasSmallGains};
 ghost use Rattle.pc_branch.specs.Outcome.{IsOutcome, IsDecided};
-ghost use Rattle.pc_cells.specs.Found.{cells_of};
 ghost use Rattle.pc_agg_search.specs.Limits.{greatest_gain, IsSought, IsClosed};
+ghost use Rattle.pc_agg_search.specs.Problem.{IsEasy, IsPosed, gained_program};
 
 use crate::gains::gained_program;
+use crate::problem::Problem;
 use pc_branch::{Outcome, solve};
-use pc_cells::Cells;
 use pc_list::Seq;
-use pc_model::{Constraint, Region, Schema, Tree};
+use pc_model::Tree;
 use pc_num::Memory;
 use pc_program_bound::Program;
 use std::alloc::Global;
@@ -37,28 +32,16 @@ pub enum Sought {
 }
 
 /// Searches the program of the cells' counts with these gains, by a tree of at most so many nodes.
-pub fn seek(
-    alloc: Global,
-    schema: &Schema,
-    constraints: &[Constraint],
-    chosen: &Region,
-    cells: &Cells,
-    gains: Seq<i128>,
-    nodes: u32,
-) -> Result<Sought, Memory>
-    requires well_formed { IsWellFormed schema.now }
-    requires constraints { AreConstraints schema.now constraints.now }
-    requires settled { IsSettledTree schema.now constraints.now chosen.now cells.now.tree.nodes }
-    requires cells { cells.now.cells ≡ cells_of (leaves_in schema.now cells.now.tree.nodes) }
-    requires sized { length gains ≡ length cells.now.cells }
+pub fn seek(alloc: Global, problem: &Problem<'_>, gains: Seq<i128>) -> Result<Sought, Memory>
+    requires posed { IsPosed problem.now }
+    requires sized { length gains ≡ length problem.now.cells.now.cells }
     requires small_gains { All (λ gain. nat_abs gain ≤ greatest_gain) gains }
-    requires nodes { (1 ≤ nodes) × (nodes ≤ 100_000) }
-    ensures sought { IfOk result (IsSought (program_with constraints.now (classes_of (leaves_in schema.now cells.now.tree.nodes)) gains) nodes) }
-    ensures disjoint { AreDisjoint schema.now constraints.now → IfOk result (IsClosed (program_with constraints.now (classes_of (leaves_in schema.now cells.now.tree.nodes)) gains)) }
+    ensures sought { IfOk result (IsSought (gained_program problem.now gains) problem.now.nodes) }
+    ensures disjoint { IsEasy problem.now → IfOk result (IsClosed (gained_program problem.now gains)) }
 {
-    let program = gained_program(alloc, schema, constraints, chosen, cells, gains)?;
-    let outcome = solve(alloc, &program, nodes)?;
-    Ok(sought_of(program, outcome, nodes))
+    let program = gained_program(alloc, problem, gains)?;
+    let outcome = solve(alloc, &program, problem.nodes)?;
+    Ok(sought_of(program, outcome, problem.nodes))
 }
 
 /// What an outcome says of its program.

@@ -1,22 +1,19 @@
-ghost use Rattle.std.specs.Prelude.{◌≡◌, ◌<◌, ◌≤◌, ◌^◌, ℕ, pos, nat_abs, length, map, cond, true, None, Some, All, IfOk, IfSome, IsSomeAnd};
+ghost use Rattle.std.specs.Prelude.{◌≡◌, ◌<◌, ◌≤◌, ◌^◌, pos, nat_abs, length, map, cond, true, None, Some, All, IfOk, IfSome, IsSomeAnd};
 ghost use Rattle.std.specs.List.{AllZip};
 ghost use Rattle.pc_model.specs.Accepted.{IsQuery, IsNumeric, IsColumnWhere};
 ghost use Rattle.pc_model.specs.Right.{always_has_value};
-ghost use Rattle.pc_model.specs.WellFormed.{IsWellFormed};
-ghost use Rattle.pc_model.specs.Cells.{IsSettledTree, leaves_in, classes_of};
-ghost use Rattle.pc_cells.specs.Found.{class_of_cell, cells_of, leaves_at, IsFilled, HoldsNumber, HasNumbers};
+ghost use Rattle.pc_cells.specs.Found.{leaves_at, IsFilled, HoldsNumber, HasNumbers};
+ghost use Rattle.pc_proof.specs.Setting.{cells, on_chosen};
 ghost use Rattle.pc_agg_search.specs.Ends.{gain_towards, signed, IsPick};
-ghost use Rattle.pc_proof.specs.Setting.{on_chosen};
-ghost use Rattle.pc_agg_search.specs.Asked.{AreCells};
-ghost use Rattle.pc_agg_search.specs.Keys.{key_of};
-ghost use Rattle.pc_agg_search.specs.Settings.{unseen};
-ghost use Rattle.pc_agg_search.specs.Keys.{IsAtEnd};
+ghost use Rattle.pc_agg_search.specs.Keys.{key_of, IsAtEnd};
+ghost use Rattle.pc_agg_search.specs.Problem.{IsPosed, setting_of};
 ghost use Rattle.pc_agg_search.specs.Targets.{cell_at, number_in, IsTarget, AreTargets};
 
 use crate::extreme::Extreme;
+use crate::problem::Problem;
 use pc_cells::Cells;
 use pc_list::Seq;
-use pc_model::{Constraint, Query, Row, Schema};
+use pc_model::Row;
 use pc_num::Memory;
 use std::alloc::Global;
 
@@ -30,45 +27,30 @@ pub struct Targets {
 /// The targets of a count or a sum.
 pub fn find_targets(
     alloc: Global,
-    schema: &Schema,
-    constraints: &[Constraint],
-    cells: &Cells,
-    query: &Query,
+    problem: &Problem<'_>,
     extreme: Extreme,
 ) -> Result<Targets, Memory>
-    requires well_formed { IsWellFormed schema.now }
-    requires query { IsQuery schema.now query.now }
-    requires ungrouped { query.now.group ≡ None }
-    requires has_value { always_has_value query.now.agg ≡ true }
-    requires settled { IsSettledTree schema.now constraints.now query.now.chosen cells.now.tree.nodes }
-    requires cells { cells.now.cells ≡ cells_of (leaves_in schema.now cells.now.tree.nodes) }
-    requires filled { All IsFilled cells.now.cells }
-    requires numbers { (column : ℕ) → IsColumnWhere IsNumeric schema.now column → All (HasNumbers column) cells.now.cells }
-    ensures gains { IfOk result (λ found. found.gains ≡ map (gain_towards (unseen schema.now constraints.now query.now cells.now.tree.nodes) query.now.agg extreme) (map class_of_cell cells.now.cells)) }
-    ensures picks { IfOk result (λ found. AllZip (IsPick (unseen schema.now constraints.now query.now cells.now.tree.nodes) query.now.agg extreme) (map class_of_cell cells.now.cells) found.picks) }
+    requires posed { IsPosed problem.now }
+    requires query { IsQuery problem.now.schema.now problem.now.query.now }
+    requires ungrouped { problem.now.query.now.group ≡ None }
+    requires has_value { always_has_value problem.now.query.now.agg ≡ true }
+    ensures gains { IfOk result (λ found. found.gains ≡ map (gain_towards (setting_of problem.now) problem.now.query.now.agg extreme) (cells (setting_of problem.now))) }
+    ensures picks { IfOk result (λ found. AllZip (IsPick (setting_of problem.now) problem.now.query.now.agg extreme) (cells (setting_of problem.now)) found.picks) }
     ensures small { IfOk result (λ found. All (λ gain. nat_abs gain ≤ 2 ^ 63) found.gains) }
 {
-    targets_of(alloc, cells, query.column, extreme)
+    targets_of(alloc, problem.cells, problem.query.column, extreme)
 }
 
 /// The keys of the cells at an end of the query's column, 0 where they are not chosen, and rows with the cells' numbers
 /// there. A key is the number, turned at a low end.
-pub fn find_keys(
-    alloc: Global,
-    schema: &Schema,
-    constraints: &[Constraint],
-    cells: &Cells,
-    query: &Query,
-    extreme: Extreme,
-) -> Result<Targets, Memory>
-    requires well_formed { IsWellFormed schema.now }
-    requires numbers { IsSomeAnd query.now.column (IsColumnWhere IsNumeric schema.now) }
-    requires cells { AreCells schema.now constraints.now query.now cells.now }
-    ensures keys { IfOk result (λ found. found.gains ≡ map (on_chosen (key_of (unseen schema.now constraints.now query.now cells.now.tree.nodes) extreme)) (classes_of (leaves_in schema.now cells.now.tree.nodes))) }
-    ensures picks { IfOk result (λ found. AllZip (IsAtEnd (unseen schema.now constraints.now query.now cells.now.tree.nodes) extreme) (classes_of (leaves_in schema.now cells.now.tree.nodes)) found.picks) }
+pub fn find_keys(alloc: Global, problem: &Problem<'_>, extreme: Extreme) -> Result<Targets, Memory>
+    requires posed { IsPosed problem.now }
+    requires numbers { IsSomeAnd problem.now.query.now.column (IsColumnWhere IsNumeric problem.now.schema.now) }
+    ensures keys { IfOk result (λ found. found.gains ≡ map (on_chosen (key_of (setting_of problem.now) extreme)) (cells (setting_of problem.now))) }
+    ensures picks { IfOk result (λ found. AllZip (IsAtEnd (setting_of problem.now) extreme) (cells (setting_of problem.now)) found.picks) }
     ensures small { IfOk result (λ found. All (λ gain. nat_abs gain ≤ 2 ^ 63) found.gains) }
 {
-    targets_of(alloc, cells, query.column, extreme)
+    targets_of(alloc, problem.cells, problem.query.column, extreme)
 }
 
 /// The same by what the cells alone say, for the column that is summed, or none where rows are counted.

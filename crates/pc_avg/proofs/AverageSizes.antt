@@ -1,6 +1,6 @@
 -- How large the numbers of an average are.
-use Rattle.std.proofs.Common.{◌≡◌, ℕ, ◌*◌, ◌<◌, ◌≤◌, ◌^◌, ℤ, pos, negsuc, neg_ℤ, ◌*ℤ◌, ◌≤ℤ◌, ◌<ℤ◌, Bool, cond, inl, inr, ◌⊎◌, List, get_or, All, Option, Some, None, IfSome, refl, sym, ap, subst, ◌∙◌, arith}
-use Rattle.std.specs.Prelude.{nat_abs, unsigned_abs, ◌+ℤ◌, ◌&&◌, option_map}
+use Rattle.std.proofs.Common.{◌≡◌, ℕ, ◌*◌, ◌<◌, ◌≤◌, ◌^◌, ℤ, pos, negsuc, neg_ℤ, ◌*ℤ◌, ◌≤ℤ◌, ◌<ℤ◌, Bool, cond, inl, inr, ◌⊎◌, List, get_or, All, Option, Some, IfSome, refl, ap, subst, ◌∙◌, arith}
+use Rattle.std.specs.Prelude.{nat_abs, unsigned_abs, ◌+ℤ◌, ◌&&◌}
 use Rattle.std.proofs.Math.IntN.{*ℤ_comm}
 use Rattle.std.specs.Int.{◌∣◌}
 use Rattle.std.proofs.Math.Nat.{dvd-mul_left}

@@ -9,7 +9,7 @@ ghost use Rattle.pc_avg.specs.Averages.{both, has_ends, HasShortEnds};
 use crate::copies::{copied_lack, copied_relation};
 use crate::ends::search_end;
 use pc_agg::Settled;
-use pc_agg_search::Extreme;
+use pc_agg_search::{Extreme, Problem};
 use pc_cells::Cells;
 use pc_model::{Constraint, Folded, Query, Schema};
 use pc_num::Memory;
@@ -37,32 +37,19 @@ pub fn bound_avg(
     ensures kept { IfOk result (λ answer. (answer.relation ≡ settled.now.relation) × (answer.lack ≡ settled.now.lack)) }
     ensures short { IfOk result HasShortEnds }
 {
+    let problem = Problem {
+        schema,
+        constraints,
+        query,
+        cells,
+        nodes,
+    };
     if !has_ends(settled) {
         return without_ends(settled);
     }
     let found = settled.found.as_slice();
-    let low = search_end(
-        alloc,
-        schema,
-        seen,
-        constraints,
-        cells,
-        query,
-        Extreme::Low,
-        found,
-        nodes,
-    )?;
-    let high = search_end(
-        alloc,
-        schema,
-        seen,
-        constraints,
-        cells,
-        query,
-        Extreme::High,
-        found,
-        nodes,
-    )?;
+    let low = search_end(alloc, &problem, seen, Extreme::Low, found)?;
+    let high = search_end(alloc, &problem, seen, Extreme::High, found)?;
     let mut answer = without_ends(settled)?;
     answer.ends = both(low, high);
     Ok(answer)

@@ -1,24 +1,19 @@
 ghost use Rattle.std.specs.Prelude.{◌≡◌, ◌<◌, ◌≤◌, ◌*◌, ◌^◌, nat_abs, [], length, All, IfOk, IsSomeAnd, slice_index_or};
-ghost use Rattle.pc_model.specs.Accepted.{AreConstraints, IsNumeric, IsColumnWhere};
-ghost use Rattle.pc_model.specs.Membership.{AreDisjoint};
-ghost use Rattle.pc_model.specs.WellFormed.{IsWellFormed};
+ghost use Rattle.pc_model.specs.Accepted.{IsNumeric, IsColumnWhere};
 ghost use Rattle.pc_num.specs.Signs.{Fits};
 ghost use Rattle.pc_model.specs.declared.query.Folded.{Folded};
 ghost use Rattle.pc_program.specs.Settled.{HasOneBits};
 ghost use Rattle.pc_proof.specs.Setting.{Setting};
 ghost use Rattle.pc_branch_licences.specs.Pools.{AreLawful};
-ghost use Rattle.pc_agg_search.specs.Asked.{AreCells};
-ghost use Rattle.pc_agg_search.specs.Ends.{signed};
-ghost use Rattle.pc_agg_search.specs.Settings.{unseen};
+ghost use Rattle.pc_agg_search.specs.Problem.{IsEasy, IsPosed, setting_of};
 ghost use Rattle.pc_avg.specs.Ends.{end_by_values, end_of, turned, CanTurn, IsEndIfAny, IsEndSurely};
 ghost use Rattle.pc_avg.specs.Sides.{IsSide};
 
 use crate::sides::{Side, side_of};
-use pc_agg_search::Extreme;
+use pc_agg_search::{Extreme, Problem};
 use pc_avg_ratio::{Highest, greatest_ratio, highest_of};
-use pc_cells::Cells;
 use pc_list::Seq;
-use pc_model::{Constraint, Folded, Query, Row, Schema};
+use pc_model::{Folded, Row};
 use pc_num::{Frac, Memory};
 use pc_proof::{End, Mark, Proof};
 use pc_witness::rebuild;
@@ -27,28 +22,21 @@ use std::alloc::Global;
 /// An end of an average, from the greatest ratio of the counts that were found on; none where no row can have a number.
 pub(crate) fn search_end(
     alloc: Global,
-    schema: &Schema,
+    problem: &Problem<'_>,
     seen: &Folded,
-    constraints: &[Constraint],
-    cells: &Cells,
-    query: &Query,
     extreme: Extreme,
     found: &[Seq<u64>],
-    nodes: u32,
 ) -> Result<Option<End>, Memory>
-    requires well_formed { IsWellFormed schema.now }
-    requires constraints { AreConstraints schema.now constraints.now }
-    requires numbers { IsSomeAnd query.now.column (IsColumnWhere IsNumeric schema.now) }
-    requires cells { AreCells schema.now constraints.now query.now cells.now }
+    requires posed { IsPosed problem.now }
+    requires numbers { IsSomeAnd problem.now.query.now.column (IsColumnWhere IsNumeric problem.now.schema.now) }
     requires few_seen { seen.now.count ≤ 1_000_000 }
     requires small_seen { nat_abs seen.now.sum ≤ 1_000_000 * 10 ^ 15 }
-    requires lawful { All (AreLawful (unseen schema.now constraints.now query.now cells.now.tree.nodes)) found.now }
-    requires nodes { (1 ≤ nodes) × (nodes ≤ 100_000) }
-    ensures end { IfOk result (IsEndIfAny (unseen schema.now constraints.now query.now cells.now.tree.nodes) seen.now nodes extreme found.now) }
-    ensures disjoint { AreDisjoint schema.now constraints.now → IfOk result (IsEndSurely (unseen schema.now constraints.now query.now cells.now.tree.nodes) seen.now extreme found.now) }
+    requires lawful { All (AreLawful (setting_of problem.now)) found.now }
+    ensures end { IfOk result (IsEndIfAny (setting_of problem.now) seen.now problem.now.nodes extreme found.now) }
+    ensures disjoint { IsEasy problem.now → IfOk result (IsEndSurely (setting_of problem.now) seen.now extreme found.now) }
 {
-    let side = side_of(alloc, schema, seen, constraints, cells, query, extreme)?;
-    end_on(alloc, extreme, &side, found, nodes)
+    let side = side_of(alloc, problem, seen, extreme)?;
+    end_on(alloc, extreme, &side, found, problem.nodes)
 }
 
 /// The end of a side; none where no row can have a number.

@@ -1,55 +1,43 @@
 ghost use Rattle.std.specs.Prelude.{◌≡◌, ◌<◌, ◌≤◌, ◌*◌, ◌^◌, nat_abs, pos, map, IfOk};
 ghost use Rattle.std.specs.List.{AllZip};
-ghost use Rattle.pc_model.specs.Accepted.{AreConstraints};
-ghost use Rattle.pc_model.specs.Cells.{classes_of, leaves_in};
-ghost use Rattle.pc_model.specs.Membership.{AreDisjoint};
-ghost use Rattle.pc_model.specs.WellFormed.{IsWellFormed};
 ghost use Rattle.pc_program.specs.Settled.{HasOneBits};
-ghost use Rattle.pc_proof.specs.Setting.{on_chosen, program_for};
+ghost use Rattle.pc_proof.specs.Setting.{cells, on_chosen, program_for};
 ghost use Rattle.pc_avg_ratio.specs.Fractional.{IsFractional};
-ghost use Rattle.pc_agg_search.specs.Asked.{AreCells};
 ghost use Rattle.pc_agg_search.specs.Ends.{signed};
 ghost use Rattle.pc_agg_search.specs.Keys.{key_of, IsAtEnd};
-ghost use Rattle.pc_agg_search.specs.Settings.{unseen};
+ghost use Rattle.pc_agg_search.specs.Problem.{IsEasy, IsPosed, setting_of};
 ghost use Rattle.pc_agg_search.specs.Wants.{most_chosen};
 
-use pc_agg_search::{Extreme, chosen_program, gained_program};
+use pc_agg_search::{Extreme, Problem, chosen_program, gained_program};
 use pc_avg_ratio::Fractional;
-use pc_cells::Cells;
 use pc_list::Seq;
-use pc_model::{Constraint, Folded, Query, Row, Schema};
+use pc_model::{Folded, Row};
 use pc_num::Memory;
 use std::alloc::Global;
 
 /// The sum of the numbers of the chosen rows to how many they are, over the observed rows.
 pub(crate) fn fraction_of(
     alloc: Global,
-    schema: &Schema,
+    problem: &Problem<'_>,
     seen: &Folded,
-    constraints: &[Constraint],
-    cells: &Cells,
-    query: &Query,
     extreme: Extreme,
     keys: Seq<i128>,
     picks: &[Row],
 ) -> Result<Fractional, Memory>
-    requires well_formed { IsWellFormed schema.now }
-    requires constraints { AreConstraints schema.now constraints.now }
-    requires cells { AreCells schema.now constraints.now query.now cells.now }
+    requires posed { IsPosed problem.now }
     requires few_seen { seen.now.count ≤ 1_000_000 }
     requires small_seen { nat_abs seen.now.sum ≤ 1_000_000 * 10 ^ 15 }
-    requires keyed { keys ≡ map (on_chosen (key_of (unseen schema.now constraints.now query.now cells.now.tree.nodes) extreme)) (classes_of (leaves_in schema.now cells.now.tree.nodes)) }
-    requires picked { AllZip (IsAtEnd (unseen schema.now constraints.now query.now cells.now.tree.nodes) extreme) (classes_of (leaves_in schema.now cells.now.tree.nodes)) picks.now }
+    requires keyed { keys ≡ map (on_chosen (key_of (setting_of problem.now) extreme)) (cells (setting_of problem.now)) }
+    requires picked { AllZip (IsAtEnd (setting_of problem.now) extreme) (cells (setting_of problem.now)) picks.now }
     ensures fractional { IfOk result IsFractional }
-    ensures rows { IfOk result (λ f. f.rows ≡ most_chosen (unseen schema.now constraints.now query.now cells.now.tree.nodes)) }
-    ensures sums { IfOk result (λ f. f.sums ≡ program_for (unseen schema.now constraints.now query.now cells.now.tree.nodes) (on_chosen (key_of (unseen schema.now constraints.now query.now cells.now.tree.nodes) extreme))) }
+    ensures rows { IfOk result (λ f. f.rows ≡ most_chosen (setting_of problem.now)) }
+    ensures sums { IfOk result (λ f. f.sums ≡ program_for (setting_of problem.now) (on_chosen (key_of (setting_of problem.now) extreme))) }
     ensures count { IfOk result (λ f. f.count ≡ seen.now.count) }
     ensures sum { IfOk result (λ f. 0 < seen.now.count → f.sum ≡ signed extreme seen.now.sum) }
-    ensures disjoint { AreDisjoint schema.now constraints.now → IfOk result (λ f. HasOneBits f.rows) }
+    ensures disjoint { IsEasy problem.now → IfOk result (λ f. HasOneBits f.rows) }
 {
-    let rows = chosen_program(alloc, schema, constraints, cells, query, 1)?;
-    let chosen = &query.chosen;
-    let sums = gained_program(alloc, schema, constraints, chosen, cells, keys)?;
+    let rows = chosen_program(alloc, problem, 1)?;
+    let sums = gained_program(alloc, problem, keys)?;
     Ok(Fractional {
         rows,
         sums,

@@ -1,34 +1,31 @@
 ghost use Rattle.std.specs.Prelude.{◌≡◌, ◌≤◌, ◌^◌, nat_abs, cond, map, length, All, IfSome};
-ghost use Rattle.pc_model.specs.Cells.{classes_of, leaves_in};
-ghost use Rattle.pc_model.specs.WellFormed.{IsWellFormed};
-ghost use Rattle.pc_proof.specs.Setting.{on_chosen};
-ghost use Rattle.pc_agg_search.specs.Asked.{AreCells};
+ghost use Rattle.pc_proof.specs.Setting.{cells, on_chosen};
 ghost use Rattle.pc_agg_search.specs.Keys.{key_of};
-ghost use Rattle.pc_agg_search.specs.Settings.{unseen};
+ghost use Rattle.pc_agg_search.specs.Problem.{IsPosed, setting_of};
 ghost use Rattle.pc_avg.specs.Outermost.{greater, IsGreatestKey};
 ghost use Rattle.pc_avg.specs.Sides.{observed_key, IsOutermost};
 
-use pc_agg_search::Extreme;
-use pc_cells::{Cell, Cells};
-use pc_model::{Constraint, Folded, Query, Schema};
+use pc_agg_search::{Extreme, Problem};
+use pc_cells::Cell;
+use pc_model::Folded;
 
 /// The greatest key of a chosen cell or of an observed row.
 pub(crate) fn outermost_of(
-    schema: &Schema,
-    constraints: &[Constraint],
-    cells: &Cells,
-    query: &Query,
+    problem: &Problem<'_>,
     extreme: Extreme,
     keys: &[i128],
     seen: &Folded,
 ) -> Option<i128>
-    requires well_formed { IsWellFormed schema.now }
-    requires cells { AreCells schema.now constraints.now query.now cells.now }
-    requires keyed { keys.now ≡ map (on_chosen (key_of (unseen schema.now constraints.now query.now cells.now.tree.nodes) extreme)) (classes_of (leaves_in schema.now cells.now.tree.nodes)) }
+    requires posed { IsPosed problem.now }
+    requires keyed { keys.now ≡ map (on_chosen (key_of (setting_of problem.now) extreme)) (cells (setting_of problem.now)) }
     requires small { All (λ key. nat_abs key ≤ 2 ^ 63) keys.now }
-    ensures { IsOutermost (unseen schema.now constraints.now query.now cells.now.tree.nodes) extreme (observed_key seen.now extreme) result }
+    ensures { IsOutermost (setting_of problem.now) extreme (observed_key seen.now extreme) result }
 {
-    greatest_key(cells.cells.as_slice(), keys, observed_key(seen, extreme))
+    greatest_key(
+        problem.cells.cells.as_slice(),
+        keys,
+        observed_key(seen, extreme),
+    )
 }
 
 /// The greatest of a key and those of the chosen cells.

@@ -16,12 +16,12 @@ settle_over-requires-clause-reached c disjoint = rw c.in-At.is at (c.in_ok-aims.
 
 pub between-requires-clause-low : goal.between-requires-clause-low
 between-requires-clause-low c =
-    can_end c.args.schema.now c.args.constraints.now c.args.query.now c.args.cells.now.tree.nodes c.requires.asked.limited c.args.query.now.agg c.args.nodes Low c.in-At.aims.low c.in_ok-settled-in-At.settled.found
+    can_end c.args.problem.now.schema.now c.args.problem.now.constraints.now c.args.problem.now.query.now c.args.problem.now.cells.now.tree.nodes c.requires.asked.posed.limited c.args.problem.now.query.now.agg c.args.problem.now.nodes Low c.in-At.aims.low c.in_ok-settled-in-At.settled.found
     (rw c.in-At.is at c.in_ok-aims.ensures.aimed).low c.in_ok-settled-in-At.ensures.settled.lawful
 
 pub between-requires-clause-high : goal.between-requires-clause-high
 between-requires-clause-high c =
-    can_end c.args.schema.now c.args.constraints.now c.args.query.now c.args.cells.now.tree.nodes c.requires.asked.limited c.args.query.now.agg c.args.nodes High c.in-At.aims.high c.in_ok-settled-in-At.settled.found
+    can_end c.args.problem.now.schema.now c.args.problem.now.constraints.now c.args.problem.now.query.now c.args.problem.now.cells.now.tree.nodes c.requires.asked.posed.limited c.args.problem.now.query.now.agg c.args.problem.now.nodes High c.in-At.aims.high c.in_ok-settled-in-At.settled.found
     (rw c.in-At.is at c.in_ok-aims.ensures.aimed).high c.in_ok-settled-in-At.ensures.settled.lawful
 
 pub returns-in_ok-settled-in-At : goal.returns-in_ok-settled-in-At
@@ -33,7 +33,7 @@ returns-in_ok-settled-in-At c =
       owes =
           IfOk-weaker c.between.result _ _
           (λ answer is asking.
-          owes c.args.schema.now c.args.constraints.now c.args.query.now c.args.seen.now c.args.cells.now.tree.nodes asked.formed asked.limited asked.found.tree c.args.nodes asking asked.few_seen asked.small_seen c.requires.has_value
+          owes c.args.problem.now.schema.now c.args.problem.now.constraints.now c.args.problem.now.query.now c.args.seen.now c.args.problem.now.cells.now.tree.nodes asked.posed.formed asked.posed.limited asked.posed.found.tree c.args.problem.now.nodes asking asked.few_seen asked.small_seen c.requires.has_value
           c.in_ok-settled-in-At.settled settled.settled c.in-At.aims.low c.in-At.aims.high aims.low aims.high settled.low settled.high
           (λ disjoint.
           let reached = (rw c.in-At.is at (c.in_ok-aims.ensures.disjoint disjoint)) in
@@ -45,10 +45,10 @@ returns-in_ok-settled-in-At c =
 pub returns-in-Nothing : goal.returns-in-Nothing
 returns-in-Nothing c =
     let asked = c.requires.asked in
-    let nodes = c.args.cells.now.tree.nodes in
+    let nodes = c.args.problem.now.cells.now.tree.nodes in
     let void = (rw c.in-Nothing.is at c.in_ok-aims.ensures.aimed) in
     record {
       owes = λ asking.
-          subst (Owes (setting_for c.args.schema.now c.args.constraints.now c.args.query.now c.args.seen.now nodes asking) c.args.nodes) (sym c.impossible_by.ensures)
-          (owes_impossible c.args.schema.now c.args.constraints.now c.args.query.now c.args.seen.now nodes asked.formed asked.limited asked.found.tree c.args.nodes asking (Void c.in-Nothing.tree) void.shows tt (λ seen_rows. void.fits));
+          subst (Owes (setting_for c.args.problem.now.schema.now c.args.problem.now.constraints.now c.args.problem.now.query.now c.args.seen.now nodes asking) c.args.problem.now.nodes) (sym c.impossible_by.ensures)
+          (owes_impossible c.args.problem.now.schema.now c.args.problem.now.constraints.now c.args.problem.now.query.now c.args.seen.now nodes asked.posed.formed asked.posed.limited asked.posed.found.tree c.args.problem.now.nodes asking (Void c.in-Nothing.tree) void.shows tt (λ seen_rows. void.fits));
     }

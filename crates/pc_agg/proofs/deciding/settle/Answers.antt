@@ -1,10 +1,20 @@
 use Rattle.std.proofs.Common.{nat_lt, sym, ◌∙◌}
 use Rattle.std.proofs.lemmas.Result.{IfOk-weaker}
+use Rattle.pc_agg_search.proofs.Posing.{asked}
 use Rattle.pc_agg.proofs.Owing.{owes_settled}
 use Rattle.pc_agg_search.specs.Settings.{unseen}
 use Rattle.pc_agg.proofs.SettledGrounds.{owes_grounded, observing_count, grounded_lawful, settled_lawful}
 use Rattle.pc_agg.proofs.Totals.{ok_both}
 use Rattle.pc_agg.proofs.deciding.settle.Goals as goal
+
+pub settle_totals-requires : goal.settle_totals-requires
+settle_totals-requires c = record { posed = (asked _ c.args.seen.now c.requires.asked).posed }
+
+pub ground-requires : goal.ground-requires
+ground-requires c = record { posed = (asked _ c.args.seen.now c.requires.asked).posed }
+
+pub settle_grounded-requires-clause-posed : goal.settle_grounded-requires-clause-posed
+settle_grounded-requires-clause-posed c = (asked _ c.args.seen.now c.requires.asked).posed
 
 pub returns-then-always_has_value : goal.returns-then-always_has_value
 returns-then-always_has_value c = record {

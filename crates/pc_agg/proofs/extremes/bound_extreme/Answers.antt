@@ -4,7 +4,7 @@ use Rattle.std.proofs.lemmas.Result.{IfOk-weaker}
 use Rattle.pc_model.specs.Accepted.{IsNumeric, IsColumnWhere}
 use Rattle.pc_model.specs.Right.{always_has_value}
 use Rattle.pc_agg.specs.Extremes.{seen_number}
-use Rattle.pc_agg_search.specs.Settings.{unseen}
+use Rattle.pc_agg_search.specs.Problem.{setting_of}
 use Rattle.pc_proof.specs.declared.answer.Why.TheVariants.{Void}
 use Rattle.pc_agg_search.specs.Asked.{setting_for}
 use Rattle.pc_agg.specs.Owed.{Owes}
@@ -16,15 +16,15 @@ use Rattle.pc_agg.proofs.extremes.bound_extreme.Goals as goal
 pub returns-in-Always : goal.returns-in-Always
 returns-in-Always c =
     let asked = c.requires.asked in
-    let nodes = c.args.cells.now.tree.nodes in
+    let nodes = c.args.problem.now.cells.now.tree.nodes in
     record {
       owes = IfOk-weaker c.always_by.result _ _
           (λ answer is asking.
-          owes_none c.args.schema.now c.args.constraints.now c.args.query.now c.args.seen.now nodes asked.formed asked.limited asked.found.tree c.args.nodes asking
+          owes_none c.args.problem.now.schema.now c.args.problem.now.constraints.now c.args.problem.now.query.now c.args.seen.now nodes asked.posed.formed asked.posed.limited asked.posed.found.tree c.args.problem.now.nodes asking
           (is_some (seen_number c.args.seen.now c.args.far)) c.in-Always.tree c.in-Always.found is.0 answer (ap always_has_value c.requires.extreme ∙ lacks_value c.args.far)
-          (observing c.args.schema.now c.args.constraints.now c.args.query.now c.args.seen.now nodes asked.formed asked.limited asked.found.tree c.args.nodes asking (IsColumnWhere IsNumeric c.args.schema.now)
-          (numbers_of c.args.schema.now c.args.query.now c.args.far c.requires.extreme asked.well) c.args.far c.requires.extreme)
-          (rows_of_cells c.args.schema.now c.args.constraints.now c.args.query.now nodes asked.formed asked.found.tree c.args.cells.now.cells is.0 asked.found.listed is.1)
+          (observing c.args.problem.now.schema.now c.args.problem.now.constraints.now c.args.problem.now.query.now c.args.seen.now nodes asked.posed.formed asked.posed.limited asked.posed.found.tree c.args.problem.now.nodes asking (IsColumnWhere IsNumeric c.args.problem.now.schema.now)
+          (numbers_of c.args.problem.now.schema.now c.args.problem.now.query.now c.args.far c.requires.extreme asked.well) c.args.far c.requires.extreme)
+          (rows_of_cells c.args.problem.now.schema.now c.args.problem.now.constraints.now c.args.problem.now.query.now nodes asked.posed.formed asked.posed.found.tree c.args.problem.now.cells.now.cells is.0 asked.posed.found.listed is.1)
           (rw (c.is_some-observed.ensures, c.seen_number-number.ensures) at (rw c.in-Always.is at c.in_ok-grounded.ensures.grounded))
           (λ disjoint. (rw c.in-Always.is at (c.in_ok-grounded.ensures.disjoint disjoint))) (rw c.as_slice.ensures at is.2))
           c.always_by.ensures;
@@ -32,34 +32,34 @@ returns-in-Always c =
 
 pub judge-requires-clause-lawful : goal.judge-requires-clause-lawful
 judge-requires-clause-lawful c =
-    lawful_both_ends (unseen c.args.schema.now c.args.constraints.now c.args.query.now c.args.cells.now.tree.nodes) c.args.nodes c.args.far c.seen_number-number.result c.in-Open.grounds.found c.in-At.low c.in-At.high c.in-At.found
+    lawful_both_ends (setting_of c.args.problem.now) c.args.problem.now.nodes c.args.far c.seen_number-number.result c.in-Open.grounds.found c.in-At.low c.in-At.high c.in-At.found
     (rw c.in-At.is at c.in_ok-pair.ensures.pair) (rw c.in-Open.is at c.in_ok-grounded.ensures.grounded).lawful
 
 pub judge-requires-clause-sized : goal.judge-requires-clause-sized
 judge-requires-clause-sized c =
-    sized_low (unseen c.args.schema.now c.args.constraints.now c.args.query.now c.args.cells.now.tree.nodes) c.args.nodes c.args.far c.seen_number-number.result c.in-Open.grounds.found c.in-At.low c.in-At.high c.in-At.found
+    sized_low (setting_of c.args.problem.now) c.args.problem.now.nodes c.args.far c.seen_number-number.result c.in-Open.grounds.found c.in-At.low c.in-At.high c.in-At.found
     (rw c.in-At.is at c.in_ok-pair.ensures.pair) (rw c.in-Open.is at c.in_ok-grounded.ensures.grounded).lawful
-    ∙ cells_counted c.args.schema.now c.args.cells.now.tree.nodes c.args.cells.now.cells c.requires.asked.found.listed
+    ∙ cells_counted c.args.problem.now.schema.now c.args.problem.now.cells.now.tree.nodes c.args.problem.now.cells.now.cells c.requires.asked.posed.found.listed
 
 pub judge-requires-clause-low : goal.judge-requires-clause-low
 judge-requires-clause-low c =
-    can_low (unseen c.args.schema.now c.args.constraints.now c.args.query.now c.args.cells.now.tree.nodes) c.args.nodes c.args.far c.seen_number-number.result c.in-Open.grounds.found c.in-At.low c.in-At.high c.in-At.found
+    can_low (setting_of c.args.problem.now) c.args.problem.now.nodes c.args.far c.seen_number-number.result c.in-Open.grounds.found c.in-At.low c.in-At.high c.in-At.found
     (rw c.in-At.is at c.in_ok-pair.ensures.pair) (rw c.in-Open.is at c.in_ok-grounded.ensures.grounded).lawful
 
 pub judge-requires-clause-high : goal.judge-requires-clause-high
 judge-requires-clause-high c =
-    can_high (unseen c.args.schema.now c.args.constraints.now c.args.query.now c.args.cells.now.tree.nodes) c.args.nodes c.args.far c.seen_number-number.result c.in-Open.grounds.found c.in-At.low c.in-At.high c.in-At.found
+    can_high (setting_of c.args.problem.now) c.args.problem.now.nodes c.args.far c.seen_number-number.result c.in-Open.grounds.found c.in-At.low c.in-At.high c.in-At.found
     (rw c.in-At.is at c.in_ok-pair.ensures.pair) (rw c.in-Open.is at c.in_ok-grounded.ensures.grounded).lawful
 
 pub returns-in-At : goal.returns-in-At
 returns-in-At c =
     let asked = c.requires.asked in
-    let nodes = c.args.cells.now.tree.nodes in
+    let nodes = c.args.problem.now.cells.now.tree.nodes in
     record {
       owes = IfOk-weaker c.judge.result _ _
           (λ answer is asking.
-          owes_judged c.args.schema.now c.args.constraints.now c.args.query.now c.args.seen.now nodes asked.formed asked.limited asked.found.tree c.args.nodes asking (IsColumnWhere IsNumeric c.args.schema.now)
-          (numbers_of c.args.schema.now c.args.query.now c.args.far c.requires.extreme asked.well) c.args.far c.requires.extreme c.in-Open.grounds
+          owes_judged c.args.problem.now.schema.now c.args.problem.now.constraints.now c.args.problem.now.query.now c.args.seen.now nodes asked.posed.formed asked.posed.limited asked.posed.found.tree c.args.problem.now.nodes asking (IsColumnWhere IsNumeric c.args.problem.now.schema.now)
+          (numbers_of c.args.problem.now.schema.now c.args.problem.now.query.now c.args.far c.requires.extreme asked.well) c.args.far c.requires.extreme c.in-Open.grounds
           (rw (c.is_some-observed.ensures, c.seen_number-number.ensures) at (rw c.in-Open.is at c.in_ok-grounded.ensures.grounded)) c.in-At.low c.in-At.high c.in-At.found
           (rw c.seen_number-number.ensures at (rw c.in-At.is at c.in_ok-pair.ensures.pair)) answer
           (rw (c.is_some-observed.ensures, c.seen_number-number.ensures) at is)
@@ -73,29 +73,29 @@ returns-in-At c =
 pub returns-in-Impossible : goal.returns-in-Impossible
 returns-in-Impossible c =
     let asked = c.requires.asked in
-    let schema = c.args.schema.now in
-    let constraints = c.args.constraints.now in
-    let query = c.args.query.now in
+    let schema = c.args.problem.now.schema.now in
+    let constraints = c.args.problem.now.constraints.now in
+    let query = c.args.problem.now.query.now in
     let seen = c.args.seen.now in
-    let nodes = c.args.cells.now.tree.nodes in
+    let nodes = c.args.problem.now.cells.now.tree.nodes in
     let shown = (rw c.in-Impossible.is at c.in_ok-grounded.ensures.grounded) in
     let why = c.in-Impossible.why in
     record {
       owes = λ asking.
-          subst (Owes (setting_for schema constraints query seen nodes asking) c.args.nodes) (sym c.impossible_by.ensures)
-          (owes_impossible schema constraints query seen nodes asked.formed asked.limited asked.found.tree c.args.nodes asking why
-          (impossible_here schema constraints query seen nodes asked.formed asked.limited asked.found.tree c.args.nodes asking why shown.0 shown.1)
-          (why_searched schema constraints query seen nodes asked.formed asked.limited asked.found.tree c.args.nodes asking why shown.1)
-          (λ seen_rows. fit_of_cells schema constraints query seen nodes asked.formed asked.limited asked.found.tree c.args.nodes asking why shown.1));
+          subst (Owes (setting_for schema constraints query seen nodes asking) c.args.problem.now.nodes) (sym c.impossible_by.ensures)
+          (owes_impossible schema constraints query seen nodes asked.posed.formed asked.posed.limited asked.posed.found.tree c.args.problem.now.nodes asking why
+          (impossible_here schema constraints query seen nodes asked.posed.formed asked.posed.limited asked.posed.found.tree c.args.problem.now.nodes asking why shown.0 shown.1)
+          (why_searched schema constraints query seen nodes asked.posed.formed asked.posed.limited asked.posed.found.tree c.args.problem.now.nodes asking why shown.1)
+          (λ seen_rows. fit_of_cells schema constraints query seen nodes asked.posed.formed asked.posed.limited asked.posed.found.tree c.args.problem.now.nodes asking why shown.1));
     }
 
 pub returns-in-Empty : goal.returns-in-Empty
 returns-in-Empty c =
     let asked = c.requires.asked in
-    let nodes = c.args.cells.now.tree.nodes in
+    let nodes = c.args.problem.now.cells.now.tree.nodes in
     let void = (rw c.in-Empty.is at c.in_ok-pair.ensures.pair) in
     record {
       owes = λ asking.
-          subst (Owes (setting_for c.args.schema.now c.args.constraints.now c.args.query.now c.args.seen.now nodes asking) c.args.nodes) (sym c.impossible_by-in-Empty.ensures)
-          (owes_impossible c.args.schema.now c.args.constraints.now c.args.query.now c.args.seen.now nodes asked.formed asked.limited asked.found.tree c.args.nodes asking (Void c.in-Empty.tree) void.shows tt (λ seen_rows. void.fits));
+          subst (Owes (setting_for c.args.problem.now.schema.now c.args.problem.now.constraints.now c.args.problem.now.query.now c.args.seen.now nodes asking) c.args.problem.now.nodes) (sym c.impossible_by-in-Empty.ensures)
+          (owes_impossible c.args.problem.now.schema.now c.args.problem.now.constraints.now c.args.problem.now.query.now c.args.seen.now nodes asked.posed.formed asked.posed.limited asked.posed.found.tree c.args.problem.now.nodes asking (Void c.in-Empty.tree) void.shows tt (λ seen_rows. void.fits));
     }

@@ -1,27 +1,27 @@
 use Rattle.std.proofs.Common.{IfOk, sym, subst}
 use Rattle.pc_agg.specs.Grounds.{IsGrounded, IsGroundedSurely}
-use Rattle.pc_agg_search.specs.Settings.{unseen}
+use Rattle.pc_agg_search.specs.Problem.{setting_of}
 use Rattle.pc_agg.proofs.Grounded.{listed_left}
 use Rattle.pc_agg.proofs.grounds.ground.Goals as goal
 
 pub returns-then-observed : goal.returns-then-observed
 returns-then-observed c =
-    let u = unseen c.args.schema.now c.args.constraints.now c.args.query.now c.args.cells.now.tree.nodes in
+    let u = setting_of c.args.problem.now in
     record {
-      grounded = subst (λ observed. IfOk c.ground_most.result (IsGrounded u observed c.args.nodes)) (sym c.if-observed.true) c.ground_most.ensures.grounded;
+      grounded = subst (λ observed. IfOk c.ground_most.result (IsGrounded u observed c.args.problem.now.nodes)) (sym c.if-observed.true) c.ground_most.ensures.grounded;
       disjoint = λ disjoint.
           subst (λ observed. IfOk c.ground_most.result (IsGroundedSurely u observed)) (sym c.if-observed.true)
           (c.ground_most.ensures.disjoint disjoint
-          (listed_left u c.args.nodes c.in_ok-relation.field-0.found c.in_ok-relation.field-0.relation c.in_ok-relation.ensures.settled.relation c.in_default.not-Impossible (c.in_ok-relation.ensures.disjoint disjoint)) tt);
+          (listed_left u c.args.problem.now.nodes c.in_ok-relation.field-0.found c.in_ok-relation.field-0.relation c.in_ok-relation.ensures.settled.relation c.in_default.not-Impossible (c.in_ok-relation.ensures.disjoint disjoint)) tt);
     }
 
 pub returns : goal.returns
 returns c =
-    let u = unseen c.args.schema.now c.args.constraints.now c.args.query.now c.args.cells.now.tree.nodes in
+    let u = setting_of c.args.problem.now in
     record {
-      grounded = subst (λ observed. IfOk c.ground_unseen.result (IsGrounded u observed c.args.nodes)) (sym c.if-observed.false) c.ground_unseen.ensures.grounded;
+      grounded = subst (λ observed. IfOk c.ground_unseen.result (IsGrounded u observed c.args.problem.now.nodes)) (sym c.if-observed.false) c.ground_unseen.ensures.grounded;
       disjoint = λ disjoint.
           subst (λ observed. IfOk c.ground_unseen.result (IsGroundedSurely u observed)) (sym c.if-observed.false)
           (c.ground_unseen.ensures.disjoint disjoint
-          (listed_left u c.args.nodes c.in_ok-relation.field-0.found c.in_ok-relation.field-0.relation c.in_ok-relation.ensures.settled.relation c.in_default.not-Impossible (c.in_ok-relation.ensures.disjoint disjoint)));
+          (listed_left u c.args.problem.now.nodes c.in_ok-relation.field-0.found c.in_ok-relation.field-0.relation c.in_ok-relation.ensures.settled.relation c.in_default.not-Impossible (c.in_ok-relation.ensures.disjoint disjoint)));
     }

@@ -4,29 +4,29 @@ use Rattle.pc_agg.proofs.rungs.program_at.Goals as goal
 
 pub tested-requires-clause-keyed : goal.tested-requires-clause-keyed
 tested-requires-clause-keyed c =
-    ladder_long c.args.schema.now c.args.constraints.now c.args.query.now c.args.cells.now c.requires.well_formed c.requires.constraints c.requires.cells c.args.ladder.now c.requires.keyed
+    ladder_long c.args.problem.now c.requires.posed c.args.ladder.now c.requires.keyed
 
 pub returns-clause-program : goal.returns-clause-program
 returns-clause-program c =
     IfOk-weaker c.tested.result _ _
-    (at_is c.args.schema.now c.args.constraints.now c.args.query.now c.args.cells.now c.requires.well_formed c.requires.constraints c.requires.cells c.args.ladder.now c.requires.keyed c.args.place)
+    (at_is c.args.problem.now c.requires.posed c.args.ladder.now c.requires.keyed c.args.place)
     c.tested.ensures
 
 pub returns-clause-is_program : goal.returns-clause-is_program
 returns-clause-is_program c =
     IfOk-weaker c.tested.result _ _
-    (at_formed c.args.schema.now c.args.constraints.now c.args.query.now c.args.cells.now c.requires.well_formed c.requires.constraints c.requires.cells c.args.ladder.now c.requires.keyed c.args.place)
+    (at_formed c.args.problem.now c.requires.posed c.args.ladder.now c.requires.keyed c.args.place)
     c.tested.ensures
 
 pub returns-clause-small : goal.returns-clause-small
 returns-clause-small c =
     IfOk-weaker c.tested.result _ _
-    (at_small c.args.schema.now c.args.constraints.now c.args.query.now c.args.cells.now c.requires.well_formed c.requires.constraints c.requires.cells c.args.ladder.now c.requires.keyed c.args.place)
+    (at_small c.args.problem.now c.requires.posed c.args.ladder.now c.requires.keyed c.args.place)
     c.tested.ensures
 
 pub returns-clause-disjoint : goal.returns-clause-disjoint
 returns-clause-disjoint c =
     λ disjoint.
     IfOk-weaker c.tested.result _ _
-    (λ p is. at_one_bits c.args.schema.now c.args.constraints.now c.args.query.now c.args.cells.now c.requires.well_formed c.requires.constraints c.requires.cells c.args.ladder.now c.requires.keyed c.args.place p is disjoint)
+    (λ p is. at_one_bits c.args.problem.now c.requires.posed c.args.ladder.now c.requires.keyed c.args.place p is disjoint)
     c.tested.ensures

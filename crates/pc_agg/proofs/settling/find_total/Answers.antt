@@ -6,38 +6,38 @@ use Rattle.std.proofs.lemmas.Result.{IfOk-weaker}
 use Rattle.pc_cells.specs.Found.{class_of_cell}
 use Rattle.pc_proof.specs.Setting.{program_for}
 use Rattle.pc_agg_search.specs.Limits.{IsLimit}
-use Rattle.pc_agg_search.specs.Settings.{unseen}
+use Rattle.pc_agg_search.specs.Problem.{setting_of}
 use Rattle.pc_agg.proofs.Aiming.{even_is, even_program}
-use Rattle.pc_agg_search.proofs.SettledPrograms.{classes_are}
+use Rattle.pc_agg_search.proofs.PosedPrograms.{own_classes}
 use Rattle.pc_agg.proofs.Totals.{lawful_found, total_of, settled_void}
 use Rattle.pc_agg.proofs.settling.find_total.Goals as goal
 
 pub settled_within-requires-clause-lawful : goal.settled_within-requires-clause-lawful
 settled_within-requires-clause-lawful c =
-    let u = unseen c.args.schema.now c.args.constraints.now c.args.query.now c.args.cells.now.tree.nodes in
-    let found = c.args.cells.now.cells in
+    let u = setting_of c.args.problem.now in
+    let found = c.args.problem.now.cells.now.cells in
     let same : to_z w128 (of_z w128 c.args.gain) ≡ c.args.gain = omega (arith, ints) in
-    let classes = classes_are c.args.schema.now c.args.constraints.now c.args.query.now.chosen c.args.cells.now.tree.nodes found c.in_ok-gains.gains c.requires.well_formed c.requires.cells.tree c.requires.cells.listed in
-    let is = even_is c.args.schema.now c.args.constraints.now c.args.query.now c.args.cells.now.tree.nodes c.requires.constraints c.args.gain (map class_of_cell found) c.in_ok-gains.gains (length found) classes
+    let classes = own_classes c.args.problem.now c.requires.posed in
+    let is = even_is c.args.problem.now.schema.now c.args.problem.now.constraints.now c.args.problem.now.query.now c.args.problem.now.cells.now.tree.nodes c.requires.posed.limited c.args.gain (map class_of_cell found) c.in_ok-gains.gains (length found) classes
     (sym (length-map found class_of_cell)) (rw (same, c.len.ensures) at c.in_ok-gains.ensures) in
-    let limit = subst (λ p. IsLimit p c.args.nodes c.in-Within.limit) is (rw c.in-Within.is at c.in_ok-limit.ensures.sought) in
+    let limit = subst (λ p. IsLimit p c.args.problem.now.nodes c.in-Within.limit) is (rw c.in-Within.is at c.in_ok-limit.ensures.sought) in
     lawful_found u (λ _. c.args.gain) c.in-Within.limit.found limit.allowed
 
 pub returns-in-Within-clause-total : goal.returns-in-Within-clause-total
 returns-in-Within-clause-total c =
-    let u = unseen c.args.schema.now c.args.constraints.now c.args.query.now c.args.cells.now.tree.nodes in
-    let found = c.args.cells.now.cells in
+    let u = setting_of c.args.problem.now in
+    let found = c.args.problem.now.cells.now.cells in
     let same : to_z w128 (of_z w128 c.args.gain) ≡ c.args.gain = omega (arith, ints) in
-    let classes = classes_are c.args.schema.now c.args.constraints.now c.args.query.now.chosen c.args.cells.now.tree.nodes found c.in_ok-gains.gains c.requires.well_formed c.requires.cells.tree c.requires.cells.listed in
-    let is = even_is c.args.schema.now c.args.constraints.now c.args.query.now c.args.cells.now.tree.nodes c.requires.constraints c.args.gain (map class_of_cell found) c.in_ok-gains.gains (length found) classes
+    let classes = own_classes c.args.problem.now c.requires.posed in
+    let is = even_is c.args.problem.now.schema.now c.args.problem.now.constraints.now c.args.problem.now.query.now c.args.problem.now.cells.now.tree.nodes c.requires.posed.limited c.args.gain (map class_of_cell found) c.in_ok-gains.gains (length found) classes
     (sym (length-map found class_of_cell)) (rw (same, c.len.ensures) at c.in_ok-gains.ensures) in
-    let limit = subst (λ p. IsLimit p c.args.nodes c.in-Within.limit) is (rw c.in-Within.is at c.in_ok-limit.ensures.sought) in
-    let program = even_program c.args.schema.now c.args.constraints.now c.args.query.now c.args.cells.now.tree.nodes c.requires.constraints c.args.gain in
+    let limit = subst (λ p. IsLimit p c.args.problem.now.nodes c.in-Within.limit) is (rw c.in-Within.is at c.in_ok-limit.ensures.sought) in
+    let program = even_program c.args.problem.now.schema.now c.args.problem.now.constraints.now c.args.problem.now.query.now c.args.problem.now.cells.now.tree.nodes c.requires.posed.limited c.args.gain in
     IfOk-weaker c.settled_within.result _ _
-    (λ total of. total_of u (program_for u (λ _. c.args.gain)) c.args.nodes c.in-Within.limit total program limit of)
+    (λ total of. total_of u (program_for u (λ _. c.args.gain)) c.args.problem.now.nodes c.in-Within.limit total program limit of)
     c.settled_within.ensures.total
 
 pub returns-in-Nothing-clause-total : goal.returns-in-Nothing-clause-total
 returns-in-Nothing-clause-total c =
-    settled_void (unseen c.args.schema.now c.args.constraints.now c.args.query.now c.args.cells.now.tree.nodes) c.args.nodes c.in_ok-gains.gains c.in-Nothing.tree c.impossible.result
+    settled_void (setting_of c.args.problem.now) c.args.problem.now.nodes c.in_ok-gains.gains c.in-Nothing.tree c.impossible.result
     (rw c.in-Nothing.is at c.in_ok-limit.ensures.sought) c.impossible.ensures

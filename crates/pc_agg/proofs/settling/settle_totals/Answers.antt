@@ -1,4 +1,4 @@
-use Rattle.pc_agg_search.specs.Settings.{unseen}
+use Rattle.pc_agg_search.specs.Problem.{setting_of}
 use Rattle.pc_agg.proofs.Totals.{settled_by_fewest}
 use Rattle.pc_agg.proofs.settling.settle_totals.Goals as goal
 
@@ -11,7 +11,7 @@ settled_after-requires-clause-small_fewest c limit is = (rw is at c.in_ok-fewest
 pub returns-clause-settled : goal.returns-clause-settled
 returns-clause-settled c =
     rw c.settled_after.ensures
-    (settled_by_fewest (unseen c.args.schema.now c.args.constraints.now c.args.query.now c.args.cells.now.tree.nodes) c.args.nodes c.in-Open.limit c.in_ok-fewest.fewest
+    (settled_by_fewest (setting_of c.args.problem.now) c.args.problem.now.nodes c.in-Open.limit c.in_ok-fewest.fewest
     (rw c.in-Open.is at c.in_ok-settled.ensures.total) c.in_ok-fewest.ensures.total)
 
 pub returns-clause-disjoint : goal.returns-clause-disjoint

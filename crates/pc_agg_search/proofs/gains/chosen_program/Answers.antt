@@ -9,21 +9,21 @@ pub returns-clause-program : goal.returns-clause-program
 returns-clause-program c =
     let same : to_z w128 (of_z w128 c.args.gain) ≡ c.args.gain = omega (arith, ints) in
     IfOk-weaker c.chosen_alone.result _ _
-    (chosen_for c.args.schema.now c.args.constraints.now c.args.query.now c.args.cells.now c.requires.well_formed c.requires.constraints c.requires.cells c.args.gain)
+    (chosen_for c.args.problem.now c.requires.posed c.args.gain)
     (rw same at c.chosen_alone.ensures)
 
 pub returns-clause-is_program : goal.returns-clause-is_program
 returns-clause-is_program c =
     let same : to_z w128 (of_z w128 c.args.gain) ≡ c.args.gain = omega (arith, ints) in
     IfOk-weaker c.chosen_alone.result _ _
-    (chosen_formed c.args.schema.now c.args.constraints.now c.args.query.now c.args.cells.now c.requires.well_formed c.requires.constraints c.requires.cells c.args.gain)
+    (chosen_formed c.args.problem.now c.requires.posed c.args.gain)
     (rw same at c.chosen_alone.ensures)
 
 pub returns-clause-small : goal.returns-clause-small
 returns-clause-small c =
     let same : to_z w128 (of_z w128 c.args.gain) ≡ c.args.gain = omega (arith, ints) in
     IfOk-weaker c.chosen_alone.result _ _
-    (λ p is. chosen_small c.args.schema.now c.args.constraints.now c.args.query.now c.args.cells.now c.requires.well_formed c.requires.constraints c.requires.cells c.args.gain p is c.requires.gain)
+    (λ p is. chosen_small c.args.problem.now c.requires.posed c.args.gain p is c.requires.gain)
     (rw same at c.chosen_alone.ensures)
 
 pub returns-clause-disjoint : goal.returns-clause-disjoint
@@ -31,5 +31,5 @@ returns-clause-disjoint c =
     let same : to_z w128 (of_z w128 c.args.gain) ≡ c.args.gain = omega (arith, ints) in
     λ disjoint.
     IfOk-weaker c.chosen_alone.result _ _
-    (λ p is. chosen_one_bits c.args.schema.now c.args.constraints.now c.args.query.now c.args.cells.now c.requires.well_formed c.requires.constraints c.requires.cells c.args.gain p is c.requires.gain disjoint)
+    (λ p is. chosen_one_bits c.args.problem.now c.requires.posed c.args.gain p is c.requires.gain disjoint)
     (rw same at c.chosen_alone.ensures)

@@ -7,7 +7,7 @@ pub solve-requires-clause-width : goal.solve-requires-clause-width
 solve-requires-clause-width c = HasFitWidth-small c.in_ok-program.program c.in_ok-program.ensures.is_program c.in_ok-program.ensures.small
 
 pub returns-clause-sought : goal.returns-clause-sought
-returns-clause-sought c = subst (λ p. IsSought p c.args.nodes c.sought_of.result) c.in_ok-program.ensures.program c.sought_of.ensures.sought
+returns-clause-sought c = subst (λ p. IsSought p c.args.problem.now.nodes c.sought_of.result) c.in_ok-program.ensures.program c.sought_of.ensures.sought
 
 pub returns-clause-disjoint : goal.returns-clause-disjoint
 returns-clause-disjoint c =

@@ -3,6 +3,7 @@ use Rattle.std.proofs.lemmas.Result.{IfOk-weaker}
 use Rattle.pc_agg.specs.Owed.{OwesSettled, Owes}
 use Rattle.pc_proof.specs.declared.answer.Answer.{Answer}
 use Rattle.pc_agg_search.specs.Asked.{setting_for}
+use Rattle.pc_agg_search.proofs.Posing.{asked}
 use Rattle.pc_avg.proofs.BothEnds.{owes_both_ends, short_ends}
 use Rattle.pc_avg.proofs.OwesAverages.{owes_endless}
 use Rattle.pc_avg.proofs.averages.bound_avg.Goals as goal
@@ -14,6 +15,12 @@ returns-then-not-has_ends-clause-owes c =
     subst (λ (a : Answer). Owes (setting_for c.args.schema.now c.args.constraints.now c.args.query.now c.args.seen.now c.args.cells.now.tree.nodes asking) c.args.nodes a) (sym is)
     (owes_endless c.args.schema.now c.args.constraints.now c.args.query.now c.args.seen.now c.args.cells.now.tree.nodes c.requires.asked.formed c.requires.asked.limited c.requires.asked.found.tree
     c.args.nodes asking c.requires.average c.args.settled.now.relation c.args.settled.now.lack c.args.settled.now.found (c.requires.settled asking) (sym c.has_ends.ensures ∙ c.if-not-has_ends.true))) c.without_ends.ensures
+
+pub search_end-requires-clause-posed : goal.search_end-requires-clause-posed
+search_end-requires-clause-posed c = (asked _ c.args.seen.now c.requires.asked).posed
+
+pub search_end-requires-2-clause-posed : goal.search_end-requires-2-clause-posed
+search_end-requires-2-clause-posed c = (asked _ c.args.seen.now c.requires.asked).posed
 
 pub returns-clause-owes : goal.returns-clause-owes
 returns-clause-owes c = λ asking.

@@ -1,13 +1,13 @@
-use Rattle.pc_agg_search.specs.Settings.{unseen}
+use Rattle.pc_agg_search.specs.Problem.{setting_of}
 use Rattle.pc_avg.proofs.ends.search_end.Goals as goal
 
 pub end_on-requires-clause-side : goal.end_on-requires-clause-side
 end_on-requires-clause-side c =
-    (unseen c.args.schema.now c.args.constraints.now c.args.query.now c.args.cells.now.tree.nodes, c.args.seen.now, c.in_ok-side.ensures.side, c.requires.lawful)
+    (setting_of c.args.problem.now, c.args.seen.now, c.in_ok-side.ensures.side, c.requires.lawful)
 
 pub returns-clause-end : goal.returns-clause-end
-returns-clause-end c = c.end_on.ensures.end (unseen c.args.schema.now c.args.constraints.now c.args.query.now c.args.cells.now.tree.nodes) c.args.seen.now c.in_ok-side.ensures.side
+returns-clause-end c = c.end_on.ensures.end (setting_of c.args.problem.now) c.args.seen.now c.in_ok-side.ensures.side
 
 pub returns-clause-disjoint : goal.returns-clause-disjoint
 returns-clause-disjoint c disjoint =
-    c.end_on.ensures.disjoint (unseen c.args.schema.now c.args.constraints.now c.args.query.now c.args.cells.now.tree.nodes) c.args.seen.now c.in_ok-side.ensures.side (c.in_ok-side.ensures.disjoint disjoint)
+    c.end_on.ensures.disjoint (setting_of c.args.problem.now) c.args.seen.now c.in_ok-side.ensures.side (c.in_ok-side.ensures.disjoint disjoint)

@@ -8,12 +8,12 @@ use Rattle.pc_avg.proofs.fractions.fraction_of.Goals as goal
 
 pub gained_program-requires-clause-small_gains : goal.gained_program-requires-clause-small_gains
 gained_program-requires-clause-small_gains c =
-    let small = small_keys c.args.schema.now c.args.constraints.now c.args.query.now c.args.cells.now.tree.nodes c.requires.well_formed c.requires.constraints c.requires.cells.tree c.args.extreme c.args.picks.now c.requires.picked in
+    let small = small_keys c.args.problem.now.schema.now c.args.problem.now.constraints.now c.args.problem.now.query.now c.args.problem.now.cells.now.tree.nodes c.requires.posed.formed c.requires.posed.limited c.requires.posed.found.tree c.args.extreme c.args.picks.now c.requires.picked in
     subst (All (λ n. nat_abs n ≤ 402 * 10 ^ 21)) (sym c.requires.keyed)
     (All-weaker (λ n. nat_abs n ≤ 10 ^ 15) (λ n. nat_abs n ≤ 402 * 10 ^ 21) (λ n less. omega (arith, less)) _ small)
 
 pub returns-clause-fractional : goal.returns-clause-fractional
 returns-clause-fractional c =
     let same : to_z w128 (of_z w128 c.seen_sum.result) ≡ c.seen_sum.result = omega (arith, ints) in
-    rw same (is_fractional c.args.schema.now c.args.constraints.now c.args.query.now c.args.cells.now.tree.nodes c.requires.well_formed c.requires.constraints c.requires.cells.tree c.args.extreme c.args.picks.now c.requires.picked
+    rw same (is_fractional c.args.problem.now.schema.now c.args.problem.now.constraints.now c.args.problem.now.query.now c.args.problem.now.cells.now.tree.nodes c.requires.posed.formed c.requires.posed.limited c.requires.posed.found.tree c.args.extreme c.args.picks.now c.requires.picked
     c.in_ok-rows.rows c.in_ok-sums.sums c.args.seen.now.count c.seen_sum.result c.in_ok-rows.ensures.program (rw c.requires.keyed at c.in_ok-sums.ensures.program) c.requires.few_seen c.seen_sum.ensures.small c.seen_sum.ensures.none)
