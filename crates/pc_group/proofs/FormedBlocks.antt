@@ -1,18 +1,18 @@
 -- Blocks in form.
-use Rattle.std.proofs.Common.{◌≡◌, ℕ, zero, suc, ◌≤◌, nat_lt, true, false, true≢false, pos, List, [], ◌∷◌, length, All, Option, Some, None, refl, sym, subst, ltb-true}
+use Rattle.std.proofs.Common.{◌≡◌, ℕ, zero, suc, true, true≢false, pos, List, [], ◌∷◌, length, All, Option, Some, None, sym, subst, ltb-true}
 use Rattle.std.specs.Prelude.{slice_get, slice_index_or, IfSome, IsSomeAnd}
 use Rattle.std.specs.Cmp.Lexicographic.{pointwise}
 use Rattle.std.specs.List.{AllZip, AllPass}
 use Rattle.std.proofs.lemmas.Bool.{and_parts}
 use Rattle.std.proofs.lemmas.List.Elements.{All-nil, All-cons, All-head, All-tail}
-use Rattle.std.proofs.lemmas.Option.{none-some, same_Some}
+use Rattle.std.proofs.lemmas.Option.{same_Some}
 use Rattle.pc_model.specs.declared.schema.Kind.{Kind}
 use Rattle.pc_model.specs.declared.schema.Kind.TheVariants.{Int, Dec, Cat}
 use Rattle.pc_model.specs.declared.schema.Column.{Column}
 use Rattle.pc_model.specs.declared.schema.Schema.{Schema}
 use Rattle.pc_model.specs.declared.row.Row.{Row}
 use Rattle.pc_model.specs.declared.region.Side.{Side}
-use Rattle.pc_model.specs.declared.region.Side.TheVariants.{Span, Names}
+use Rattle.pc_model.specs.declared.region.Side.TheVariants.{Names}
 use Rattle.pc_model.specs.declared.region.Region.{Region}
 use Rattle.pc_model.specs.declared.constraint.Constraint.{Constraint}
 use Rattle.pc_model.specs.declared.query.Query.{Query}

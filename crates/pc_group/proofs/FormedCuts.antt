@@ -1,5 +1,5 @@
 -- The cuts of a tree that is cut along regions are in form.
-use Rattle.std.proofs.Common.{◌≡◌, ℕ, zero, suc, ◌+◌, ◌<◌, ◌≤◌, ◌^◌, ◌&&◌, ◌==◌, nat_lt, not, Bool, true, false, true≢false, List, [], ◌∷◌, ◌++◌, length, get_or, All, Any, ◌⊎◌, inl, inr, Option, Some, None, refl, sym, ap, subst, ◌∙◌, arith, ltb-true}
+use Rattle.std.proofs.Common.{◌≡◌, ℕ, zero, suc, ◌+◌, ◌<◌, ◌≤◌, ◌^◌, ◌&&◌, ◌==◌, nat_lt, not, Bool, true, false, true≢false, List, [], ◌∷◌, ◌++◌, length, All, Any, ◌⊎◌, inl, inr, Option, Some, None, refl, sym, ap, subst, ◌∙◌, arith, ltb-true}
 use Rattle.std.specs.Prelude.{ℤ, pos, ◌-ℤ◌, ◌≤ℤ◌, int_le, int_lt, nat_abs, slice_get, slice_index_or, IfSome, IsSomeAnd, if◌then◌else◌}
 use Rattle.std.specs.Cmp.Lexicographic.{pointwise}
 use Rattle.std.specs.Int.Bits.{bit_and}
@@ -24,9 +24,8 @@ use Rattle.pc_model.specs.declared.tree.CutNode.{CutNode}
 use Rattle.pc_model.specs.declared.tree.CutNode.TheVariants as forms
 use Rattle.pc_model.specs.declared.tree.LeafMark.{LeafMark}
 use Rattle.pc_model.specs.declared.tree.LeafMark.TheVariants as marks
-use Rattle.pc_model.specs.declared.tree.Leaf.{Leaf}
 use Rattle.pc_model.specs.Boxes.{IsServable}
-use Rattle.pc_model.specs.Cells.{IsSettled, IsSettledAs, IsSettledTree, AreSettled}
+use Rattle.pc_model.specs.Cells.{IsSettled, IsSettledAs, IsSettledTree}
 use Rattle.pc_model.specs.CutTrees.{CutShape, leaf, inner, size_of, nodes_from, leaves_of, shape_of, column_of, first_part, second_part, IsProper, HasProperCuts, side_at}
 use Rattle.pc_model.specs.Membership.{has}
 use Rattle.pc_model.specs.Places.{places_outside}
