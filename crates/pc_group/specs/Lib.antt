@@ -1,4 +1,5 @@
 pub mod Answers
+pub mod Scopes
 pub mod Trees
 pub mod Wanted
 pub mod Written

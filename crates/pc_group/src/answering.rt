@@ -14,12 +14,14 @@ ghost use Rattle.pc_agg.specs.Owed.{Owes};
 ghost use Rattle.pc_avg.specs.Averages.{HasShortEnds};
 ghost use Rattle.pc_cells_tree.specs.Linked.{IsTree, IsDividedFor};
 ghost use Rattle.pc_group.specs.Answers.{AnswersWanted};
+ghost use Rattle.pc_group.specs.Scopes.{HasBlocks, IsDivided, IsScope};
 ghost use Rattle.pc_group.specs.Trees.{AreDividedFor};
 ghost use Rattle.pc_group.specs.Wanted.{Wanted, wanted, wanted_by, wanted_of};
 ghost use Rattle.pc_group.specs.Written.{AreBlocksOf};
 
 use crate::blocks::{Written, with_block};
 use crate::narrowing::query_for;
+use crate::scope::Scope;
 use crate::wanted::allowed_names;
 use pc_agg::{bound_count, bound_max, bound_min, bound_sum, settle};
 use pc_avg::bound_avg;
@@ -50,21 +52,18 @@ pub(crate) fn answer_queries(
     requires divided { AreDividedFor schema.now constraints.now shared.now.nodes (wanted schema.now queries.now) }
     ensures { IfOk result (AreBlocksOf (AnswersWanted nodes schema.now rows.now constraints.now) shared.now.nodes (wanted schema.now queries.now)) }
 {
+    let scope = Scope {
+        schema,
+        constraints,
+        shared,
+        nodes,
+    };
     let mut written = Written {
         blocks: Seq::new(alloc),
         last: None,
     };
     for query in queries {
-        written = answer_query(
-            alloc,
-            schema,
-            rows,
-            constraints,
-            query,
-            shared,
-            written,
-            nodes,
-        )?;
+        written = answer_query(alloc, &scope, rows, query, written)?;
     }
     Ok(written)
 }
@@ -72,126 +71,75 @@ pub(crate) fn answer_queries(
 /// The blocks of a query after those before.
 fn answer_query(
     alloc: Global,
-    schema: &Schema,
+    scope: &Scope<'_>,
     rows: &Rows,
-    constraints: &[Constraint],
     query: &Query,
-    shared: &Shared,
     written: Written,
-    nodes: u32,
 ) -> Result<Written, Memory>
-    requires well_formed { IsWellFormed schema.now }
-    requires seen { AllPass (in_domain schema.now) rows.now }
-    requires accepted { AreConstraints schema.now constraints.now }
-    requires asked { IsQuery schema.now query.now }
-    requires budget { (1 ≤ nodes) × (nodes ≤ 100_000) }
-    requires tree { IsTree schema.now shared.now.nodes }
-    requires divided { AreDividedFor schema.now constraints.now shared.now.nodes (wanted_by schema.now query.now) }
-    ensures { IfOk result (λ more. (blocks : List Wanted) → AreBlocksOf (AnswersWanted nodes schema.now rows.now constraints.now) shared.now.nodes blocks written → AreBlocksOf (AnswersWanted nodes schema.now rows.now constraints.now) shared.now.nodes (blocks ++ wanted_by schema.now query.now) more) }
+    requires scope { IsScope scope.now }
+    requires seen { AllPass (in_domain scope.now.schema.now) rows.now }
+    requires asked { IsQuery scope.now.schema.now query.now }
+    requires divided { IsDivided scope.now (wanted_by scope.now.schema.now query.now) }
+    ensures { IfOk result (λ more. (blocks : List Wanted) → HasBlocks scope.now rows.now blocks written → HasBlocks scope.now rows.now (blocks ++ wanted_by scope.now.schema.now query.now) more) }
 {
     let Some(column) = query.group else {
         let seen = rows.fold(query);
-        return answer_block(
-            alloc,
-            schema,
-            constraints,
-            query,
-            None,
-            &seen,
-            shared,
-            written,
-            nodes,
-        );
+        return answer_block(alloc, scope, query, None, &seen, written);
     };
-    answer_group(
-        alloc,
-        schema,
-        rows,
-        constraints,
-        query,
-        column,
-        shared,
-        written,
-        nodes,
-    )
+    answer_group(alloc, scope, rows, query, column, written)
 }
 
 /// The blocks of a query that is grouped by a column, by one walk over the rows.
 fn answer_group(
     alloc: Global,
-    schema: &Schema,
+    scope: &Scope<'_>,
     rows: &Rows,
-    constraints: &[Constraint],
     query: &Query,
     column: u8,
-    shared: &Shared,
     written: Written,
-    nodes: u32,
 ) -> Result<Written, Memory>
-    requires well_formed { IsWellFormed schema.now }
-    requires seen { AllPass (in_domain schema.now) rows.now }
-    requires accepted { AreConstraints schema.now constraints.now }
-    requires asked { IsQuery schema.now query.now }
+    requires scope { IsScope scope.now }
+    requires seen { AllPass (in_domain scope.now.schema.now) rows.now }
+    requires asked { IsQuery scope.now.schema.now query.now }
     requires grouped { query.now.group ≡ Some column }
-    requires budget { (1 ≤ nodes) × (nodes ≤ 100_000) }
-    requires tree { IsTree schema.now shared.now.nodes }
-    requires divided { AreDividedFor schema.now constraints.now shared.now.nodes (wanted_by schema.now query.now) }
-    ensures { IfOk result (λ more. (blocks : List Wanted) → AreBlocksOf (AnswersWanted nodes schema.now rows.now constraints.now) shared.now.nodes blocks written → AreBlocksOf (AnswersWanted nodes schema.now rows.now constraints.now) shared.now.nodes (blocks ++ wanted_by schema.now query.now) more) }
+    requires divided { IsDivided scope.now (wanted_by scope.now.schema.now query.now) }
+    ensures { IfOk result (λ more. (blocks : List Wanted) → HasBlocks scope.now rows.now blocks written → HasBlocks scope.now rows.now (blocks ++ wanted_by scope.now.schema.now query.now) more) }
 {
-    let names = allowed_names(alloc, schema, query, column)?;
+    let names = allowed_names(alloc, scope.schema, query, column)?;
     let folds = rows.fold_each(alloc, query, names.as_slice())?;
     answer_names(
         alloc,
-        schema,
-        constraints,
+        scope,
         query,
         names.as_slice(),
         folds.as_slice(),
-        shared,
         written,
-        nodes,
     )
 }
 
 /// The blocks of names of a query's group, of which each has its fold.
 fn answer_names(
     alloc: Global,
-    schema: &Schema,
-    constraints: &[Constraint],
+    scope: &Scope<'_>,
     query: &Query,
     names: &[u32],
     folds: &[Folded],
-    shared: &Shared,
     written: Written,
-    nodes: u32,
 ) -> Result<Written, Memory>
-    requires well_formed { IsWellFormed schema.now }
-    requires accepted { AreConstraints schema.now constraints.now }
-    requires asked { IsQuery schema.now query.now }
+    requires scope { IsScope scope.now }
+    requires asked { IsQuery scope.now.schema.now query.now }
     requires named { is_none query.now.group ≡ false }
     requires places { All (λ (name : ℕ). name < 128) names.now }
     requires allowed { All (λ (name : ℕ). AllowsName query.now.chosen query.now.group (Some name)) names.now }
     requires even { length folds.now ≡ length names.now }
     requires few_seen { All (λ folded. folded.count ≤ 1_000_000) folds.now }
     requires small_seen { All (λ folded. nat_abs folded.sum ≤ 1_000_000 * 10 ^ 15) folds.now }
-    requires budget { (1 ≤ nodes) × (nodes ≤ 100_000) }
-    requires tree { IsTree schema.now shared.now.nodes }
-    requires divided { AreDividedFor schema.now constraints.now shared.now.nodes (map (wanted_of query.now) names.now) }
-    ensures { IfOk result (λ more. (observed : List Row) (blocks : List Wanted) → AllZip (λ (name : ℕ) (folded : Folded). IsFold query.now (Some name) observed folded) names.now folds.now → AreBlocksOf (AnswersWanted nodes schema.now observed constraints.now) shared.now.nodes blocks written → AreBlocksOf (AnswersWanted nodes schema.now observed constraints.now) shared.now.nodes (blocks ++ map (wanted_of query.now) names.now) more) }
+    requires divided { IsDivided scope.now (map (wanted_of query.now) names.now) }
+    ensures { IfOk result (λ more. (observed : List Row) (blocks : List Wanted) → AllZip (λ (name : ℕ) (folded : Folded). IsFold query.now (Some name) observed folded) names.now folds.now → HasBlocks scope.now observed blocks written → HasBlocks scope.now observed (blocks ++ map (wanted_of query.now) names.now) more) }
 {
     let mut more = written;
     for (index, name) in names.iter().enumerate() {
-        more = answer_block(
-            alloc,
-            schema,
-            constraints,
-            query,
-            Some(*name),
-            &folds[index],
-            shared,
-            more,
-            nodes,
-        )?;
+        more = answer_block(alloc, scope, query, Some(*name), &folds[index], more)?;
     }
     Ok(more)
 }
@@ -199,31 +147,35 @@ fn answer_names(
 /// The block of a query, and of a name where it is grouped, whose observed rows come to `seen`.
 fn answer_block(
     alloc: Global,
-    schema: &Schema,
-    constraints: &[Constraint],
+    scope: &Scope<'_>,
     query: &Query,
     name: Option<u32>,
     seen: &Folded,
-    shared: &Shared,
     written: Written,
-    nodes: u32,
 ) -> Result<Written, Memory>
-    requires well_formed { IsWellFormed schema.now }
-    requires accepted { AreConstraints schema.now constraints.now }
-    requires asked { IsQuery schema.now query.now }
+    requires scope { IsScope scope.now }
+    requires asked { IsQuery scope.now.schema.now query.now }
     requires named { is_none name ≡ is_none query.now.group }
     requires place { IfSome name (λ place. place < 128) }
     requires allowed { AllowsName query.now.chosen query.now.group name }
     requires few_seen { seen.now.count ≤ 1_000_000 }
     requires small_seen { nat_abs seen.now.sum ≤ 1_000_000 * 10 ^ 15 }
-    requires budget { (1 ≤ nodes) × (nodes ≤ 100_000) }
-    requires tree { IsTree schema.now shared.now.nodes }
-    requires divided { IsDividedFor schema.now constraints.now (narrowed query.now.chosen query.now.group name) shared.now.nodes }
-    ensures { IfOk result (λ more. (observed : List Row) (blocks : List Wanted) → IsFold query.now name observed seen.now → AreBlocksOf (AnswersWanted nodes schema.now observed constraints.now) shared.now.nodes blocks written → AreBlocksOf (AnswersWanted nodes schema.now observed constraints.now) shared.now.nodes (blocks ++ record { query = query.now; name = name } ∷ []) more) }
+    requires divided { IsDividedFor scope.now.schema.now scope.now.constraints.now (narrowed query.now.chosen query.now.group name) scope.now.shared.now.nodes }
+    ensures { IfOk result (λ more. (observed : List Row) (blocks : List Wanted) → IsFold query.now name observed seen.now → HasBlocks scope.now observed blocks written → HasBlocks scope.now observed (blocks ++ record { query = query.now; name = name } ∷ []) more) }
 {
     let asked = query_for(alloc, query, name)?;
-    let cells = shared.cells(schema, constraints, &asked.chosen)?;
-    let answer = answer_of(alloc, schema, seen, constraints, &cells, &asked, nodes)?;
+    let cells = scope
+        .shared
+        .cells(scope.schema, scope.constraints, &asked.chosen)?;
+    let answer = answer_of(
+        alloc,
+        scope.schema,
+        seen,
+        scope.constraints,
+        &cells,
+        &asked,
+        scope.nodes,
+    )?;
     with_block(written, query, name, cells.tree, answer)
 }
 

@@ -6,6 +6,7 @@ mod answers;
 mod blocks;
 mod narrowing;
 mod refining;
+mod scope;
 mod wanted;
 
 pub use answers::{answer_all, answer_with};

@@ -11,4 +11,4 @@ use Rattle.pc_group.proofs.answering.answer_names.Given as goal
 abbrev pub invariant-loop-index : goal.invariant-loop-index
 invariant-loop-index l =
     (observed : List Row) (blocks : List Wanted) → AllZip (λ (name : ℕ) (folded : Folded). IsFold l.query (Some name) observed folded) l.names l.folds →
-    AreBlocksOf (AnswersWanted l.nodes l.schema observed l.constraints) l.shared.nodes blocks l.fn.written → AreBlocksOf (AnswersWanted l.nodes l.schema observed l.constraints) l.shared.nodes (blocks ++ map (wanted_of l.query) (take l.index l.names)) l.more
+    AreBlocksOf (AnswersWanted l.scope.nodes l.scope.schema.now observed l.scope.constraints.now) l.scope.shared.now.nodes blocks l.fn.written → AreBlocksOf (AnswersWanted l.scope.nodes l.scope.schema.now observed l.scope.constraints.now) l.scope.shared.now.nodes (blocks ++ map (wanted_of l.query) (take l.index l.names)) l.more
