@@ -12,7 +12,7 @@ use Rattle.pc_model.specs.declared.query.Folded.{Folded}
 use Rattle.pc_model.specs.declared.tree.CutNode.{CutNode}
 use Rattle.pc_model.specs.declared.tree.Tree.{Tree}
 use Rattle.pc_model.specs.Accepted.{AreConstraints, IsQuery, IsNumeric, IsColumnWhere, Measures}
-use Rattle.pc_model.specs.Membership.{AreDisjoint}
+use Rattle.pc_agg_search.specs.Easy.{IsEasy}
 use Rattle.pc_model.specs.WellFormed.{IsWellFormed}
 use Rattle.pc_model.specs.Cells.{Class, IsRowOf, IsSettledTree, leaves_in, classes_of}
 use Rattle.pc_model.specs.Right.{always_has_value}
@@ -86,7 +86,7 @@ module _ (schema : Schema) (constraints : List Constraint) (query : Query) (seen
   -- ---- no list gives a value
 
   pub owes_none : (observed : Bool) (by_tree : Tree) (found : List (List ℕ)) (picks : List Row) (answer : Answer) → always_has_value query.agg ≡ false → IsObserving s observed → AreRowsOfCells u picks →
-      AreAlways u observed budget by_tree found → (AreDisjoint schema constraints → 0 < length found) → answer ≡ always_as (relation_from picks found) (alwayses.Tree by_tree) → Owes s budget answer
+      AreAlways u observed budget by_tree found → (IsEasy schema constraints → 0 < length found) → answer ≡ always_as (relation_from picks found) (alwayses.Tree by_tree) → Owes s budget answer
   owes_none observed by_tree found picks answer lacks observing rows always sure is =
       subst (Owes s budget) (sym is)
       (owes_always schema constraints query seen nodes formed limited tree budget asking found (relation_from picks found) (alwayses.Tree by_tree) always.lawful (relation_may picks found)
@@ -118,7 +118,7 @@ module _ (schema : Schema) (constraints : List Constraint) (query : Query) (seen
       rows = AllZip-weaker (IsAtEnd u Low) (IsRowOf schema constraints query.chosen) (λ class row at. at.of_cell) (cells u) low.picks stands.low_stands.picked
 
       module _ (answer : Answer) (is : IsJudged u observed grounds.lacking low high found answer)
-          (sure : AreDisjoint schema constraints → AreGroundsSurely u observed grounds × Any (IsFound low.program low.want) found × Any (IsFound high.program high.want) found) where
+          (sure : IsEasy schema constraints → AreGroundsSurely u observed grounds × Any (IsFound low.program low.want) found × Any (IsFound high.program high.want) found) where
         low_done : IsDone Low s budget query.agg found is.low_end
         low_done =
             stand_done schema constraints query seen nodes formed limited tree budget asking IsNumbered numbered far agg_is found lawful totals Low low stands.low_stands is.low_end is.low_is
@@ -134,10 +134,10 @@ module _ (schema : Schema) (constraints : List Constraint) (query : Query) (seen
             (subst (IsDoubt (most_chosen u) (want_for observed) budget) (sym stands.grown) (doubt_grown (most_chosen u) (want_for observed) budget grounds.found stands.more are.doubt))
             is.lack_is
 
-        listed : AreDisjoint schema constraints → 0 < length found
+        listed : IsEasy schema constraints → 0 < length found
         listed disjoint = subst (λ l. 0 < length l) (sym stands.grown) (more_found grounds.found stands.more (sure disjoint).0.listed)
 
-        lack_sure : AreDisjoint schema constraints → IsSettledLack is.lack
+        lack_sure : IsEasy schema constraints → IsSettledLack is.lack
         lack_sure disjoint =
             let own = (sure disjoint).0 in
             lack_settled u observed budget low.picks found grounds.lacking is.lack

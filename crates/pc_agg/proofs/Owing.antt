@@ -13,7 +13,7 @@ use Rattle.pc_model.specs.declared.query.Folded.{Folded}
 use Rattle.pc_model.specs.Accepted.{AreConstraints}
 use Rattle.pc_model.specs.Aggregate.{IsAtMost}
 use Rattle.pc_model.specs.WellFormed.{IsWellFormed}
-use Rattle.pc_model.specs.Membership.{AreDisjoint}
+use Rattle.pc_agg_search.specs.Easy.{IsEasy}
 use Rattle.pc_model.specs.Cells.{IsSettledTree, AreSettled}
 use Rattle.pc_model.specs.Right.{ArePossible, always_has_value}
 use Rattle.pc_model.specs.Right as plain
@@ -176,9 +176,9 @@ module _ (schema : Schema) (constraints : List Constraint) (query : Query) (seen
 
   pub settled_with : (found : List (List ℕ)) (relation : Relation) (lack : Lack) → All (AreLawful u) found → IsRelation u budget found relation →
       plain.is_silent (plain_lack lack) ≡ (always_has_value query.agg || plain.is_impossible (plain_relation relation)) → HoldsLack s lack → LackSearched s budget lack → IsFitLack query.agg lack → All (IsThere found) (runs_of_lack lack) →
-      ((answer : Answer) → ShownFrom s found answer → LicensedLack s budget answer lack) → (AreDisjoint schema constraints → IsDecided relation × IsSettledLack lack) →
+      ((answer : Answer) → ShownFrom s found answer → LicensedLack s budget answer lack) → (IsEasy schema constraints → IsDecided relation × IsSettledLack lack) →
       (always_has_value query.agg ≡ false → HasEnds relation lack → CanGive s × MayGiveOne s budget found) → (lack ≡ lacks.Undecided → LeavesLack s budget found) →
-      (AreDisjoint schema constraints → always_has_value query.agg ≡ false → HasEnds relation lack → Any (IsGiving s) found) → OwesSettled s budget relation lack found
+      (IsEasy schema constraints → always_has_value query.agg ≡ false → HasEnds relation lack → Any (IsGiving s) found) → OwesSettled s budget relation lack found
   settled_with found relation lack lawful is silent lack_holds lack_searched lack_fits lack_from lack_licensed decided gives open_lack surely =
       let shown = shown_settled found relation lack lawful is lack_from in
       record {
@@ -212,13 +212,13 @@ module _ (schema : Schema) (constraints : List Constraint) (query : Query) (seen
   silent_left : (found : List (List ℕ)) → lacks.Silent ≡ lacks.Undecided → LeavesLack s budget found
   silent_left found same = absurd (true≢false (ap (λ lack. plain.is_silent (plain_lack lack)) same))
 
-  settled_as : (found : List (List ℕ)) (relation : Relation) → always_has_value query.agg ≡ true → All (AreLawful u) found → IsRelation u budget found relation → (AreDisjoint schema constraints → IsDecided relation) →
+  settled_as : (found : List (List ℕ)) (relation : Relation) → always_has_value query.agg ≡ true → All (AreLawful u) found → IsRelation u budget found relation → (IsEasy schema constraints → IsDecided relation) →
       OwesSettled s budget relation lacks.Silent found
   settled_as found relation always lawful is decided =
       settled_with found relation lacks.Silent lawful is (sym (ap (λ test. test || plain.is_impossible (plain_relation relation)) always)) tt tt tt (All-nil (IsThere found)) (λ answer from. tt)
       (λ disjoint. (decided disjoint, tt)) (λ no ends. absurd (true≢false (sym always ∙ no))) (silent_left found) (λ disjoint no ends. absurd (true≢false (sym always ∙ no)))
 
-  pub owes_settled : (settled : Settled) → always_has_value query.agg ≡ true → IsSettled u budget settled → (AreDisjoint schema constraints → IsDecided settled.relation) → OwesSettled s budget settled.relation settled.lack settled.found
+  pub owes_settled : (settled : Settled) → always_has_value query.agg ≡ true → IsSettled u budget settled → (IsEasy schema constraints → IsDecided settled.relation) → OwesSettled s budget settled.relation settled.lack settled.found
   owes_settled settled always is decided =
       subst (λ lack. OwesSettled s budget settled.relation lack settled.found) (sym is.lack) (settled_as settled.found settled.relation always is.lawful is.relation decided)
 
@@ -279,7 +279,7 @@ module _ (schema : Schema) (constraints : List Constraint) (query : Query) (seen
   always_as relation by' = record { relation = relation; lack = lacks.Always by'; ends = None }
 
   pub owes_always : (found : List (List ℕ)) (relation : Relation) (by' : AlwaysBy) → All (AreLawful u) found → plain.is_impossible (plain_relation relation) ≡ false → IsRelation u budget found relation →
-      always_has_value query.agg ≡ false → ShowsAlways s by' → AlwaysSearched s budget by' → (AreObserved s → IsFitAlways query.agg by') → (AreDisjoint schema constraints → IsDecided relation) → Owes s budget (always_as relation by')
+      always_has_value query.agg ≡ false → ShowsAlways s by' → AlwaysSearched s budget by' → (AreObserved s → IsFitAlways query.agg by') → (IsEasy schema constraints → IsDecided relation) → Owes s budget (always_as relation by')
   owes_always found relation by' lawful may is lacks_value shows searched fits decided = record {
     form = form;
     unbroken = unbroken;
@@ -336,7 +336,7 @@ module _ (schema : Schema) (constraints : List Constraint) (query : Query) (seen
     -- the answer with these ends, of which nothing shown attains an outer one
     pub owes_ends : (relation : Relation) (lack : Lack) → plain.is_impossible (plain_relation relation) ≡ false → IsRelationDone s budget found relation → IsLackDone s budget found lack →
         IfOuter low.mark (IsShown s (with_ends relation lack) (ratio_of low.value) → ⊥) → IfOuter high.mark (IsShown s (with_ends relation lack) (ratio_of high.value) → ⊥) →
-        (AreDisjoint schema constraints → IsDecided relation × IsExact low.mark × IsExact high.mark × IsSettledLack lack) → Owes s budget (with_ends relation lack)
+        (IsEasy schema constraints → IsDecided relation × IsExact low.mark × IsExact high.mark × IsSettledLack lack) → Owes s budget (with_ends relation lack)
     owes_ends relation lack may is done low_unshown high_unshown decided =
         let shown = shown_from relation lack is done in
         record {
@@ -381,7 +381,7 @@ module _ (schema : Schema) (constraints : List Constraint) (query : Query) (seen
     both_ends relation lack = record { relation = relation; lack = lack; ends = Some (low, high) }
 
     pub owes_both : (relation : Relation) (lack : Lack) → plain.is_impossible (plain_relation relation) ≡ false → IsRelation u budget found relation → IsLackDone s budget found lack →
-        (AreDisjoint schema constraints → IsDecided relation × IsExact low.mark × IsExact high.mark × IsSettledLack lack) → Owes s budget (both_ends relation lack)
+        (IsEasy schema constraints → IsDecided relation × IsExact low.mark × IsExact high.mark × IsSettledLack lack) → Owes s budget (both_ends relation lack)
     owes_both relation lack may is done decided =
         let related = relation_done found relation lawful is in
         let shown = shown_from found low high low_done.base high_done.base relation lack related done in
@@ -405,7 +405,7 @@ module _ (schema : Schema) (constraints : List Constraint) (query : Query) (seen
     crossing valued crossed = owes_impossible (whys.Ends (bounded_by low) (bounded_by high)) (do_cross crossed, valued) (low_done.base.searched, high_done.base.searched) both_fit
 
     pub owes_between : (relation : Relation) → always_has_value query.agg ≡ true → plain.is_impossible (plain_relation relation) ≡ false → IsRelation u budget found relation →
-        (AreDisjoint schema constraints → IsDecided relation × IsExact low.mark × IsExact high.mark) → Owes s budget (answer_between relation low high)
+        (IsEasy schema constraints → IsDecided relation × IsExact low.mark × IsExact high.mark) → Owes s budget (answer_between relation low high)
     owes_between relation always may is decided = by_test (is_open relation && int_lt high.value.num low.value.num) refl
       where
         by_test : (test : Bool) → (is_open relation && int_lt high.value.num low.value.num) ≡ test →
@@ -417,7 +417,7 @@ module _ (schema : Schema) (constraints : List Constraint) (query : Query) (seen
 
   module _ (few_seen : seen.count ≤ 1_000_000) (small_seen : nat_abs seen.sum ≤ 2 ^ 83) (always : always_has_value query.agg ≡ true) (settled : Settled) (is : IsSettled u budget settled) (low high : Aim) (is_low : IsAim u query.agg budget Low low) (is_high : IsAim u query.agg budget High high)
       (low_among : IsAmong settled.found low.limit) (high_among : IsAmong settled.found high.limit)
-      (decided : AreDisjoint schema constraints → IsDecided settled.relation × IsReached (program_towards u query.agg Low) low.limit.most low.limit.found × IsReached (program_towards u query.agg High) high.limit.most high.limit.found) where
+      (decided : IsEasy schema constraints → IsDecided settled.relation × IsReached (program_towards u query.agg Low) low.limit.most low.limit.found × IsReached (program_towards u query.agg High) high.limit.most high.limit.found) where
     owes_from : (relation : Relation) (answer : Answer) → settled.relation ≡ relation → plain.is_impossible (plain_relation relation) ≡ false → IsBetween seen query.agg relation settled.found low high answer → Owes s budget answer
     owes_from relation answer same may between =
         let low_done = end_done schema constraints query seen nodes formed limited tree always budget settled.found is.lawful asking few_seen small_seen Low low is_low low_among between.low_end between.low_is in

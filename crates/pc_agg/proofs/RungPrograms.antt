@@ -9,7 +9,7 @@ use Rattle.pc_program_bound.specs.Allocation.{IsProgram}
 use Rattle.pc_program_bound.specs.CellPrograms.{cap_of, program_with}
 use Rattle.pc_simplex_tableau.specs.Numbers.{table}
 use Rattle.pc_branch.specs.Ends.{HasSmallGains}
-use Rattle.pc_program.specs.Settled.{HasOneBits}
+use Rattle.pc_branch.specs.Outcome.{IsEasyProgram}
 use Rattle.pc_cells.specs.declared.cells.Cell.{Cell}
 use Rattle.pc_cells.specs.Found.{class_of_cell}
 use Rattle.pc_proof.specs.Setting.{Setting, cells, on_chosen, counting, open_cap}
@@ -22,11 +22,11 @@ use Rattle.pc_agg_search.specs.Targets.{chosen_gain}
 use Rattle.pc_agg_search.specs.Keys.{key_of}
 use Rattle.pc_agg.specs.Rungs.{reaches, avoids, rung_program, program_at, IsLadder}
 use Rattle.pc_agg_search.specs.declared.problem.Problem.{Problem}
-use Rattle.pc_agg_search.specs.Problem.{IsEasy, IsPosed, setting_of}
+use Rattle.pc_agg_search.specs.Problem.{IsEasyProblem, IsPosed, setting_of}
 use Rattle.pc_agg_search.specs.Limits.{greatest_gain}
 use Rattle.pc_proof.proofs.Masks.{map_twice}
 use Rattle.pc_agg_search.proofs.ListedPrograms.{no_cell, table_mapped, gains_are, program_is, chosen_is}
-use Rattle.pc_agg_search.proofs.PosedPrograms.{own_classes, for_program, for_small, for_one_bits, without_program, without_small, without_one_bits}
+use Rattle.pc_agg_search.proofs.PosedPrograms.{own_classes, for_program, for_small, for_easy, without_program, without_small, without_easy}
 use Rattle.pc_agg_search.proofs.UnseenPrograms.{tested_small}
 
 gain_same : (chosen : Bool) (rung key : ℤ) → cond (chosen && int_le rung (cond chosen key (pos 0))) (pos 1) (pos 0) ≡ cond (chosen && int_le rung key) (pos 1) (pos 0)
@@ -117,9 +117,9 @@ module _ (problem : Problem) (posed : IsPosed problem) where
     rung_small Reach = for_small problem posed passing passing_small
     rung_small Avoid = without_small problem posed short_of
 
-    pub rung_one_bits : (test : Test) → IsEasy problem → HasOneBits (rung_program u extreme test key)
-    rung_one_bits Reach easy = for_one_bits problem posed passing passing_small easy
-    rung_one_bits Avoid easy = without_one_bits problem posed short_of easy
+    pub rung_easy : (test : Test) → IsEasyProblem problem → IsEasyProgram (rung_program u extreme test key)
+    rung_easy Reach easy = for_easy problem posed passing passing_small easy
+    rung_easy Avoid easy = without_easy problem posed short_of easy
 
   -- ---- the program of a rung
 
@@ -137,5 +137,5 @@ module _ (problem : Problem) (posed : IsPosed problem) where
       pub at_small : HasSmallGains p
       at_small = subst HasSmallGains (sym at_is) (rung_small ladder.extreme (int_at ladder.rungs place) ladder.test)
 
-      pub at_one_bits : IsEasy problem → HasOneBits p
-      at_one_bits easy = subst HasOneBits (sym at_is) (rung_one_bits ladder.extreme (int_at ladder.rungs place) ladder.test easy)
+      pub at_easy : IsEasyProblem problem → IsEasyProgram p
+      at_easy easy = subst IsEasyProgram (sym at_is) (rung_easy ladder.extreme (int_at ladder.rungs place) ladder.test easy)

@@ -12,7 +12,7 @@ use Rattle.pc_model.specs.declared.query.Folded.{Folded}
 use Rattle.pc_model.specs.declared.tree.CutNode.{CutNode}
 use Rattle.pc_model.specs.declared.tree.Tree.{Tree}
 use Rattle.pc_model.specs.Accepted.{AreConstraints}
-use Rattle.pc_model.specs.Membership.{AreDisjoint}
+use Rattle.pc_agg_search.specs.Easy.{IsEasy}
 use Rattle.pc_model.specs.WellFormed.{IsWellFormed}
 use Rattle.pc_model.specs.Cells.{IsSettledTree}
 use Rattle.pc_model.specs.Right.{always_has_value}
@@ -92,8 +92,8 @@ module _ (schema : Schema) (constraints : List Constraint) (query : Query) (seen
   -- a list of the first counts, and a lack that is known
   settled_over : (found : List (List ℕ)) (settled : Settled) (lack : Lack) → IsSettledOver u found settled → settled.lack ≡ lack → All (AreLawful u) found → IsUnlistedIfNone u budget found →
       plain.is_silent (plain_lack lack) ≡ false → HoldsLack s lack → LackSearched s budget lack → IsFitLack query.agg lack → All (IsThere found) (runs_of_lack lack) → ((answer : Answer) → ShownFrom s found answer → LicensedLack s budget answer lack) →
-      (AreDisjoint schema constraints → (0 < length found) × IsSettledLack lack) → (plain.is_always (plain_lack lack) ≡ false → CanGive s × MayGiveOne s budget found) → (lack ≡ lacks.Undecided → LeavesLack s budget found) →
-      (AreDisjoint schema constraints → plain.is_always (plain_lack lack) ≡ false → Any (IsGiving s) found) → OwesSettled s budget settled.relation settled.lack settled.found
+      (IsEasy schema constraints → (0 < length found) × IsSettledLack lack) → (plain.is_always (plain_lack lack) ≡ false → CanGive s × MayGiveOne s budget found) → (lack ≡ lacks.Undecided → LeavesLack s budget found) →
+      (IsEasy schema constraints → plain.is_always (plain_lack lack) ≡ false → Any (IsGiving s) found) → OwesSettled s budget settled.relation settled.lack settled.found
   settled_over found settled lack is same lawful totals silent holds searched fits from licensed sure gives open_lack surely =
       let owed =
       settled_with schema constraints query seen nodes formed limited tree budget asking found (relation_from is.picks found) lack lawful (relation_is u budget is.picks found is.rows totals)
@@ -107,7 +107,7 @@ module _ (schema : Schema) (constraints : List Constraint) (query : Query) (seen
   settled_lack_left lack found settled same = absurd (settled_lack lack settled same)
 
   pub owes_grounded : (observed : Bool) → IsObserving s observed → (ground : Grounded) (settled : Settled) → IsGrounded u observed budget ground →
-      (AreDisjoint schema constraints → IsGroundedSurely u observed ground) → IsSettledFrom u ground settled → OwesSettled s budget settled.relation settled.lack settled.found
+      (IsEasy schema constraints → IsGroundedSurely u observed ground) → IsSettledFrom u ground settled → OwesSettled s budget settled.relation settled.lack settled.found
   owes_grounded observed observing (grounded.Impossible why) settled is sure from =
       subst (λ (x : Settled). OwesSettled s budget x.relation x.lack x.found) (sym from)
       (settled_impossible schema constraints query seen nodes formed limited tree budget asking why is.0 is.1)

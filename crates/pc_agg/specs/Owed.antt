@@ -1,6 +1,6 @@
 -- What the answers of the calls owe.
 use Rattle.std.specs.Prelude.{◌≡◌, ℕ, ◌||◌, ◌⊎◌, true, false, ℤ, pos, ◌+ℤ◌, ◌≤ℤ◌, ◌<ℤ◌, List, [], All, Any, None}
-use Rattle.pc_model.specs.Membership.{AreDisjoint}
+use Rattle.pc_agg_search.specs.Easy.{IsEasy}
 use Rattle.pc_model.specs.Right.{always_has_value}
 use Rattle.pc_model.specs.Right as plain
 use Rattle.pc_model.specs.Cells.{Class}
@@ -20,9 +20,9 @@ use Rattle.pc_branch_licences.specs.Wanted.{some, without, LeavesOpen}
 use Rattle.pc_agg_search.specs.Fitting.{AreObserved, IsFitRelation, IsFitLack}
 use Rattle.pc_agg_search.specs.Wants.{most_chosen, fewest_chosen}
 
--- disjoint predicates leave nothing open
-abbrev pub DisjointIsSharp : Setting → Answer → Type 0
-DisjointIsSharp s answer = AreDisjoint s.question.schema s.question.constraints → IsSharp answer × IsSettledLack answer.lack
+-- where searches are easy, nothing is left open
+abbrev pub EasyIsSharp : Setting → Answer → Type 0
+EasyIsSharp s answer = IsEasy s.question.schema s.question.constraints → IsSharp answer × IsSettledLack answer.lack
 
 -- an answer that breaks no rule, in form where the observed rows are of the schema; what it leaves open is licensed at the budget,
 -- and its ends' trees are of a search
@@ -32,7 +32,7 @@ pub record Owes (s : Setting) (budget : ℕ) (answer : Answer) : Type 0 where
   pub licensed : IsLicensed s budget answer
   pub searched : AreSearched s budget answer
   pub formed : AreObserved s → IsFormedAnswer s.question.schema s.question.query.agg answer
-  pub sharp : DisjointIsSharp s answer
+  pub sharp : EasyIsSharp s answer
 
 -- the relation and the lack as an answer without ends
 abbrev pub answer_of : Relation → Lack → Answer
@@ -76,8 +76,8 @@ pub record OwesSettled (s : Setting) (budget : ℕ) (relation : Relation) (lack 
   pub lawful : All (AreLawful s) found
   pub shown : ShownFrom s found (answer_of relation lack)
   pub undecided : relation ≡ relations.Undecided → found ≡ []
-  pub sharp : AreDisjoint s.question.schema s.question.constraints → IsDecided relation × IsSettledLack lack
+  pub sharp : IsEasy s.question.schema s.question.constraints → IsDecided relation × IsSettledLack lack
   pub can_give : always_has_value s.question.query.agg ≡ false → HasEnds relation lack → CanGive s
   pub gives : always_has_value s.question.query.agg ≡ false → HasEnds relation lack → MayGiveOne s budget found
   pub open_lack : lack ≡ lacks.Undecided → LeavesLack s budget found
-  pub surely_gives : AreDisjoint s.question.schema s.question.constraints → always_has_value s.question.query.agg ≡ false → HasEnds relation lack → Any (IsGiving s) found
+  pub surely_gives : IsEasy s.question.schema s.question.constraints → always_has_value s.question.query.agg ≡ false → HasEnds relation lack → Any (IsGiving s) found

@@ -4,7 +4,7 @@ ghost use Rattle.pc_model.specs.Right.{always_has_value};
 ghost use Rattle.pc_agg_search.specs.declared.extreme.Extreme.TheVariants.{Low};
 ghost use Rattle.pc_agg_search.specs.Ends.{program_towards};
 ghost use Rattle.pc_agg_search.specs.Limits.{IsReached};
-ghost use Rattle.pc_agg_search.specs.Problem.{IsEasy, IsPosed, setting_of};
+ghost use Rattle.pc_agg_search.specs.Problem.{IsEasyProblem, IsPosed, setting_of};
 ghost use Rattle.pc_agg.specs.Marks.{AreAimed, AreAimedReached, IsAim, IsAimed, IsAimReached};
 
 use pc_agg_search::{Extreme, Limit, Problem, Sought, Targets, find_targets, seek};
@@ -48,7 +48,7 @@ pub(crate) fn aim_at_both(alloc: Global, problem: &Problem<'_>) -> Result<BothAi
     requires ungrouped { problem.now.query.now.group ≡ None }
     requires has_value { always_has_value problem.now.query.now.agg ≡ true }
     ensures aimed { IfOk result (AreAimed (setting_of problem.now) problem.now.query.now.agg problem.now.nodes) }
-    ensures disjoint { IsEasy problem.now → IfOk result (AreAimedReached (setting_of problem.now) problem.now.query.now.agg) }
+    ensures disjoint { IsEasyProblem problem.now → IfOk result (AreAimedReached (setting_of problem.now) problem.now.query.now.agg) }
 {
     let extreme = Extreme::Low;
     match aim_at(alloc, problem, extreme)? {
@@ -65,7 +65,7 @@ fn aim_on(alloc: Global, problem: &Problem<'_>, low: Aim) -> Result<BothAimed, M
     requires has_value { always_has_value problem.now.query.now.agg ≡ true }
     requires low { IsAim (setting_of problem.now) problem.now.query.now.agg problem.now.nodes Low low }
     ensures aimed { IfOk result (AreAimed (setting_of problem.now) problem.now.query.now.agg problem.now.nodes) }
-    ensures disjoint { IsEasy problem.now → IsReached (program_towards (setting_of problem.now) problem.now.query.now.agg Low) low.limit.most low.limit.found → IfOk result (AreAimedReached (setting_of problem.now) problem.now.query.now.agg) }
+    ensures disjoint { IsEasyProblem problem.now → IsReached (program_towards (setting_of problem.now) problem.now.query.now.agg Low) low.limit.most low.limit.found → IfOk result (AreAimedReached (setting_of problem.now) problem.now.query.now.agg) }
 {
     let extreme = Extreme::High;
     match aim_at(alloc, problem, extreme)? {
@@ -85,7 +85,7 @@ pub(crate) fn aim_at(
     requires ungrouped { problem.now.query.now.group ≡ None }
     requires has_value { always_has_value problem.now.query.now.agg ≡ true }
     ensures aimed { IfOk result (IsAimed (setting_of problem.now) problem.now.query.now.agg problem.now.nodes extreme) }
-    ensures disjoint { IsEasy problem.now → IfOk result (IsAimReached (setting_of problem.now) problem.now.query.now.agg extreme) }
+    ensures disjoint { IsEasyProblem problem.now → IfOk result (IsAimReached (setting_of problem.now) problem.now.query.now.agg extreme) }
 {
     let targets = find_targets(alloc, problem, extreme)?;
     let Targets { gains, picks } = targets;

@@ -8,7 +8,7 @@ ghost use Rattle.pc_agg.specs.Marks.{AreAims, AreAimsReached, IsAmong};
 ghost use Rattle.pc_agg.specs.Settling.{IsSettled};
 ghost use Rattle.pc_agg_search.specs.Limits.{found_of};
 ghost use Rattle.pc_agg_search.specs.Asked.{AreAsked, Asking, setting_for};
-ghost use Rattle.pc_agg_search.specs.Problem.{IsEasy, IsPosed, setting_of};
+ghost use Rattle.pc_agg_search.specs.Problem.{IsEasyProblem, IsPosed, setting_of};
 ghost use Rattle.pc_agg_search.specs.Posing.{AskingOf, IsAsked, answered_setting};
 ghost use Rattle.pc_agg.specs.Owed.{Owes};
 
@@ -91,11 +91,11 @@ fn bound(alloc: Global, problem: &Problem<'_>, seen: &Folded) -> Result<Answer, 
 fn settle_over(alloc: Global, problem: &Problem<'_>, aims: &Aims) -> Result<Settled, Memory>
     requires posed { IsPosed problem.now }
     requires aims { AreAims (setting_of problem.now) problem.now.query.now.agg problem.now.nodes aims.now }
-    requires reached { IsEasy problem.now → AreAimsReached (setting_of problem.now) problem.now.query.now.agg aims.now }
+    requires reached { IsEasyProblem problem.now → AreAimsReached (setting_of problem.now) problem.now.query.now.agg aims.now }
     ensures settled { IfOk result (IsSettled (setting_of problem.now) problem.now.nodes) }
     ensures low { IfOk result (λ settled. IsAmong settled.found aims.now.low.limit) }
     ensures high { IfOk result (λ settled. IsAmong settled.found aims.now.high.limit) }
-    ensures disjoint { IsEasy problem.now → IfOk result (λ settled. IsDecided settled.relation) }
+    ensures disjoint { IsEasyProblem problem.now → IfOk result (λ settled. IsDecided settled.relation) }
 {
     let found = found_by(alloc, &aims.low.limit, &aims.high.limit)?;
     if !found.is_empty() {

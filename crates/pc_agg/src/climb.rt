@@ -2,7 +2,7 @@ ghost use Rattle.std.specs.Prelude.{◌≡◌, ℕ, ◌<◌, List, All, IfOk, le
 ghost use Rattle.pc_branch_licences.specs.Pools.{AreLawful};
 ghost use Rattle.pc_agg.specs.Climbing.{above, narrowed, IsSpan, IsHalved, IsSureSpan, IsSureHalf};
 ghost use Rattle.pc_agg.specs.Rungs.{program_at, IsLadder, IsClimbed, IsClimbedSurely};
-ghost use Rattle.pc_agg_search.specs.Problem.{IsEasy, IsPosed, setting_of};
+ghost use Rattle.pc_agg_search.specs.Problem.{IsEasyProblem, IsPosed, setting_of};
 
 use crate::ladder::{Ladder, Test};
 use crate::rungs::program_at;
@@ -41,7 +41,7 @@ pub(crate) fn climb(
     requires some { 0 < length ladder.now.rungs }
     requires lawful { All (AreLawful (setting_of problem.now)) found }
     ensures climbed { IfOk result (IsClimbed (setting_of problem.now) problem.now.nodes ladder.now want found) }
-    ensures disjoint { IsEasy problem.now → IfOk result (IsClimbedSurely (setting_of problem.now) ladder.now want) }
+    ensures disjoint { IsEasyProblem problem.now → IfOk result (IsClimbedSurely (setting_of problem.now) ladder.now want) }
 {
     let mut span = Span {
         from: 0,
@@ -105,7 +105,7 @@ fn halve(
     requires inside { span.to < length ladder.now.rungs }
     requires lawful { All (AreLawful (setting_of problem.now)) span.found }
     ensures halved { IfOk result (λ halved. (found : List (List ℕ)) → IsSpan (setting_of problem.now) problem.now.nodes ladder.now want found span → IsHalved (setting_of problem.now) problem.now.nodes ladder.now want found span halved) }
-    ensures disjoint { IsEasy problem.now → IfOk result (λ halved. IsSureSpan (setting_of problem.now) ladder.now want span → IsSureHalf (setting_of problem.now) ladder.now want halved) }
+    ensures disjoint { IsEasyProblem problem.now → IfOk result (λ halved. IsSureSpan (setting_of problem.now) ladder.now want span → IsSureHalf (setting_of problem.now) ladder.now want halved) }
 {
     let Span {
         from,

@@ -7,7 +7,7 @@ ghost use Rattle.pc_agg.specs.Extremes.{agg_of, key_at, pair_at, seen_number, te
 ghost use Rattle.pc_agg_search.specs.Wants.{most_chosen, want_for};
 ghost use Rattle.pc_agg.specs.Grounds.{HasValues};
 ghost use Rattle.pc_agg.specs.Owed.{Owes};
-ghost use Rattle.pc_agg_search.specs.Problem.{IsEasy, IsPosed, setting_of};
+ghost use Rattle.pc_agg_search.specs.Problem.{IsEasyProblem, IsPosed, setting_of};
 ghost use Rattle.pc_agg_search.specs.Posing.{AskingOf, IsAsked, answered_setting};
 ghost use Rattle.pc_agg_search.specs.Wants.{IsDoubt, IsFound};
 
@@ -135,7 +135,7 @@ fn stand_both(
     requires lawful { All (AreLawful (setting_of problem.now)) found }
     requires doubt { IsDoubt (most_chosen (setting_of problem.now)) (want_for (is_some number)) problem.now.nodes found }
     ensures pair { IfOk result (IsPair (setting_of problem.now) problem.now.nodes far number found) }
-    ensures disjoint { IsEasy problem.now → 0 < length found → Any (IsFound (most_chosen (setting_of problem.now)) (want_for (is_some number))) found → IfOk result IsPairSurely }
+    ensures disjoint { IsEasyProblem problem.now → 0 < length found → Any (IsFound (most_chosen (setting_of problem.now)) (want_for (is_some number))) found → IfOk result IsPairSurely }
 {
     let stood = search_end(
         alloc,

@@ -1,12 +1,12 @@
 ghost use Rattle.std.specs.Prelude.{◌≡◌, ◌<◌, ◌≤◌, true, false, All, Any, IfOk, IsTrue, length};
 ghost use Rattle.pc_cells.specs.declared.cells.Cell.{Cell};
 ghost use Rattle.pc_program_bound.specs.Allocation.{IsProgram};
-ghost use Rattle.pc_program.specs.Settled.{HasOneBits};
+ghost use Rattle.pc_branch.specs.Outcome.{IsEasyProgram};
 ghost use Rattle.pc_branch.specs.Ends.{HasSmallGains};
 ghost use Rattle.pc_branch_licences.specs.Pools.{AreLawful};
 ghost use Rattle.pc_agg_search.specs.Wants.{want_for, IsMet, IsProbed, IsSure};
 ghost use Rattle.pc_agg.specs.Grounds.{HasValues, IsGrounded, IsGroundedSurely, IsLacking, IsLackingSurely, IsUnlistedIfNone};
-ghost use Rattle.pc_agg_search.specs.Problem.{IsEasy, IsPosed, setting_of};
+ghost use Rattle.pc_agg_search.specs.Problem.{IsEasyProblem, IsPosed, setting_of};
 
 use crate::settling::{Settled, settle_totals};
 use pc_agg_search::{
@@ -50,7 +50,7 @@ pub(crate) fn ground(
 ) -> Result<Grounded, Memory>
     requires posed { IsPosed problem.now }
     ensures grounded { IfOk result (IsGrounded (setting_of problem.now) observed problem.now.nodes) }
-    ensures disjoint { IsEasy problem.now → IfOk result (IsGroundedSurely (setting_of problem.now) observed) }
+    ensures disjoint { IsEasyProblem problem.now → IfOk result (IsGroundedSurely (setting_of problem.now) observed) }
 {
     let Settled {
         relation,
@@ -77,7 +77,7 @@ fn ground_unseen(
     requires lawful { All (AreLawful (setting_of problem.now)) found }
     requires totals { IsUnlistedIfNone (setting_of problem.now) problem.now.nodes found }
     ensures grounded { IfOk result (IsGrounded (setting_of problem.now) false problem.now.nodes) }
-    ensures disjoint { IsEasy problem.now → 0 < length found → IfOk result (IsGroundedSurely (setting_of problem.now) false) }
+    ensures disjoint { IsEasyProblem problem.now → 0 < length found → IfOk result (IsGroundedSurely (setting_of problem.now) false) }
 {
     if !has_chosen(problem.cells) {
         let tree = flat_tree(alloc, problem.constraints.len())?;
@@ -120,7 +120,7 @@ fn ground_most(
     requires totals { IsUnlistedIfNone (setting_of problem.now) problem.now.nodes found }
     requires lacking { IsLacking (setting_of problem.now) observed problem.now.nodes found lacking }
     ensures grounded { IfOk result (IsGrounded (setting_of problem.now) observed problem.now.nodes) }
-    ensures disjoint { IsEasy problem.now → 0 < length found → IsLackingSurely (setting_of problem.now) found lacking → IfOk result (IsGroundedSurely (setting_of problem.now) observed) }
+    ensures disjoint { IsEasyProblem problem.now → 0 < length found → IsLackingSurely (setting_of problem.now) found lacking → IfOk result (IsGroundedSurely (setting_of problem.now) observed) }
 {
     let most = chosen_program(alloc, problem, 1)?;
     let want = want_for(observed);
@@ -146,7 +146,7 @@ fn probe_once(
     requires met { All (IsMet program) found }
     requires nodes { (1 ≤ nodes) × (nodes ≤ 100_000) }
     ensures probed { IfOk result (IsProbed program want nodes found) }
-    ensures disjoint { HasOneBits program → IfOk result (IsSure program want) }
+    ensures disjoint { IsEasyProgram program → IfOk result (IsSure program want) }
 {
     probe(alloc, &program, want, found, nodes)
 }

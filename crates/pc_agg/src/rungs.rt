@@ -3,13 +3,13 @@ ghost use Rattle.pc_program_bound.specs.Allocation.{IsProgram};
 ghost use Rattle.pc_program_bound.specs.Sums.{int_at};
 ghost use Rattle.pc_program_bound.specs.CellPrograms.{program_with};
 ghost use Rattle.pc_branch.specs.Ends.{HasSmallGains};
-ghost use Rattle.pc_program.specs.Settled.{HasOneBits};
+ghost use Rattle.pc_branch.specs.Outcome.{IsEasyProgram};
 ghost use Rattle.pc_simplex_tableau.specs.Numbers.{table};
 ghost use Rattle.pc_cells.specs.Found.{class_of_cell};
 ghost use Rattle.pc_agg.specs.Keyed.{reach_gain, avoid_cap, with_closed, tested_program};
 ghost use Rattle.pc_agg_search.specs.Targets.{chosen_gain};
 ghost use Rattle.pc_agg.specs.Rungs.{program_at, IsLadder};
-ghost use Rattle.pc_agg_search.specs.Problem.{IsEasy, IsPosed, setting_of};
+ghost use Rattle.pc_agg_search.specs.Problem.{IsEasyProblem, IsPosed, setting_of};
 
 use crate::ladder::{Ladder, Test};
 use pc_agg_search::{Problem, chosen_gains, program_of};
@@ -33,7 +33,7 @@ pub(crate) fn program_at(
     ensures program { IfOk result (λ p. p ≡ program_at (setting_of problem.now) ladder.now place) }
     ensures is_program { IfOk result IsProgram }
     ensures small { IfOk result HasSmallGains }
-    ensures disjoint { IsEasy problem.now → IfOk result HasOneBits }
+    ensures disjoint { IsEasyProblem problem.now → IfOk result IsEasyProgram }
 {
     tested(alloc, problem.constraints, problem.cells, ladder, place)
 }

@@ -9,7 +9,7 @@ ghost use Rattle.pc_proof.specs.declared.answer.Relation.TheVariants as relation
 ghost use Rattle.pc_proof.specs.declared.answer.Lack.TheVariants as lacks;
 ghost use Rattle.pc_proof.specs.Unbroken.{IsDecided};
 ghost use Rattle.pc_branch_licences.specs.Pools.{AreLawful};
-ghost use Rattle.pc_agg_search.specs.Problem.{IsEasy, IsPosed, setting_of};
+ghost use Rattle.pc_agg_search.specs.Problem.{IsEasyProblem, IsPosed, setting_of};
 ghost use Rattle.pc_agg_search.specs.declared.limit.Limit.{Limit};
 ghost use Rattle.pc_agg.specs.declared.settling.Total.TheVariants as totals;
 ghost use Rattle.pc_agg.specs.Settling.{AreOpenTotals, IsLimitOfGain, IsSettled, IsTotal, IsTotalDecided, IsTotalOf, left_open, settled_after};
@@ -50,9 +50,9 @@ pub(crate) fn settle_open(
     requires posed { IsPosed problem.now }
     requires low { IsLimitOfGain (setting_of problem.now) problem.now.nodes low.now }
     requires high { IsLimitOfGain (setting_of problem.now) problem.now.nodes high.now }
-    requires closed { IsEasy problem.now → low.now.found ≡ None → ⊥ }
+    requires closed { IsEasyProblem problem.now → low.now.found ≡ None → ⊥ }
     ensures settled { IfOk result (IsSettled (setting_of problem.now) problem.now.nodes) }
-    ensures disjoint { IsEasy problem.now → IfOk result (λ settled. IsDecided settled.relation) }
+    ensures disjoint { IsEasyProblem problem.now → IfOk result (λ settled. IsDecided settled.relation) }
 {
     if are_open_totals(low, high) {
         return Ok(undecided(alloc));
@@ -99,7 +99,7 @@ fn undecided(alloc: Global) -> Settled
 pub(crate) fn settle_totals(alloc: Global, problem: &Problem<'_>) -> Result<Settled, Memory>
     requires posed { IsPosed problem.now }
     ensures settled { IfOk result (IsSettled (setting_of problem.now) problem.now.nodes) }
-    ensures disjoint { IsEasy problem.now → IfOk result (λ settled. IsDecided settled.relation) }
+    ensures disjoint { IsEasyProblem problem.now → IfOk result (λ settled. IsDecided settled.relation) }
 {
     let most = match find_total(alloc, problem, 1)? {
         Total::Settled(settled) => return Ok(settled),
@@ -126,7 +126,7 @@ fn find_total(alloc: Global, problem: &Problem<'_>, gain: i128) -> Result<Total,
     requires posed { IsPosed problem.now }
     requires one { (gain ≡ pos 1) ⊎ (gain ≡ neg_ℤ (pos 1)) }
     ensures total { IfOk result (IsTotal (setting_of problem.now) problem.now.nodes (program_for (setting_of problem.now) (λ _. gain))) }
-    ensures disjoint { IsEasy problem.now → IfOk result IsTotalDecided }
+    ensures disjoint { IsEasyProblem problem.now → IfOk result IsTotalDecided }
 {
     let gains = equal_gains(alloc, problem.cells.cells.len(), gain)?;
     match seek(alloc, problem, gains)? {

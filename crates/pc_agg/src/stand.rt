@@ -4,7 +4,7 @@ ghost use Rattle.pc_branch_licences.specs.Pools.{AreLawful};
 ghost use Rattle.pc_agg_search.specs.Wants.{most_chosen, want_for};
 ghost use Rattle.pc_agg.specs.Grounds.{HasValues};
 ghost use Rattle.pc_agg.specs.Rungs.{IsLadder};
-ghost use Rattle.pc_agg_search.specs.Problem.{IsEasy, IsPosed, setting_of};
+ghost use Rattle.pc_agg_search.specs.Problem.{IsEasyProblem, IsPosed, setting_of};
 ghost use Rattle.pc_agg.specs.Stands.{is_observed, proof_of, want_at, IsAttaining, IsStood, IsStoodOn, IsStoodSurely};
 ghost use Rattle.pc_agg_search.specs.Wants.{IsDoubt, IsFound};
 
@@ -62,7 +62,7 @@ pub(crate) fn search_end(
     requires doubt { IsDoubt (most_chosen (setting_of problem.now)) (want_for (is_some seen)) problem.now.nodes found }
     requires small_seen { IfSome seen (λ m. nat_abs m ≤ 2 ^ 63) }
     ensures stood { IfOk result (IsStood (setting_of problem.now) problem.now.nodes extreme test seen found) }
-    ensures disjoint { IsEasy problem.now → 0 < length found → Any (IsFound (most_chosen (setting_of problem.now)) (want_for (is_some seen))) found → IfOk result IsStoodSurely }
+    ensures disjoint { IsEasyProblem problem.now → 0 < length found → Any (IsFound (most_chosen (setting_of problem.now)) (want_for (is_some seen))) found → IfOk result IsStoodSurely }
 {
     let Targets { gains, picks } = find_keys(alloc, problem, extreme)?;
     let observed = seen.is_some();

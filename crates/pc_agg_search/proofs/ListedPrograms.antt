@@ -9,16 +9,16 @@ use Rattle.pc_program_bound.specs.CellPrograms.{program_with}
 use Rattle.pc_simplex_tableau.specs.Numbers.{table}
 use Rattle.pc_simplex_tableau.proofs.Listed.{length-table, at-table}
 use Rattle.pc_branch.specs.Ends.{HasSmallGains}
-use Rattle.pc_program.specs.Settled.{HasOneBits}
+use Rattle.pc_branch.specs.Outcome.{IsEasyProgram}
 use Rattle.pc_cells.specs.declared.cells.Cell.{Cell}
 use Rattle.pc_cells.specs.Found.{class_of_cell}
 use Rattle.pc_proof.specs.Setting.{Setting, cells, on_chosen, program_for}
 use Rattle.pc_agg_search.specs.declared.problem.Problem.{Problem}
 use Rattle.pc_agg_search.specs.Limits.{greatest_gain}
-use Rattle.pc_agg_search.specs.Problem.{IsEasy, IsPosed, setting_of}
+use Rattle.pc_agg_search.specs.Problem.{IsEasyProblem, IsPosed, setting_of}
 use Rattle.pc_agg_search.specs.Targets.{chosen_gain}
 use Rattle.pc_proof.proofs.Masks.{map_twice}
-use Rattle.pc_agg_search.proofs.PosedPrograms.{own_classes, for_program, for_small, for_one_bits}
+use Rattle.pc_agg_search.proofs.PosedPrograms.{own_classes, for_program, for_small, for_easy}
 use Rattle.pc_agg_search.proofs.UnseenPrograms.{tested_small}
 
 abbrev pub no_cell : Cell
@@ -78,8 +78,8 @@ module _ (problem : Problem) (posed : IsPosed problem) where
       pub chosen_small : HasSmallGains p
       chosen_small = subst HasSmallGains (sym chosen_for) (for_small problem posed (on_chosen (λ class. gain)) each_small)
 
-      pub chosen_one_bits : IsEasy problem → HasOneBits p
-      chosen_one_bits easy = subst HasOneBits (sym chosen_for) (for_one_bits problem posed (on_chosen (λ class. gain)) each_small easy)
+      pub chosen_easy : IsEasyProblem problem → IsEasyProgram p
+      chosen_easy easy = subst IsEasyProgram (sym chosen_for) (for_easy problem posed (on_chosen (λ class. gain)) each_small easy)
 
   -- ---- and in all cells
 
@@ -94,5 +94,5 @@ module _ (problem : Problem) (posed : IsPosed problem) where
       pub even_small : HasSmallGains p
       even_small = subst HasSmallGains (sym even_for) (for_small problem posed (λ class. gain) (λ class. small))
 
-      pub even_one_bits : IsEasy problem → HasOneBits p
-      even_one_bits easy = subst HasOneBits (sym even_for) (for_one_bits problem posed (λ class. gain) (λ class. small) easy)
+      pub even_easy : IsEasyProblem problem → IsEasyProgram p
+      even_easy easy = subst IsEasyProgram (sym even_for) (for_easy problem posed (λ class. gain) (λ class. small) easy)

@@ -8,7 +8,7 @@ use Rattle.pc_program_bound.specs.Sums.{nat_at, int_at}
 use Rattle.pc_program_bound.specs.Allocation.{cells_of, IsProgram}
 use Rattle.pc_program_bound.proofs.SumBelow.{sum_below_mono}
 use Rattle.pc_branch.specs.Ends.{HasSmallGains}
-use Rattle.pc_program.specs.Settled.{HasOneBits}
+use Rattle.pc_branch.specs.Outcome.{IsEasyProgram}
 
 product_less : (g a b : ℕ) → a ≤ b → (pos g *ℤ pos a) ≤ℤ (pos g *ℤ pos b)
 product_less g a b less =
@@ -39,5 +39,5 @@ module _ (p : Program) (caps : List ℕ) (lower : (i : ℕ) → i < cells_of p �
       let whole = small.sum in
       record { gains = small.gains; sum = omega (arith, ints, less, whole) }
 
-  pub lowered_one_bits : HasOneBits p → HasOneBits lowered
-  lowered_one_bits bits = record { bit_of = bits.bit_of; only = bits.only; two = bits.two; floors = bits.floors; small = bits.small; few = bits.few }
+  pub lowered_easy : IsEasyProgram p → IsEasyProgram lowered
+  lowered_easy bits = record { bit_of = bits.bit_of; only = bits.only; two = bits.two; floors = bits.floors; small = bits.small; few = bits.few }

@@ -6,13 +6,13 @@ use Rattle.pc_program_bound.specs.declared.program.Program.{Program}
 use Rattle.pc_program_bound.specs.Allocation.{IsProgram}
 use Rattle.pc_program_bound.specs.CellPrograms.{program_with}
 use Rattle.pc_branch.specs.Ends.{HasSmallGains}
-use Rattle.pc_program.specs.Settled.{HasOneBits}
+use Rattle.pc_branch.specs.Outcome.{IsEasyProgram}
 use Rattle.pc_cells.specs.Found.{class_of_cell}
 use Rattle.pc_proof.specs.Setting.{cells, program_for, program_without}
 use Rattle.pc_agg_search.specs.declared.problem.Problem.{Problem}
 use Rattle.pc_agg_search.specs.Limits.{greatest_gain}
-use Rattle.pc_agg_search.specs.Problem.{IsEasy, IsPosed, gained_program, setting_of}
-use Rattle.pc_agg_search.proofs.SettledPrograms.{classes_are, cells_program, cells_small, cells_one_bits, program_is}
+use Rattle.pc_agg_search.specs.Problem.{IsEasyProblem, IsPosed, gained_program, setting_of}
+use Rattle.pc_agg_search.proofs.SettledPrograms.{classes_are, cells_program, cells_small, cells_easy, program_is}
 use Rattle.pc_agg_search.proofs.UnseenPrograms as unseens
 
 module _ (problem : Problem) (posed : IsPosed problem) where
@@ -39,9 +39,9 @@ module _ (problem : Problem) (posed : IsPosed problem) where
             cells_small problem.schema.now problem.constraints.now problem.query.now.chosen problem.cells.now.tree.nodes problem.cells.now.cells gains posed.formed posed.found.tree posed.found.listed p is
             posed.limited sized small
 
-        pub gained_one_bits : IsEasy problem → HasOneBits p
-        gained_one_bits easy =
-            cells_one_bits problem.schema.now problem.constraints.now problem.query.now.chosen problem.cells.now.tree.nodes problem.cells.now.cells gains posed.formed posed.found.tree posed.found.listed p is
+        pub gained_easy : IsEasyProblem problem → IsEasyProgram p
+        gained_easy easy =
+            cells_easy problem.schema.now problem.constraints.now problem.query.now.chosen problem.cells.now.tree.nodes problem.cells.now.cells gains posed.formed posed.found.tree posed.found.listed p is
             posed.limited easy sized small
 
   -- ---- a gain by class
@@ -54,8 +54,8 @@ module _ (problem : Problem) (posed : IsPosed problem) where
       pub for_small : HasSmallGains (program_for (setting_of problem) gain)
       for_small = unseens.for_small problem.schema.now problem.constraints.now problem.query.now problem.cells.now.tree.nodes posed.formed posed.limited posed.found.tree gain small
 
-      pub for_one_bits : IsEasy problem → HasOneBits (program_for (setting_of problem) gain)
-      for_one_bits easy = unseens.for_one_bits problem.schema.now problem.constraints.now problem.query.now problem.cells.now.tree.nodes posed.formed posed.limited posed.found.tree gain small easy
+      pub for_easy : IsEasyProblem problem → IsEasyProgram (program_for (setting_of problem) gain)
+      for_easy easy = unseens.for_easy problem.schema.now problem.constraints.now problem.query.now problem.cells.now.tree.nodes posed.formed posed.limited posed.found.tree gain small easy
 
   -- ---- chosen cells that are closed
 
@@ -66,5 +66,5 @@ module _ (problem : Problem) (posed : IsPosed problem) where
     pub without_small : HasSmallGains (program_without (setting_of problem) closed)
     without_small = unseens.without_small problem.schema.now problem.constraints.now problem.query.now problem.cells.now.tree.nodes posed.formed posed.limited posed.found.tree closed
 
-    pub without_one_bits : IsEasy problem → HasOneBits (program_without (setting_of problem) closed)
-    without_one_bits easy = unseens.without_one_bits problem.schema.now problem.constraints.now problem.query.now problem.cells.now.tree.nodes posed.formed posed.limited posed.found.tree closed easy
+    pub without_easy : IsEasyProblem problem → IsEasyProgram (program_without (setting_of problem) closed)
+    without_easy easy = unseens.without_easy problem.schema.now problem.constraints.now problem.query.now problem.cells.now.tree.nodes posed.formed posed.limited posed.found.tree closed easy

@@ -8,7 +8,7 @@ use Rattle.pc_model.specs.declared.region.Region.{Region}
 use Rattle.pc_model.specs.declared.constraint.Constraint.{Constraint}
 use Rattle.pc_model.specs.declared.tree.CutNode.{CutNode}
 use Rattle.pc_model.specs.Accepted.{AreConstraints}
-use Rattle.pc_model.specs.Membership.{AreDisjoint}
+use Rattle.pc_agg_search.specs.Easy.{IsEasy}
 use Rattle.pc_model.specs.Places.{has_bit}
 use Rattle.pc_model.specs.WellFormed.{IsWellFormed}
 use Rattle.pc_model.specs.Cells.{Class, HasRowOf, IsSettledTree, classes_of, leaves_in}
@@ -16,7 +16,8 @@ use Rattle.pc_cells_laws.proofs.Cells.{classes_of-differ}
 use Rattle.pc_cells_laws.proofs.SettledTrees.{classes_of_tree}
 use Rattle.pc_program_bound.specs.declared.program.Program.{Program}
 use Rattle.pc_program_bound.specs.Allocation.{IsProgram}
-use Rattle.pc_program.specs.Settled.{is_in, HasOneBits}
+use Rattle.pc_program.specs.Settled.{is_in}
+use Rattle.pc_branch.specs.Outcome.{IsEasyProgram}
 use Rattle.pc_program_bound.specs.Bound.{HasFitWidth}
 use Rattle.pc_branch.specs.Ends.{HasSmallGains}
 use Rattle.pc_branch.specs.Licence.{no_multipliers}
@@ -33,7 +34,7 @@ use Rattle.pc_agg_search.proofs.ProgramEnds.{is_program}
 
 -- ---- of classes with rows that differ
 
-module _ (schema : Schema) (constraints : List Constraint) (chosen : Region) (classes : List Class) (gains : List ℤ) (disjoint : AreDisjoint schema constraints)
+module _ (schema : Schema) (constraints : List Constraint) (chosen : Region) (classes : List Class) (gains : List ℤ) (disjoint : IsEasy schema constraints)
     (rows : All (HasRowOf schema constraints chosen) classes) (differ : AllPairs Differ classes) where
   abbrev program : Program
   program = program_with constraints classes gains
@@ -41,8 +42,8 @@ module _ (schema : Schema) (constraints : List Constraint) (chosen : Region) (cl
   in_class : (i k : ℕ) → i < length classes → is_in program i k ≡ has_bit (get_or classes i no_class).mask k
   in_class i k h = ap (λ mask. has_bit mask k) (mask_is constraints classes gains i h)
 
-  has_one_bits : AreConstraints schema constraints → length gains ≡ length classes → All (λ gain. nat_abs gain ≤ greatest_gain) gains → HasOneBits program
-  has_one_bits are sized small = record {
+  is_easy : AreConstraints schema constraints → length gains ≡ length classes → All (λ gain. nat_abs gain ≤ greatest_gain) gains → IsEasyProgram program
+  is_easy are sized small = record {
     bit_of = λ i h.
         let there = inside i h in
         let bit = (cell_bit schema constraints chosen classes disjoint rows differ i there).bit_of in
@@ -82,11 +83,11 @@ module _ (schema : Schema) (constraints : List Constraint) (chosen : Region) (no
   pub cells_program : (p : Program) → p ≡ program_with constraints (map class_of_cell cells) gains → AreConstraints schema constraints → length gains ≡ length cells → IsProgram p
   cells_program p is are sized = subst IsProgram (sym is) (is_program constraints (map class_of_cell cells) gains schema are (sized_classes sized))
 
-  pub cells_one_bits : (p : Program) → p ≡ program_with constraints (map class_of_cell cells) gains → AreConstraints schema constraints → AreDisjoint schema constraints
-      → length gains ≡ length cells → All (λ gain. nat_abs gain ≤ greatest_gain) gains → HasOneBits p
-  cells_one_bits p is are disjoint sized small =
-      subst HasOneBits (sym is)
-      (has_one_bits schema constraints chosen (map class_of_cell cells) gains disjoint (subst (All (HasRowOf schema constraints chosen)) (sym classes_are) (have_rows schema constraints chosen nodes formed tree))
+  pub cells_easy : (p : Program) → p ≡ program_with constraints (map class_of_cell cells) gains → AreConstraints schema constraints → IsEasy schema constraints
+      → length gains ≡ length cells → All (λ gain. nat_abs gain ≤ greatest_gain) gains → IsEasyProgram p
+  cells_easy p is are disjoint sized small =
+      subst IsEasyProgram (sym is)
+      (is_easy schema constraints chosen (map class_of_cell cells) gains disjoint (subst (All (HasRowOf schema constraints chosen)) (sym classes_are) (have_rows schema constraints chosen nodes formed tree))
       (subst (AllPairs Differ) (sym classes_are) (classes_of-differ (leaves_in schema nodes))) are (sized_classes sized) small)
 
   pub cells_small : (p : Program) → p ≡ program_with constraints (map class_of_cell cells) gains → AreConstraints schema constraints

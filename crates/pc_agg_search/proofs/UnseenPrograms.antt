@@ -9,7 +9,7 @@ use Rattle.pc_model.specs.declared.constraint.Constraint.{Constraint}
 use Rattle.pc_model.specs.declared.query.Query.{Query}
 use Rattle.pc_model.specs.declared.tree.CutNode.{CutNode}
 use Rattle.pc_model.specs.Accepted.{AreConstraints}
-use Rattle.pc_model.specs.Membership.{AreDisjoint}
+use Rattle.pc_agg_search.specs.Easy.{IsEasy}
 use Rattle.pc_model.specs.WellFormed.{IsWellFormed}
 use Rattle.pc_model.specs.Cells.{Class, IsSettledTree, leaves_in}
 use Rattle.pc_program_bound.specs.declared.program.Program.{Program}
@@ -19,13 +19,13 @@ use Rattle.pc_program_bound.specs.Allocation as allocations
 use Rattle.pc_program_bound.specs.CellPrograms.{cap_of, program_with}
 use Rattle.pc_program_bound.proofs.CellPlaces.{no_class, cell_inside, cap_is, floor_is}
 use Rattle.pc_branch.specs.Ends.{HasSmallGains}
-use Rattle.pc_program.specs.Settled.{HasOneBits}
+use Rattle.pc_branch.specs.Outcome.{IsEasyProgram}
 use Rattle.pc_cells.specs.Found.{class_of_cell, cell_of, cells_of}
 use Rattle.pc_proof.specs.Setting.{Setting, cells, on_chosen, open_cap, program_for, program_without}
 use Rattle.pc_agg_search.specs.Settings.{unseen}
 use Rattle.pc_agg_search.specs.Limits.{greatest_gain}
-use Rattle.pc_agg_search.proofs.LoweredCaps.{lowered_program, lowered_small, lowered_one_bits}
-use Rattle.pc_agg_search.proofs.SettledPrograms.{cells_program, cells_small, cells_one_bits, program_is}
+use Rattle.pc_agg_search.proofs.LoweredCaps.{lowered_program, lowered_small, lowered_easy}
+use Rattle.pc_agg_search.proofs.SettledPrograms.{cells_program, cells_small, cells_easy, program_is}
 
 -- a gain where a test passes, and else 0
 pub tested_small : (n : ℕ) (test : Bool) (x : ℤ) → nat_abs x ≤ n → nat_abs (cond test x (pos 0)) ≤ n
@@ -63,8 +63,8 @@ module _ (schema : Schema) (constraints : List Constraint) (query : Query) (node
       pub for_small : HasSmallGains (program_for u gain)
       for_small = cells_small schema constraints query.chosen nodes (cells_of (leaves_in schema nodes)) gains formed tree refl (program_for u gain) same are sized all_small
 
-      pub for_one_bits : AreDisjoint schema constraints → HasOneBits (program_for u gain)
-      for_one_bits disjoint = cells_one_bits schema constraints query.chosen nodes (cells_of (leaves_in schema nodes)) gains formed tree refl (program_for u gain) same are disjoint sized all_small
+      pub for_easy : IsEasy schema constraints → IsEasyProgram (program_for u gain)
+      for_easy disjoint = cells_easy schema constraints query.chosen nodes (cells_of (leaves_in schema nodes)) gains formed tree refl (program_for u gain) same are disjoint sized all_small
 
   -- ---- chosen cells that are closed
 
@@ -95,5 +95,5 @@ module _ (schema : Schema) (constraints : List Constraint) (query : Query) (node
     pub without_small : HasSmallGains (program_without u closed)
     without_small = lowered_small p caps lower (for_small (on_chosen (λ class. pos 1)) one_small)
 
-    pub without_one_bits : AreDisjoint schema constraints → HasOneBits (program_without u closed)
-    without_one_bits disjoint = lowered_one_bits p caps lower (for_one_bits (on_chosen (λ class. pos 1)) one_small disjoint)
+    pub without_easy : IsEasy schema constraints → IsEasyProgram (program_without u closed)
+    without_easy disjoint = lowered_easy p caps lower (for_easy (on_chosen (λ class. pos 1)) one_small disjoint)

@@ -1,4 +1,5 @@
 pub mod Asked
+pub mod Easy
 pub mod Ends
 pub mod Fitting
 pub mod Flat

@@ -1,7 +1,7 @@
 -- What a query is asked over, and what its cells alone say.
 use Rattle.std.specs.Prelude.{◌≤◌, ℤ, List}
 use Rattle.pc_model.specs.Accepted.{AreConstraints}
-use Rattle.pc_model.specs.Membership.{AreDisjoint}
+use Rattle.pc_agg_search.specs.Easy.{IsEasy}
 use Rattle.pc_model.specs.WellFormed.{IsWellFormed}
 use Rattle.pc_program_bound.specs.declared.program.Program.{Program}
 use Rattle.pc_program_bound.specs.CellPrograms.{program_with}
@@ -20,9 +20,9 @@ pub record IsPosed (p : Problem) : Type 0 where
   pub found : AreCells p.schema.now p.constraints.now p.query.now p.cells.now
   pub nodes : (1 ≤ p.nodes) × (p.nodes ≤ 100_000)
 
--- searches close
-abbrev pub IsEasy : Problem → Type 0
-IsEasy p = AreDisjoint p.schema.now p.constraints.now
+-- every search of the problem ends within its budget
+abbrev pub IsEasyProblem : Problem → Type 0
+IsEasyProblem p = IsEasy p.schema.now p.constraints.now
 
 -- the program of the cells with a gain for each
 abbrev pub gained_program : Problem → List ℤ → Program

@@ -2,7 +2,7 @@ ghost use Rattle.std.specs.Prelude.{◌≡◌, ◌↔◌, ◌<◌, ◌≤◌, �
 ghost use Rattle.pc_program_bound.specs.Sums.{nat_at};
 ghost use Rattle.pc_program_bound.specs.Allocation.{IsProgram, cells_of};
 ghost use Rattle.pc_branch.specs.Ends.{HasSmallGains};
-ghost use Rattle.pc_program.specs.Settled.{HasOneBits};
+ghost use Rattle.pc_branch.specs.Outcome.{IsEasyProgram};
 ghost use Rattle.pc_agg_search.specs.declared.probes.ProbeVerdict.TheVariants as verdicts;
 ghost use Rattle.pc_agg_search.specs.Limits.{found_of};
 ghost use Rattle.pc_agg_search.specs.Probing.{is_under, within};
@@ -49,7 +49,7 @@ pub fn probe(
     requires met { All (IsMet program.now) found }
     requires nodes { (1 ≤ nodes) × (nodes ≤ 100_000) }
     ensures probed { IfOk result (IsProbed program.now want nodes found) }
-    ensures disjoint { HasOneBits program.now → IfOk result (IsSure program.now want) }
+    ensures disjoint { IsEasyProgram program.now → IfOk result (IsSure program.now want) }
 {
     if let Some(_place) = find_wanted(program, want, found.as_slice()) {
         return Ok(Probed {

@@ -8,7 +8,7 @@ use Rattle.pc_model.specs.declared.query.Agg.TheVariants.{Avg}
 use Rattle.pc_model.specs.declared.query.Query.{Query}
 use Rattle.pc_model.specs.declared.query.Folded.{Folded}
 use Rattle.pc_model.specs.Accepted.{AreConstraints}
-use Rattle.pc_model.specs.Membership.{AreDisjoint}
+use Rattle.pc_agg_search.specs.Easy.{IsEasy}
 use Rattle.pc_model.specs.WellFormed.{IsWellFormed}
 use Rattle.pc_model.specs.Cells.{IsSettledTree}
 use Rattle.pc_proof.specs.declared.answer.Answer.{Answer}
@@ -38,7 +38,7 @@ module _ (schema : Schema) (constraints : List Constraint) (query : Query) (seen
   with_any ends = record { relation = relation; lack = lack; ends = ends }
 
   by_both : (low high : Option End) → IsEndIfAny u seen budget Low found low → IsEndIfAny u seen budget High found high →
-      (AreDisjoint schema constraints → IsEndSurely u seen Low found low) → (AreDisjoint schema constraints → IsEndSurely u seen High found high) → Owes s budget (with_any (both low high))
+      (IsEasy schema constraints → IsEndSurely u seen Low found low) → (IsEasy schema constraints → IsEndSurely u seen High found high) → Owes s budget (with_any (both low high))
   by_both None high low_is high_is low_sure high_sure =
       absurd (no_outermost schema constraints query seen nodes formed limited tree budget asking agg_is relation lack found settled has Low low_is)
   by_both (Some low) None low_is high_is low_sure high_sure =
@@ -48,7 +48,7 @@ module _ (schema : Schema) (constraints : List Constraint) (query : Query) (seen
 
   -- the answer with both ends in it
   pub owes_both_ends : (answer : Answer) (low high : Option End) (ends : Option (End × End)) → answer ≡ answer_of relation lack → ends ≡ both low high → IsEndIfAny u seen budget Low found low →
-      IsEndIfAny u seen budget High found high → (AreDisjoint schema constraints → IsEndSurely u seen Low found low) → (AreDisjoint schema constraints → IsEndSurely u seen High found high) →
+      IsEndIfAny u seen budget High found high → (IsEasy schema constraints → IsEndSurely u seen Low found low) → (IsEasy schema constraints → IsEndSurely u seen High found high) →
       Owes s budget (record { relation = answer.relation; lack = answer.lack; ends = ends })
   owes_both_ends answer low high ends answer_is ends_are low_is high_is low_sure high_sure =
       subst (λ (a : Answer). Owes s budget (record { relation = a.relation; lack = a.lack; ends = ends })) (sym answer_is)

@@ -12,7 +12,7 @@ use Rattle.pc_model.specs.declared.query.Query.{Query}
 use Rattle.pc_model.specs.declared.query.Folded.{Folded}
 use Rattle.pc_model.specs.Accepted.{AreConstraints}
 use Rattle.pc_model.specs.WellFormed.{IsWellFormed}
-use Rattle.pc_model.specs.Membership.{AreDisjoint}
+use Rattle.pc_agg_search.specs.Easy.{IsEasy}
 use Rattle.pc_model.specs.Aggregate.{whole}
 use Rattle.pc_model.specs.Cells.{IsSettledTree}
 use Rattle.pc_model.specs.Right.{always_has_value}
@@ -190,11 +190,11 @@ module _ (schema : Schema) (constraints : List Constraint) (query : Query) (seen
   -- ---- both ends
 
   module _ (has : has_ends relation lack ≡ true) (low high : End) (low_over : IsEndOver u seen budget Low found low) (high_over : IsEndOver u seen budget High found high)
-      (surely : AreDisjoint schema constraints → IsEndSurely u seen Low found (Some low) × IsEndSurely u seen High found (Some high)) where
+      (surely : IsEasy schema constraints → IsEndSurely u seen Low found (Some low) × IsEndSurely u seen High found (Some high)) where
     ends : HasEnds relation lack
     ends = ends_of relation lack has
 
-    decided : AreDisjoint schema constraints → IsDecided relation × IsExact low.mark × IsExact high.mark × IsSettledLack lack
+    decided : IsEasy schema constraints → IsDecided relation × IsExact low.mark × IsExact high.mark × IsSettledLack lack
     decided disjoint =
         let settles = settled.sharp disjoint in
         let given = settled.surely_gives disjoint lacks_value ends in

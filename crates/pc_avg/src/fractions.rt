@@ -1,11 +1,11 @@
 ghost use Rattle.std.specs.Prelude.{◌≡◌, ◌<◌, ◌≤◌, ◌*◌, ◌^◌, nat_abs, pos, map, IfOk};
 ghost use Rattle.std.specs.List.{AllZip};
-ghost use Rattle.pc_program.specs.Settled.{HasOneBits};
+ghost use Rattle.pc_branch.specs.Outcome.{IsEasyProgram};
 ghost use Rattle.pc_proof.specs.Setting.{cells, on_chosen, program_for};
 ghost use Rattle.pc_avg_ratio.specs.Fractional.{IsFractional};
 ghost use Rattle.pc_agg_search.specs.Ends.{signed};
 ghost use Rattle.pc_agg_search.specs.Keys.{key_of, IsAtEnd};
-ghost use Rattle.pc_agg_search.specs.Problem.{IsEasy, IsPosed, setting_of};
+ghost use Rattle.pc_agg_search.specs.Problem.{IsEasyProblem, IsPosed, setting_of};
 ghost use Rattle.pc_agg_search.specs.Wants.{most_chosen};
 
 use pc_agg_search::{Extreme, Problem, chosen_program, gained_program};
@@ -34,7 +34,7 @@ pub(crate) fn fraction_of(
     ensures sums { IfOk result (λ f. f.sums ≡ program_for (setting_of problem.now) (on_chosen (key_of (setting_of problem.now) extreme))) }
     ensures count { IfOk result (λ f. f.count ≡ seen.now.count) }
     ensures sum { IfOk result (λ f. 0 < seen.now.count → f.sum ≡ signed extreme seen.now.sum) }
-    ensures disjoint { IsEasy problem.now → IfOk result (λ f. HasOneBits f.rows) }
+    ensures disjoint { IsEasyProblem problem.now → IfOk result (λ f. IsEasyProgram f.rows) }
 {
     let rows = chosen_program(alloc, problem, 1)?;
     let sums = gained_program(alloc, problem, keys)?;

@@ -1,7 +1,7 @@
 ghost use Rattle.std.specs.Prelude.{◌≤◌, ◌*◌, ◌^◌, nat_abs, IfOk, IsSomeAnd};
 ghost use Rattle.pc_model.specs.Accepted.{IsNumeric, IsColumnWhere};
-ghost use Rattle.pc_program.specs.Settled.{HasOneBits};
-ghost use Rattle.pc_agg_search.specs.Problem.{IsEasy, IsPosed, setting_of};
+ghost use Rattle.pc_branch.specs.Outcome.{IsEasyProgram};
+ghost use Rattle.pc_agg_search.specs.Problem.{IsEasyProblem, IsPosed, setting_of};
 ghost use Rattle.pc_avg.specs.Sides.{IsSide};
 
 use crate::fractions::fraction_of;
@@ -34,7 +34,7 @@ pub(crate) fn side_of(
     requires few_seen { seen.now.count ≤ 1_000_000 }
     requires small_seen { nat_abs seen.now.sum ≤ 1_000_000 * 10 ^ 15 }
     ensures side { IfOk result (IsSide (setting_of problem.now) seen.now extreme) }
-    ensures disjoint { IsEasy problem.now → IfOk result (λ side. HasOneBits side.fraction.rows) }
+    ensures disjoint { IsEasyProblem problem.now → IfOk result (λ side. IsEasyProgram side.fraction.rows) }
 {
     let Targets { gains, picks } = find_keys(alloc, problem, extreme)?;
     let outermost = outermost_of(problem, extreme, gains.as_slice(), seen);

@@ -15,7 +15,7 @@ use Rattle.pc_program_bound.proofs.SumBelow.{sum_below_mono, sum_below-scale}
 use Rattle.pc_simplex_short.proofs.Sizes.{size_of_product-le}
 use Rattle.pc_simplex_tableau.proofs.Listed.{at-table, length-table}
 use Rattle.pc_branch.specs.Ends.{HasSmallGains}
-use Rattle.pc_program.specs.Settled.{HasOneBits}
+use Rattle.pc_branch.specs.Outcome.{IsEasyProgram}
 use Rattle.pc_proof.specs.Table.{ratio_of}
 use Rattle.pc_avg_ratio.specs.declared.fractional.Fractional.{Fractional}
 use Rattle.pc_avg_ratio.specs.Fractional.{IsFractional, IsLawful, AddsOne, rows_with, sum_with, gain_over, over_before, program_at, most_rows, most_added, most_number, most_room, most_sum}
@@ -171,8 +171,8 @@ module _ (f : Fractional) (fractional : IsFractional f) where
           small_cap = is.small_cap;
         }
 
-    pub program_one_bits : HasOneBits f.rows → HasOneBits (program_at f r)
-    program_one_bits bits = record {
+    pub program_easy : IsEasyProgram f.rows → IsEasyProgram (program_at f r)
+    program_easy bits = record {
       bit_of = bits.bit_of;
       only = bits.only;
       two = bits.two;

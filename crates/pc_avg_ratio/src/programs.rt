@@ -1,7 +1,7 @@
 ghost use Rattle.std.specs.Prelude.{◌≡◌, ◌≤◌, nat_abs, pos, ◌≤ℤ◌, ◌-ℤ◌, ◌*ℤ◌, IfOk};
 ghost use Rattle.pc_program_bound.specs.Allocation.{IsProgram, cells_of};
 ghost use Rattle.pc_branch.specs.Ends.{HasSmallGains};
-ghost use Rattle.pc_program.specs.Settled.{HasOneBits};
+ghost use Rattle.pc_branch.specs.Outcome.{IsEasyProgram};
 ghost use Rattle.pc_proof.specs.Table.{ratio_of};
 ghost use Rattle.pc_simplex_tableau.specs.Numbers.{table};
 ghost use Rattle.pc_avg_ratio.specs.Fractional.{gain_over, program_at, most_rows, most_sum, IsFractional};
@@ -21,7 +21,7 @@ pub(crate) fn program_at(alloc: Global, f: &Fractional, ratio: Frac) -> Result<P
     ensures program { IfOk result (λ p. p ≡ program_at f.now (ratio_of ratio)) }
     ensures is_program { IfOk result IsProgram }
     ensures small { IfOk result HasSmallGains }
-    ensures disjoint { HasOneBits f.now.rows → IfOk result HasOneBits }
+    ensures disjoint { IsEasyProgram f.now.rows → IfOk result IsEasyProgram }
 {
     let gain = gains_over(alloc, f, ratio)?;
     let mut program = f.rows.clone()?;

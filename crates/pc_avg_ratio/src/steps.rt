@@ -2,7 +2,7 @@ ghost use Rattle.std.specs.Prelude.{◌≡◌, ◌≤◌, ◌^◌, ℕ, ℤ, pos
 ghost use Rattle.pc_program_bound.specs.Allocation.{worth};
 ghost use Rattle.pc_branch.specs.Outcome.{IsOutcome};
 ghost use Rattle.pc_branch.specs.declared.outcome.Outcome.TheVariants as outcomes;
-ghost use Rattle.pc_program.specs.Settled.{HasOneBits};
+ghost use Rattle.pc_branch.specs.Outcome.{IsEasyProgram};
 ghost use Rattle.pc_proof.specs.Table.{ratio_of};
 ghost use Rattle.pc_avg_ratio.specs.declared.highest.Highest.TheVariants as highests;
 ghost use Rattle.pc_avg_ratio.specs.declared.steps.Step.TheVariants as steps;
@@ -51,7 +51,7 @@ pub fn greatest_ratio(
     requires some { pos 0 <ℤ rows_with f.now start }
     requires nodes { (1 ≤ nodes) × (nodes ≤ 100_000) }
     ensures highest { IfOk result (IsHighest f.now outermost nodes (ratio_with f.now start)) }
-    ensures disjoint { HasOneBits f.now.rows → IfOk result IsSurely }
+    ensures disjoint { IsEasyProgram f.now.rows → IfOk result IsSurely }
 {
     let mut standing = standing_at(f, start, TOO_MANY_ROWS, TRIES);
     loop {
@@ -75,7 +75,7 @@ fn take_step(
     requires standing { IsStanding f.now standing }
     requires nodes { (1 ≤ nodes) × (nodes ≤ 100_000) }
     ensures step { IfOk result (IsStep f.now outermost nodes standing) }
-    ensures disjoint { HasOneBits f.now.rows → IfOk result IsStepSurely }
+    ensures disjoint { IsEasyProgram f.now.rows → IfOk result IsStepSurely }
 {
     let program = program_at(alloc, f, standing.ratio)?;
     match solve(alloc, &program, nodes)? {

@@ -2,6 +2,7 @@
 use Rattle.std.specs.Prelude.{◌≡◌, ℕ, ℤ, ◌≤ℤ◌, ◌<ℤ◌, List, Option, Some, None, MatchOption, ⊤}
 use Rattle.pc_program_bound.specs.declared.program.Program.{Program}
 use Rattle.pc_program_bound.specs.Allocation.{IsAllocation, worth}
+use Rattle.pc_program.specs.Settled.{HasOneBits}
 use Rattle.pc_num.specs.declared.Frac.{Frac}
 use Rattle.pc_model.specs.declared.tree.Mult.{Mult}
 use Rattle.pc_simplex_tableau.specs.Point.{Relaxation, vertex, IsRelaxation}
@@ -70,6 +71,10 @@ abbrev pub IsOutcome : Program → ℕ → Outcome → Type 0
 IsOutcome p budget (Best counts value tree) = IsInPreorder tree.nodes × IsBest p budget counts value (tree_of tree.nodes)
 IsOutcome p budget (Nothing tree) = IsInPreorder tree.nodes × IsNothing p budget (tree_of tree.nodes)
 IsOutcome p budget (Spent e found tree) = IsInPreorder tree.nodes × IsSpent p budget e found (tree_of tree.nodes)
+
+-- every search ends within its budget
+abbrev pub IsEasyProgram : Program → Type 0
+IsEasyProgram p = HasOneBits p
 
 abbrev pub IsDecided : Outcome → Type 0
 IsDecided (Best counts value tree) = ⊤

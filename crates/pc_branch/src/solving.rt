@@ -1,9 +1,8 @@
 ghost use Rattle.std.specs.Prelude.{◌≡◌, ◌≤◌, ◌<◌, ℕ, All, IfOk, MatchOption, ⊤};
 ghost use Rattle.pc_program_bound.specs.Allocation.{IsProgram};
 ghost use Rattle.pc_program_bound.specs.Bound.{IsFit, HasFitWidth};
-ghost use Rattle.pc_program.specs.Settled.{HasOneBits};
 ghost use Rattle.pc_branch.specs.Licence.{no_multipliers};
-ghost use Rattle.pc_branch.specs.Outcome.{IsOutcome, IsDecided};
+ghost use Rattle.pc_branch.specs.Outcome.{IsOutcome, IsDecided, IsEasyProgram};
 ghost use Rattle.pc_branch.specs.Steps.{budget_of, IsAt};
 
 use crate::ended::outcome;
@@ -23,7 +22,7 @@ pub fn solve(alloc: Global, p: &Program, nodes: u32) -> Result<Outcome, Memory>
     requires width { HasFitWidth p.now (no_multipliers p.now) }
     requires nodes { (1 ≤ nodes) × (nodes ≤ 100_000) }
     ensures outcome { IfOk result (IsOutcome p.now nodes) }
-    ensures disjoint { HasOneBits p.now → IfOk result IsDecided }
+    ensures disjoint { IsEasyProgram p.now → IfOk result IsDecided }
 {
     if has_one_bits(p) {
         return greedily(alloc, p, nodes);

@@ -6,7 +6,8 @@ use Rattle.pc_model.specs.declared.row.Row.{Row}
 use Rattle.pc_model.specs.declared.constraint.Constraint.{Constraint}
 use Rattle.pc_model.specs.declared.query.Agg.TheVariants.{Avg}
 use Rattle.pc_model.specs.declared.tree.CutNode.{CutNode}
-use Rattle.pc_model.specs.Membership.{AreDisjoint, in_domain}
+use Rattle.pc_model.specs.Membership.{in_domain}
+use Rattle.pc_agg_search.specs.Easy.{IsEasy}
 use Rattle.pc_model.specs.CutTrees.{shape_of}
 use Rattle.pc_model.specs.Right.{Question, IsRight}
 use Rattle.pc_proof.specs.Setting.{Setting}
@@ -37,6 +38,6 @@ pub record AnswersWanted (budget : ℕ) (schema : Schema) (observed : List Row) 
   pub unbroken : IsUnbroken (setting_for schema observed constraints w t.nodes) t.block.answer
   pub licensed : IsLicensed (setting_for schema observed constraints w t.nodes) budget t.block.answer
   pub searched : AreSearched (setting_for schema observed constraints w t.nodes) budget t.block.answer
-  pub sharp : AreDisjoint schema constraints → IsSharp t.block.answer × IsSettledLack t.block.answer.lack
+  pub sharp : IsEasy schema constraints → IsSharp t.block.answer × IsSettledLack t.block.answer.lack
   pub short : w.query.agg ≡ Avg → HasShortEnds t.block.answer
   pub formed : AllPass (in_domain schema) observed → HasOwnShape schema (shape_of t.nodes) → IsFormedBlock schema t.block

@@ -1,5 +1,5 @@
 use Rattle.std.proofs.lemmas.Result.{IfOk-weaker}
-use Rattle.pc_agg.proofs.RungPrograms.{ladder_long, at_is, at_formed, at_small, at_one_bits}
+use Rattle.pc_agg.proofs.RungPrograms.{ladder_long, at_is, at_formed, at_small, at_easy}
 use Rattle.pc_agg.proofs.rungs.program_at.Goals as goal
 
 pub tested-requires-clause-keyed : goal.tested-requires-clause-keyed
@@ -28,5 +28,5 @@ pub returns-clause-disjoint : goal.returns-clause-disjoint
 returns-clause-disjoint c =
     λ disjoint.
     IfOk-weaker c.tested.result _ _
-    (λ p is. at_one_bits c.args.problem.now c.requires.posed c.args.ladder.now c.requires.keyed c.args.place p is disjoint)
+    (λ p is. at_easy c.args.problem.now c.requires.posed c.args.ladder.now c.requires.keyed c.args.place p is disjoint)
     c.tested.ensures

@@ -1,5 +1,5 @@
 use Rattle.std.proofs.lemmas.Result.{IfOk-weaker}
-use Rattle.pc_agg_search.proofs.PosedPrograms.{gained_is, gained_formed, gained_small, gained_one_bits}
+use Rattle.pc_agg_search.proofs.PosedPrograms.{gained_is, gained_formed, gained_small, gained_easy}
 use Rattle.pc_agg_search.proofs.gains.gained_program.Goals as goal
 
 pub returns-clause-program : goal.returns-clause-program
@@ -21,5 +21,5 @@ pub returns-clause-disjoint : goal.returns-clause-disjoint
 returns-clause-disjoint c =
     λ easy.
     IfOk-weaker c.program_of.result _ _
-    (λ p is. gained_one_bits c.args.problem.now c.requires.posed c.args.gains p is c.requires.sized c.requires.small_gains easy)
+    (λ p is. gained_easy c.args.problem.now c.requires.posed c.args.gains p is c.requires.sized c.requires.small_gains easy)
     (rw (← c.as_slice.ensures) c.program_of.ensures)

@@ -2,7 +2,7 @@ use Rattle.std.proofs.Common.{◌≡◌, to_z, of_z, arith}
 use Rattle.std.specs.Int.{w128}
 use Rattle.std.proofs.lemmas.Int.{ints}
 use Rattle.std.proofs.lemmas.Result.{IfOk-weaker}
-use Rattle.pc_agg_search.proofs.ListedPrograms.{even_for, even_formed, even_small, even_one_bits}
+use Rattle.pc_agg_search.proofs.ListedPrograms.{even_for, even_formed, even_small, even_easy}
 use Rattle.pc_agg_search.proofs.gains.total_program.Goals as goal
 
 pub returns-clause-program : goal.returns-clause-program
@@ -31,5 +31,5 @@ returns-clause-disjoint c =
     let same : to_z w128 (of_z w128 c.args.gain) ≡ c.args.gain = omega (arith, ints) in
     λ disjoint.
     IfOk-weaker c.total_alone.result _ _
-    (λ p is. even_one_bits c.args.problem.now c.requires.posed c.args.gain p is c.requires.gain disjoint)
+    (λ p is. even_easy c.args.problem.now c.requires.posed c.args.gain p is c.requires.gain disjoint)
     (rw same at c.total_alone.ensures)

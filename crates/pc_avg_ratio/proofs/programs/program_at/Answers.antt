@@ -1,9 +1,9 @@
 use Rattle.std.proofs.Common.{rules, sym, subst}
 use Rattle.pc_program_bound.specs.Allocation.{IsProgram}
 use Rattle.pc_branch.specs.Ends.{HasSmallGains}
-use Rattle.pc_program.specs.Settled.{HasOneBits}
+use Rattle.pc_branch.specs.Outcome.{IsEasyProgram}
 use Rattle.pc_proof.specs.Table.{ratio_of}
-use Rattle.pc_avg_ratio.proofs.Magnitudes.{program_small, program_formed, program_one_bits}
+use Rattle.pc_avg_ratio.proofs.Magnitudes.{program_small, program_formed, program_easy}
 use Rattle.pc_avg_ratio.proofs.programs.program_at.Goals as goal
 
 pub returns-clause-program : goal.returns-clause-program
@@ -22,5 +22,5 @@ returns-clause-small c =
 pub returns-clause-disjoint : goal.returns-clause-disjoint
 returns-clause-disjoint c =
     λ bits.
-    subst HasOneBits (sym (returns-clause-program c))
-    (program_one_bits c.args.f.now c.requires.fractional (ratio_of c.args.ratio) c.requires.positive c.requires.small_den c.requires.small_num bits)
+    subst IsEasyProgram (sym (returns-clause-program c))
+    (program_easy c.args.f.now c.requires.fractional (ratio_of c.args.ratio) c.requires.positive c.requires.small_den c.requires.small_num bits)
