@@ -22,7 +22,7 @@ use Rattle.pc_agg_search.specs.Targets.{chosen_gain}
 use Rattle.pc_agg_search.specs.Keys.{key_of}
 use Rattle.pc_agg.specs.Rungs.{reaches, avoids, rung_program, program_at, IsLadder}
 use Rattle.pc_agg_search.specs.declared.problem.Problem.{Problem}
-use Rattle.pc_agg_search.specs.Problem.{IsEasyProblem, IsPosed, setting_of}
+use Rattle.pc_agg_search.specs.Problem.{IsEasyFor, IsPosed, setting_of}
 use Rattle.pc_agg_search.specs.Limits.{greatest_gain}
 use Rattle.pc_proof.proofs.Masks.{map_twice}
 use Rattle.pc_agg_search.proofs.ListedPrograms.{no_cell, table_mapped, gains_are, program_is, chosen_is}
@@ -117,7 +117,7 @@ module _ (problem : Problem) (posed : IsPosed problem) where
     rung_small Reach = for_small problem posed passing passing_small
     rung_small Avoid = without_small problem posed short_of
 
-    pub rung_easy : (test : Test) → IsEasyProblem problem → IsEasyProgram (rung_program u extreme test key)
+    pub rung_easy : (test : Test) → IsEasyFor problem → IsEasyProgram (rung_program u extreme test key)
     rung_easy Reach easy = for_easy problem posed passing passing_small easy
     rung_easy Avoid easy = without_easy problem posed short_of easy
 
@@ -137,5 +137,5 @@ module _ (problem : Problem) (posed : IsPosed problem) where
       pub at_small : HasSmallGains p
       at_small = subst HasSmallGains (sym at_is) (rung_small ladder.extreme (int_at ladder.rungs place) ladder.test)
 
-      pub at_easy : IsEasyProblem problem → IsEasyProgram p
+      pub at_easy : IsEasyFor problem → IsEasyProgram p
       at_easy easy = subst IsEasyProgram (sym at_is) (rung_easy ladder.extreme (int_at ladder.rungs place) ladder.test easy)

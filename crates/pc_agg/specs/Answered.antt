@@ -43,11 +43,14 @@ answer_over (Impossible why) low high = impossible_by why
 answer_over (Possible runs) low high = answer_between (Possible runs) low high
 answer_over Undecided low high = answer_between Undecided low high
 
+abbrev pub AreAllowed : Program → List (List ℕ) → Type 0
+AreAllowed p found = All (IsAllocation p p.floor p.cap) found
+
 -- what an end needs of the aim and of what was found
 pub record CanEnd (found : List (List ℕ)) (aim : Aim) : Type 0 where
   pub program : IsProgram aim.limit.program
   pub gains : HasSmallGains aim.limit.program
-  pub allowed : All (IsAllocation aim.limit.program aim.limit.program.floor aim.limit.program.cap) found
+  pub allowed : AreAllowed aim.limit.program found
   pub picked : length aim.picks ≡ cells_of aim.limit.program
   pub small : nat_abs aim.limit.most ≤ 10 ^ 37
 

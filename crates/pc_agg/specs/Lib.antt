@@ -1,4 +1,5 @@
 pub mod Answered
+pub mod Calls
 pub mod Climbing
 pub mod Extremes
 pub mod Falling
@@ -8,6 +9,7 @@ pub mod Keyed
 pub mod Marks
 pub mod Observed
 pub mod Owed
+pub mod Posed
 pub mod Rungs
 pub mod Settling
 pub mod Stands

@@ -1,5 +1,5 @@
 -- What settles a relation: a list that was found, that there is none, or both totals whose searches were cut short.
-use Rattle.std.specs.Prelude.{◌≡◌, ℕ, ℤ, pos, neg_ℤ, ◌<ℤ◌, int_lt, cond, List, [], All, Contains, Some, None}
+use Rattle.std.specs.Prelude.{◌≡◌, ℕ, ℤ, pos, neg_ℤ, ◌<ℤ◌, int_lt, cond, List, [], All, Contains, Some, None, slice_index_or}
 use Rattle.std.specs.List.{AllZip}
 use Rattle.pc_model.specs.declared.row.Row.{Row}
 use Rattle.pc_model.specs.declared.row.Run.{Run}
@@ -92,6 +92,13 @@ IsTotalDecided (totals.Settled settled) = IsDecided settled.relation
 IsTotalDecided (totals.Open limit) = ⊥
 
 -- of two limits under which nothing was found: the most rows are fewer than the fewest, or neither is known
+-- a list with the first of these counts, by a row of each cell
+abbrev pub listed : List Row → List (List ℕ) → Settled
+listed picks found = record { relation = relations.Possible (runs_from picks (slice_index_or found 0 [])); lack = lacks.Silent; found = found }
+
+abbrev pub impossible : Why → Settled
+impossible why = record { relation = relations.Impossible why; lack = lacks.Silent; found = [] }
+
 abbrev pub left_open : Limit → Limit → Settled
 left_open most fewest =
     cond (int_lt most.most (neg_ℤ fewest.most))

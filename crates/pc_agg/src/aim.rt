@@ -4,8 +4,8 @@ ghost use Rattle.pc_model.specs.Right.{always_has_value};
 ghost use Rattle.pc_agg_search.specs.declared.extreme.Extreme.TheVariants.{Low};
 ghost use Rattle.pc_agg_search.specs.Ends.{program_towards};
 ghost use Rattle.pc_agg_search.specs.Limits.{IsReached};
-ghost use Rattle.pc_agg_search.specs.Problem.{IsEasyProblem, IsPosed, setting_of};
-ghost use Rattle.pc_agg.specs.Marks.{AreAimed, AreAimedReached, IsAim, IsAimed, IsAimReached};
+ghost use Rattle.pc_agg_search.specs.Problem.{IsEasyFor, IsPosed, setting_of};
+ghost use Rattle.pc_agg.specs.Posed.{AreAimedAt, AreAimedReachedAt, IsAimOf, IsAimReachedAt, IsAimedAt};
 
 use pc_agg_search::{Extreme, Limit, Problem, Sought, Targets, find_targets, seek};
 use pc_list::Seq;
@@ -47,8 +47,8 @@ pub(crate) fn aim_at_both(alloc: Global, problem: &Problem<'_>) -> Result<BothAi
     requires query { IsQuery problem.now.schema.now problem.now.query.now }
     requires ungrouped { problem.now.query.now.group ≡ None }
     requires has_value { always_has_value problem.now.query.now.agg ≡ true }
-    ensures aimed { IfOk result (AreAimed (setting_of problem.now) problem.now.query.now.agg problem.now.nodes) }
-    ensures disjoint { IsEasyProblem problem.now → IfOk result (AreAimedReached (setting_of problem.now) problem.now.query.now.agg) }
+    ensures aimed { IfOk result (AreAimedAt problem.now) }
+    ensures disjoint { IsEasyFor problem.now → IfOk result (AreAimedReachedAt problem.now) }
 {
     let extreme = Extreme::Low;
     match aim_at(alloc, problem, extreme)? {
@@ -63,9 +63,9 @@ fn aim_on(alloc: Global, problem: &Problem<'_>, low: Aim) -> Result<BothAimed, M
     requires query { IsQuery problem.now.schema.now problem.now.query.now }
     requires ungrouped { problem.now.query.now.group ≡ None }
     requires has_value { always_has_value problem.now.query.now.agg ≡ true }
-    requires low { IsAim (setting_of problem.now) problem.now.query.now.agg problem.now.nodes Low low }
-    ensures aimed { IfOk result (AreAimed (setting_of problem.now) problem.now.query.now.agg problem.now.nodes) }
-    ensures disjoint { IsEasyProblem problem.now → IsReached (program_towards (setting_of problem.now) problem.now.query.now.agg Low) low.limit.most low.limit.found → IfOk result (AreAimedReached (setting_of problem.now) problem.now.query.now.agg) }
+    requires low { IsAimOf problem.now Low low }
+    ensures aimed { IfOk result (AreAimedAt problem.now) }
+    ensures disjoint { IsEasyFor problem.now → IsReached (program_towards (setting_of problem.now) problem.now.query.now.agg Low) low.limit.most low.limit.found → IfOk result (AreAimedReachedAt problem.now) }
 {
     let extreme = Extreme::High;
     match aim_at(alloc, problem, extreme)? {
@@ -84,8 +84,8 @@ pub(crate) fn aim_at(
     requires query { IsQuery problem.now.schema.now problem.now.query.now }
     requires ungrouped { problem.now.query.now.group ≡ None }
     requires has_value { always_has_value problem.now.query.now.agg ≡ true }
-    ensures aimed { IfOk result (IsAimed (setting_of problem.now) problem.now.query.now.agg problem.now.nodes extreme) }
-    ensures disjoint { IsEasyProblem problem.now → IfOk result (IsAimReached (setting_of problem.now) problem.now.query.now.agg extreme) }
+    ensures aimed { IfOk result (IsAimedAt problem.now extreme) }
+    ensures disjoint { IsEasyFor problem.now → IfOk result (IsAimReachedAt problem.now extreme) }
 {
     let targets = find_targets(alloc, problem, extreme)?;
     let Targets { gains, picks } = targets;

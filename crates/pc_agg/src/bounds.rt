@@ -4,13 +4,14 @@ ghost use Rattle.pc_model.specs.Right.{always_has_value};
 ghost use Rattle.pc_proof.specs.Unbroken.{IsDecided};
 ghost use Rattle.pc_agg_search.specs.declared.extreme.Extreme.TheVariants.{Low, High};
 ghost use Rattle.pc_agg.specs.Answered.{answer_between, answer_over, bounded_by, impossible_by, is_open, CanEnd, IsAnswer, IsEnd};
-ghost use Rattle.pc_agg.specs.Marks.{AreAims, AreAimsReached, IsAmong};
+ghost use Rattle.pc_agg.specs.Marks.{IsAmong};
 ghost use Rattle.pc_agg.specs.Settling.{IsSettled};
 ghost use Rattle.pc_agg_search.specs.Limits.{found_of};
-ghost use Rattle.pc_agg_search.specs.Asked.{AreAsked, Asking, setting_for};
-ghost use Rattle.pc_agg_search.specs.Problem.{IsEasyProblem, IsPosed, setting_of};
-ghost use Rattle.pc_agg_search.specs.Posing.{AskingOf, IsAsked, answered_setting};
-ghost use Rattle.pc_agg.specs.Owed.{Owes};
+ghost use Rattle.pc_agg_search.specs.Asked.{AreAsked};
+ghost use Rattle.pc_agg_search.specs.Problem.{IsEasyFor, IsPosed, setting_of};
+ghost use Rattle.pc_agg_search.specs.Posing.{IsAsked};
+ghost use Rattle.pc_agg.specs.Calls.{OwesCall, OwesProblem};
+ghost use Rattle.pc_agg.specs.Posed.{AreAimsOf, AreAimsReachedOf};
 
 use crate::aim::{Aims, BothAimed, aim_at_both};
 use crate::ends::end_towards;
@@ -36,7 +37,7 @@ pub fn bound_count(
 ) -> Result<Answer, Memory>
     requires asked { AreAsked schema.now seen.now constraints.now cells.now query.now nodes }
     requires counts { query.now.agg ≡ aggs.Count }
-    ensures owes { IfOk result (λ answer. (asking : Asking schema.now constraints.now query.now seen.now) → Owes (setting_for schema.now constraints.now query.now seen.now cells.now.tree.nodes asking) nodes answer) }
+    ensures owes { OwesCall schema.now seen.now constraints.now cells.now query.now nodes result }
 {
     let problem = Problem {
         schema,
@@ -61,7 +62,7 @@ pub fn bound_sum(
 ) -> Result<Answer, Memory>
     requires asked { AreAsked schema.now seen.now constraints.now cells.now query.now nodes }
     requires sums { query.now.agg ≡ aggs.Sum }
-    ensures owes { IfOk result (λ answer. (asking : Asking schema.now constraints.now query.now seen.now) → Owes (setting_for schema.now constraints.now query.now seen.now cells.now.tree.nodes asking) nodes answer) }
+    ensures owes { OwesCall schema.now seen.now constraints.now cells.now query.now nodes result }
 {
     let problem = Problem {
         schema,
@@ -76,7 +77,7 @@ pub fn bound_sum(
 fn bound(alloc: Global, problem: &Problem<'_>, seen: &Folded) -> Result<Answer, Memory>
     requires asked { IsAsked problem.now seen.now }
     requires has_value { always_has_value problem.now.query.now.agg ≡ true }
-    ensures owes { IfOk result (λ answer. (asking : AskingOf problem.now seen.now) → Owes (answered_setting problem.now seen.now asking) problem.now.nodes answer) }
+    ensures owes { IfOk result (OwesProblem problem.now seen.now) }
 {
     match aim_at_both(alloc, problem)? {
         BothAimed::At(aims) => {
@@ -90,12 +91,12 @@ fn bound(alloc: Global, problem: &Problem<'_>, seen: &Folded) -> Result<Answer, 
 /// A list of the first counts that were found, or the relation by the totals where nothing was.
 fn settle_over(alloc: Global, problem: &Problem<'_>, aims: &Aims) -> Result<Settled, Memory>
     requires posed { IsPosed problem.now }
-    requires aims { AreAims (setting_of problem.now) problem.now.query.now.agg problem.now.nodes aims.now }
-    requires reached { IsEasyProblem problem.now → AreAimsReached (setting_of problem.now) problem.now.query.now.agg aims.now }
+    requires aims { AreAimsOf problem.now aims.now }
+    requires reached { IsEasyFor problem.now → AreAimsReachedOf problem.now aims.now }
     ensures settled { IfOk result (IsSettled (setting_of problem.now) problem.now.nodes) }
     ensures low { IfOk result (λ settled. IsAmong settled.found aims.now.low.limit) }
     ensures high { IfOk result (λ settled. IsAmong settled.found aims.now.high.limit) }
-    ensures disjoint { IsEasyProblem problem.now → IfOk result (λ settled. IsDecided settled.relation) }
+    ensures disjoint { IsEasyFor problem.now → IfOk result (λ settled. IsDecided settled.relation) }
 {
     let found = found_by(alloc, &aims.low.limit, &aims.high.limit)?;
     if !found.is_empty() {

@@ -1,8 +1,9 @@
-ghost use Rattle.std.specs.Prelude.{◌≡◌, ℕ, ◌<◌, List, All, IfOk, length};
+ghost use Rattle.std.specs.Prelude.{◌≡◌, ◌<◌, All, IfOk, length};
 ghost use Rattle.pc_branch_licences.specs.Pools.{AreLawful};
-ghost use Rattle.pc_agg.specs.Climbing.{above, narrowed, IsSpan, IsHalved, IsSureSpan, IsSureHalf};
-ghost use Rattle.pc_agg.specs.Rungs.{program_at, IsLadder, IsClimbed, IsClimbedSurely};
-ghost use Rattle.pc_agg_search.specs.Problem.{IsEasyProblem, IsPosed, setting_of};
+ghost use Rattle.pc_agg.specs.Climbing.{above, narrowed};
+ghost use Rattle.pc_agg.specs.Rungs.{program_at, IsLadder};
+ghost use Rattle.pc_agg_search.specs.Problem.{IsEasyFor, IsPosed, setting_of};
+ghost use Rattle.pc_agg.specs.Posed.{HalvesSpan, HalvesSurely, IsClimbedSurelyTo, IsClimbedTo};
 
 use crate::ladder::{Ladder, Test};
 use crate::rungs::program_at;
@@ -40,8 +41,8 @@ pub(crate) fn climb(
     requires keyed { IsLadder (setting_of problem.now) ladder.now }
     requires some { 0 < length ladder.now.rungs }
     requires lawful { All (AreLawful (setting_of problem.now)) found }
-    ensures climbed { IfOk result (IsClimbed (setting_of problem.now) problem.now.nodes ladder.now want found) }
-    ensures disjoint { IsEasyProblem problem.now → IfOk result (IsClimbedSurely (setting_of problem.now) ladder.now want) }
+    ensures climbed { IfOk result (IsClimbedTo problem.now ladder.now want found) }
+    ensures disjoint { IsEasyFor problem.now → IfOk result (IsClimbedSurelyTo problem.now ladder.now want) }
 {
     let mut span = Span {
         from: 0,
@@ -104,8 +105,8 @@ fn halve(
     requires several { span.from < span.to }
     requires inside { span.to < length ladder.now.rungs }
     requires lawful { All (AreLawful (setting_of problem.now)) span.found }
-    ensures halved { IfOk result (λ halved. (found : List (List ℕ)) → IsSpan (setting_of problem.now) problem.now.nodes ladder.now want found span → IsHalved (setting_of problem.now) problem.now.nodes ladder.now want found span halved) }
-    ensures disjoint { IsEasyProblem problem.now → IfOk result (λ halved. IsSureSpan (setting_of problem.now) ladder.now want span → IsSureHalf (setting_of problem.now) ladder.now want halved) }
+    ensures halved { IfOk result (HalvesSpan problem.now ladder.now want span) }
+    ensures disjoint { IsEasyFor problem.now → IfOk result (HalvesSurely problem.now ladder.now want span) }
 {
     let Span {
         from,

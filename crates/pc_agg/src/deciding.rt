@@ -1,11 +1,9 @@
-ghost use Rattle.std.specs.Prelude.{◌≡◌, All, IfOk};
+ghost use Rattle.std.specs.Prelude.{◌≡◌, IfOk};
 ghost use Rattle.pc_model.specs.Right.{always_has_value};
-ghost use Rattle.pc_branch_licences.specs.Pools.{AreLawful};
-ghost use Rattle.pc_agg_search.specs.Asked.{AreAsked, Asking, setting_for};
-ghost use Rattle.pc_agg.specs.Owed.{OwesSettled};
+ghost use Rattle.pc_agg_search.specs.Asked.{AreAsked};
 ghost use Rattle.pc_agg_search.specs.Problem.{IsPosed, setting_of};
-ghost use Rattle.pc_agg_search.specs.Settings.{unseen};
 ghost use Rattle.pc_agg.specs.Extremes.{HasLawful, IsSettledFrom};
+ghost use Rattle.pc_agg.specs.Calls.{AreFound, OwesSettling};
 
 use crate::grounds::{Grounded, ground};
 use crate::judged::{relation_from, settle_found};
@@ -29,8 +27,8 @@ pub fn settle(
     nodes: u32,
 ) -> Result<Settled, Memory>
     requires asked { AreAsked schema.now seen.now constraints.now cells.now query.now nodes }
-    ensures lawful { IfOk result (λ settled. All (AreLawful (unseen schema.now constraints.now query.now cells.now.tree.nodes)) settled.found) }
-    ensures owes { IfOk result (λ settled. (asking : Asking schema.now constraints.now query.now seen.now) → OwesSettled (setting_for schema.now constraints.now query.now seen.now cells.now.tree.nodes asking) nodes settled.relation settled.lack settled.found) }
+    ensures lawful { IfOk result (λ settled. AreFound schema.now constraints.now cells.now query.now settled.found) }
+    ensures owes { IfOk result (OwesSettling schema.now seen.now constraints.now cells.now query.now nodes) }
 {
     let problem = Problem {
         schema,

@@ -1,7 +1,7 @@
-ghost use Rattle.std.specs.Prelude.{◌≡◌, ◌≤◌, ◌^◌, ◌+ℤ◌, length, nat_abs, All, IfOk};
-ghost use Rattle.pc_program_bound.specs.Allocation.{IsProgram, IsAllocation, cells_of};
+ghost use Rattle.std.specs.Prelude.{◌≡◌, ◌≤◌, ◌^◌, ◌+ℤ◌, length, nat_abs, IfOk};
+ghost use Rattle.pc_program_bound.specs.Allocation.{IsProgram, cells_of};
 ghost use Rattle.pc_branch.specs.Ends.{HasSmallGains};
-ghost use Rattle.pc_agg.specs.Answered.{CanEnd, IsEnd};
+ghost use Rattle.pc_agg.specs.Answered.{CanEnd, IsEnd, AreAllowed};
 ghost use Rattle.pc_agg_search.specs.Ends.{signed};
 ghost use Rattle.pc_agg.specs.Marks.{IsMarked, IsEndOf};
 ghost use Rattle.pc_agg.specs.Observed.{folded_value};
@@ -45,7 +45,7 @@ fn end_of(
 ) -> Result<End, Memory>
     requires program { IsProgram limit.program }
     requires small { HasSmallGains limit.program }
-    requires allowed { All (IsAllocation limit.program limit.program.floor limit.program.cap) found.now }
+    requires allowed { AreAllowed limit.program found.now }
     requires picked { length picks.now ≡ cells_of limit.program }
     ensures { IfOk result (IsEndOf limit picks.now found.now number) }
 {
@@ -64,7 +64,7 @@ fn end_of(
 fn mark_of(alloc: Global, limit: &Limit, picks: &[Row], found: &[Seq<u64>]) -> Result<Mark, Memory>
     requires program { IsProgram limit.now.program }
     requires small { HasSmallGains limit.now.program }
-    requires allowed { All (IsAllocation limit.now.program limit.now.program.floor limit.now.program.cap) found.now }
+    requires allowed { AreAllowed limit.now.program found.now }
     requires picked { length picks.now ≡ cells_of limit.now.program }
     ensures { IfOk result (IsMarked limit.now.program limit.now.most picks.now found.now) }
 {

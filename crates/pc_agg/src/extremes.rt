@@ -1,15 +1,14 @@
-ghost use Rattle.std.specs.Prelude.{◌≡◌, ◌<◌, All, Any, IfOk, IsSomeAnd, is_some, length};
-ghost use Rattle.pc_model.specs.Accepted.{IsNumeric, IsColumnWhere};
+ghost use Rattle.std.specs.Prelude.{◌≡◌, ◌<◌, All, IfOk, is_some, length};
 ghost use Rattle.pc_model.specs.declared.query.Agg.TheVariants as aggs;
 ghost use Rattle.pc_branch_licences.specs.Pools.{AreLawful};
-ghost use Rattle.pc_agg_search.specs.Asked.{AreAsked, Asking, setting_for};
-ghost use Rattle.pc_agg.specs.Extremes.{agg_of, key_at, pair_at, seen_number, test_at, IsPair, IsPairSurely};
-ghost use Rattle.pc_agg_search.specs.Wants.{most_chosen, want_for};
+ghost use Rattle.pc_agg_search.specs.Asked.{AreAsked};
+ghost use Rattle.pc_agg.specs.Extremes.{agg_of, key_at, pair_at, seen_number, test_at, IsPairSurely};
 ghost use Rattle.pc_agg.specs.Grounds.{HasValues};
-ghost use Rattle.pc_agg.specs.Owed.{Owes};
-ghost use Rattle.pc_agg_search.specs.Problem.{IsEasyProblem, IsPosed, setting_of};
-ghost use Rattle.pc_agg_search.specs.Posing.{AskingOf, IsAsked, answered_setting};
-ghost use Rattle.pc_agg_search.specs.Wants.{IsDoubt, IsFound};
+ghost use Rattle.pc_agg_search.specs.Problem.{IsEasyFor, IsPosed, setting_of};
+ghost use Rattle.pc_agg_search.specs.Posing.{IsAsked};
+ghost use Rattle.pc_agg.specs.Calls.{OwesCall, OwesProblem};
+ghost use Rattle.pc_agg.specs.Posed.{HaveValue, IsPairAt, MayHaveValue};
+ghost use Rattle.pc_agg_search.specs.Posed.{AsksNumbers};
 
 use crate::bounds::impossible_by;
 use crate::grounds::{Grounded, Grounds, ground};
@@ -36,7 +35,7 @@ pub fn bound_min(
 ) -> Result<Answer, Memory>
     requires asked { AreAsked schema.now seen.now constraints.now cells.now query.now nodes }
     requires least { query.now.agg ≡ aggs.Min }
-    ensures owes { IfOk result (λ answer. (asking : Asking schema.now constraints.now query.now seen.now) → Owes (setting_for schema.now constraints.now query.now seen.now cells.now.tree.nodes asking) nodes answer) }
+    ensures owes { OwesCall schema.now seen.now constraints.now cells.now query.now nodes result }
 {
     let problem = Problem {
         schema,
@@ -61,7 +60,7 @@ pub fn bound_max(
 ) -> Result<Answer, Memory>
     requires asked { AreAsked schema.now seen.now constraints.now cells.now query.now nodes }
     requires greatest { query.now.agg ≡ aggs.Max }
-    ensures owes { IfOk result (λ answer. (asking : Asking schema.now constraints.now query.now seen.now) → Owes (setting_for schema.now constraints.now query.now seen.now cells.now.tree.nodes asking) nodes answer) }
+    ensures owes { OwesCall schema.now seen.now constraints.now cells.now query.now nodes result }
 {
     let problem = Problem {
         schema,
@@ -82,7 +81,7 @@ fn bound_extreme(
 ) -> Result<Answer, Memory>
     requires asked { IsAsked problem.now seen.now }
     requires extreme { problem.now.query.now.agg ≡ agg_of far }
-    ensures owes { IfOk result (λ answer. (asking : AskingOf problem.now seen.now) → Owes (answered_setting problem.now seen.now asking) problem.now.nodes answer) }
+    ensures owes { IfOk result (OwesProblem problem.now seen.now) }
 {
     let number = seen_number(seen, far);
     let observed = number.is_some();
@@ -130,12 +129,12 @@ fn stand_both(
     found: FoundCounts,
 ) -> Result<Pair, Memory>
     requires posed { IsPosed problem.now }
-    requires numbers { IsSomeAnd problem.now.query.now.column (IsColumnWhere IsNumeric problem.now.schema.now) }
+    requires numbers { AsksNumbers problem.now }
     requires some { HasValues (setting_of problem.now) (is_some number) }
     requires lawful { All (AreLawful (setting_of problem.now)) found }
-    requires doubt { IsDoubt (most_chosen (setting_of problem.now)) (want_for (is_some number)) problem.now.nodes found }
-    ensures pair { IfOk result (IsPair (setting_of problem.now) problem.now.nodes far number found) }
-    ensures disjoint { IsEasyProblem problem.now → 0 < length found → Any (IsFound (most_chosen (setting_of problem.now)) (want_for (is_some number))) found → IfOk result IsPairSurely }
+    requires doubt { MayHaveValue problem.now number found }
+    ensures pair { IfOk result (IsPairAt problem.now far number found) }
+    ensures disjoint { IsEasyFor problem.now → 0 < length found → HaveValue problem.now number found → IfOk result IsPairSurely }
 {
     let stood = search_end(
         alloc,

@@ -5,8 +5,9 @@ ghost use Rattle.pc_branch.specs.Outcome.{IsEasyProgram};
 ghost use Rattle.pc_branch.specs.Ends.{HasSmallGains};
 ghost use Rattle.pc_branch_licences.specs.Pools.{AreLawful};
 ghost use Rattle.pc_agg_search.specs.Wants.{want_for, IsMet, IsProbed, IsSure};
-ghost use Rattle.pc_agg.specs.Grounds.{HasValues, IsGrounded, IsGroundedSurely, IsLacking, IsLackingSurely, IsUnlistedIfNone};
-ghost use Rattle.pc_agg_search.specs.Problem.{IsEasyProblem, IsPosed, setting_of};
+ghost use Rattle.pc_agg.specs.Grounds.{HasValues, IsLacking, IsLackingSurely, IsUnlistedIfNone};
+ghost use Rattle.pc_agg_search.specs.Problem.{IsEasyFor, IsPosed, setting_of};
+ghost use Rattle.pc_agg.specs.Posed.{IsGroundedAt, IsGroundedSurelyAt};
 
 use crate::settling::{Settled, settle_totals};
 use pc_agg_search::{
@@ -49,8 +50,8 @@ pub(crate) fn ground(
     observed: bool,
 ) -> Result<Grounded, Memory>
     requires posed { IsPosed problem.now }
-    ensures grounded { IfOk result (IsGrounded (setting_of problem.now) observed problem.now.nodes) }
-    ensures disjoint { IsEasyProblem problem.now → IfOk result (IsGroundedSurely (setting_of problem.now) observed) }
+    ensures grounded { IfOk result (IsGroundedAt problem.now observed) }
+    ensures disjoint { IsEasyFor problem.now → IfOk result (IsGroundedSurelyAt problem.now observed) }
 {
     let Settled {
         relation,
@@ -76,8 +77,8 @@ fn ground_unseen(
     requires posed { IsPosed problem.now }
     requires lawful { All (AreLawful (setting_of problem.now)) found }
     requires totals { IsUnlistedIfNone (setting_of problem.now) problem.now.nodes found }
-    ensures grounded { IfOk result (IsGrounded (setting_of problem.now) false problem.now.nodes) }
-    ensures disjoint { IsEasyProblem problem.now → 0 < length found → IfOk result (IsGroundedSurely (setting_of problem.now) false) }
+    ensures grounded { IfOk result (IsGroundedAt problem.now false) }
+    ensures disjoint { IsEasyFor problem.now → 0 < length found → IfOk result (IsGroundedSurelyAt problem.now false) }
 {
     if !has_chosen(problem.cells) {
         let tree = flat_tree(alloc, problem.constraints.len())?;
@@ -119,8 +120,8 @@ fn ground_most(
     requires lawful { All (AreLawful (setting_of problem.now)) found }
     requires totals { IsUnlistedIfNone (setting_of problem.now) problem.now.nodes found }
     requires lacking { IsLacking (setting_of problem.now) observed problem.now.nodes found lacking }
-    ensures grounded { IfOk result (IsGrounded (setting_of problem.now) observed problem.now.nodes) }
-    ensures disjoint { IsEasyProblem problem.now → 0 < length found → IsLackingSurely (setting_of problem.now) found lacking → IfOk result (IsGroundedSurely (setting_of problem.now) observed) }
+    ensures grounded { IfOk result (IsGroundedAt problem.now observed) }
+    ensures disjoint { IsEasyFor problem.now → 0 < length found → IsLackingSurely (setting_of problem.now) found lacking → IfOk result (IsGroundedSurelyAt problem.now observed) }
 {
     let most = chosen_program(alloc, problem, 1)?;
     let want = want_for(observed);

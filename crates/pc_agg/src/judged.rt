@@ -1,7 +1,4 @@
-ghost use Rattle.std.specs.Prelude.{◌≡◌, ◌<◌, ◌≤◌, ◌^◌, nat_abs, List, [], All, IfOk, MatchOption, length, slice_index_or};
-ghost use Rattle.std.specs.List.{AllZip};
-ghost use Rattle.pc_model.specs.Cells.{IsInSome};
-ghost use Rattle.pc_cells.specs.declared.cells.Cell.{Cell};
+ghost use Rattle.std.specs.Prelude.{◌≡◌, ◌<◌, ◌≤◌, ◌^◌, nat_abs, List, All, IfOk, length};
 ghost use Rattle.pc_cells.specs.Found.{IsFilled};
 ghost use Rattle.pc_model.specs.declared.row.Row.{Row};
 ghost use Rattle.pc_program_bound.specs.Allocation.{IsProgram};
@@ -11,8 +8,9 @@ ghost use Rattle.pc_agg_search.specs.declared.extreme.Extreme.TheVariants.{Low, 
 ghost use Rattle.pc_agg.specs.Extremes.{always_as, crossed, judged, relation_from, CanStand, IsJudged, IsJudgedOver, IsLackFrom, IsOpenLack};
 ghost use Rattle.pc_agg_search.specs.Ends.{signed};
 ghost use Rattle.pc_agg_search.specs.Problem.{IsPosed, setting_of};
-ghost use Rattle.pc_agg_search.specs.Wants.{IsFound, IsMet};
+ghost use Rattle.pc_agg_search.specs.Wants.{IsFound, IsMet, IsPlaceOf};
 ghost use Rattle.pc_agg.specs.Stands.{IsEndAt, IsMarkedBy};
+ghost use Rattle.pc_agg_search.specs.Targets.{AreRowsIn};
 
 use crate::bounds::{bounded_by, impossible_by};
 use crate::grounds::{Grounds, Lacking};
@@ -154,7 +152,7 @@ pub(crate) fn always_by(
 ) -> Result<Answer, Memory>
     requires filled { All IsFilled cells.now.cells }
     requires sized { All (λ counts. length counts ≡ length cells.now.cells) found.now }
-    ensures { IfOk result (λ answer. (picks : List Row) × AllZip (λ (cell : Cell) row. IsInSome cell.leaves row) cells.now.cells picks × (answer ≡ always_as (relation_from picks found.now) by)) }
+    ensures { IfOk result (λ answer. (picks : List Row) × AreRowsIn cells.now.cells picks × (answer ≡ always_as (relation_from picks found.now) by)) }
 {
     let picks = rows_of_cells(alloc, cells)?;
     let relation = relation_from(alloc, picks.as_slice(), found)?;
@@ -225,7 +223,7 @@ fn place_in(program: Program, want: Want, found: &[Seq<u64>]) -> Option<usize>
     requires program { IsProgram program }
     requires small { HasSmallGains program }
     requires met { All (IsMet program) found.now }
-    ensures { MatchOption result (All (λ counts. IsFound program want counts → ⊥) found.now) (λ place. (place < length found.now) × IsFound program want (slice_index_or found.now place [])) }
+    ensures { IsPlaceOf (IsFound program want) found.now result }
 {
     find_wanted(&program, want, found)
 }

@@ -1,10 +1,10 @@
-ghost use Rattle.std.specs.Prelude.{◌≡◌, ◌++◌, ◌&&◌, [], ◌∷◌, cond, length, map, IfOk};
+ghost use Rattle.std.specs.Prelude.{◌≡◌, ◌++◌, ◌&&◌, [], ◌∷◌, cond, length, IfOk};
 ghost use Rattle.std.specs.Option.{option_to_list};
-ghost use Rattle.pc_proof.specs.Setting.{cells, on_chosen};
+ghost use Rattle.pc_proof.specs.Setting.{cells};
 ghost use Rattle.pc_agg.specs.Kept.{passes, AreKept};
-ghost use Rattle.pc_agg_search.specs.Keys.{key_of};
 ghost use Rattle.pc_agg.specs.Rungs.{AreRungs, IsLadder};
 ghost use Rattle.pc_agg_search.specs.Problem.{IsPosed, setting_of};
+ghost use Rattle.pc_agg_search.specs.Posed.{keys_of};
 
 use crate::falling::falling_of;
 use pc_agg_search::{Extreme, Problem};
@@ -42,7 +42,7 @@ pub(crate) fn ladder_of(
     seen: Option<i128>,
 ) -> Result<Ladder, Memory>
     requires posed { IsPosed problem.now }
-    requires keyed { keys ≡ map (on_chosen (key_of (setting_of problem.now) extreme)) (cells (setting_of problem.now)) }
+    requires keyed { keys ≡ keys_of problem.now extreme }
     ensures extreme { IfOk result (λ ladder. ladder.extreme ≡ extreme) }
     ensures test { IfOk result (λ ladder. ladder.test ≡ test) }
     ensures keyed { IfOk result (IsLadder (setting_of problem.now)) }

@@ -1,15 +1,13 @@
-ghost use Rattle.std.specs.Prelude.{◌≡◌, ◌<◌, ◌&&◌, pos, int_le, int_lt, cond, length, map, IfOk};
+ghost use Rattle.std.specs.Prelude.{◌≡◌, ◌<◌, ◌&&◌, pos, int_le, int_lt, cond, length, IfOk};
 ghost use Rattle.pc_program_bound.specs.Allocation.{IsProgram};
 ghost use Rattle.pc_program_bound.specs.Sums.{int_at};
-ghost use Rattle.pc_program_bound.specs.CellPrograms.{program_with};
 ghost use Rattle.pc_branch.specs.Ends.{HasSmallGains};
 ghost use Rattle.pc_branch.specs.Outcome.{IsEasyProgram};
 ghost use Rattle.pc_simplex_tableau.specs.Numbers.{table};
-ghost use Rattle.pc_cells.specs.Found.{class_of_cell};
 ghost use Rattle.pc_agg.specs.Keyed.{reach_gain, avoid_cap, with_closed, tested_program};
-ghost use Rattle.pc_agg_search.specs.Targets.{chosen_gain};
+ghost use Rattle.pc_agg_search.specs.Targets.{chosen_gain, cell_program};
 ghost use Rattle.pc_agg.specs.Rungs.{program_at, IsLadder};
-ghost use Rattle.pc_agg_search.specs.Problem.{IsEasyProblem, IsPosed, setting_of};
+ghost use Rattle.pc_agg_search.specs.Problem.{IsEasyFor, IsPosed, setting_of};
 
 use crate::ladder::{Ladder, Test};
 use pc_agg_search::{Problem, chosen_gains, program_of};
@@ -33,7 +31,7 @@ pub(crate) fn program_at(
     ensures program { IfOk result (λ p. p ≡ program_at (setting_of problem.now) ladder.now place) }
     ensures is_program { IfOk result IsProgram }
     ensures small { IfOk result HasSmallGains }
-    ensures disjoint { IsEasyProblem problem.now → IfOk result IsEasyProgram }
+    ensures disjoint { IsEasyFor problem.now → IfOk result IsEasyProgram }
 {
     tested(alloc, problem.constraints, problem.cells, ladder, place)
 }
@@ -68,7 +66,7 @@ fn reaching(
     rung: i128,
 ) -> Result<Program, Memory>
     requires keyed { length keys.now ≡ length cells.now }
-    ensures { IfOk result (λ p. p ≡ program_with constraints.now (map class_of_cell cells.now) (table (length cells.now) (reach_gain cells.now keys.now rung))) }
+    ensures { IfOk result (λ p. p ≡ cell_program constraints.now cells.now (table (length cells.now) (reach_gain cells.now keys.now rung))) }
 {
     let gains = reach_gains(alloc, cells, keys, rung)?;
     program_of(alloc, constraints, cells, gains)
@@ -109,7 +107,7 @@ fn avoiding(
     rung: i128,
 ) -> Result<Program, Memory>
     requires keyed { length keys.now ≡ length cells.now }
-    ensures { IfOk result (λ p. p ≡ with_closed (program_with constraints.now (map class_of_cell cells.now) (table (length cells.now) (chosen_gain cells.now (pos 1)))) cells.now keys.now rung) }
+    ensures { IfOk result (λ p. p ≡ with_closed (cell_program constraints.now cells.now (table (length cells.now) (chosen_gain cells.now (pos 1)))) cells.now keys.now rung) }
 {
     let gains = chosen_gains(alloc, cells, 1)?;
     let open = program_of(alloc, constraints, cells, gains)?;

@@ -1,18 +1,15 @@
 ghost use Rattle.std.specs.Prelude.{◌≡◌, ℕ, ◌<◌, ◌≤◌, ◌^◌, ◌⊎◌, pos, neg_ℤ, nat_abs, length, [], ◌∷◌, slice_index_or, true, None, All, IsTrue, IfOk, IfSome};
-ghost use Rattle.std.specs.List.{AllZip};
-ghost use Rattle.pc_cells.specs.declared.cells.Cell.{Cell};
-ghost use Rattle.pc_model.specs.Runs.{runs_from};
-ghost use Rattle.pc_model.specs.Cells.{IsInSome};
 ghost use Rattle.pc_cells.specs.Found.{IsFilled};
-ghost use Rattle.pc_proof.specs.Setting.{program_for};
 ghost use Rattle.pc_proof.specs.declared.answer.Relation.TheVariants as relations;
 ghost use Rattle.pc_proof.specs.declared.answer.Lack.TheVariants as lacks;
 ghost use Rattle.pc_proof.specs.Unbroken.{IsDecided};
 ghost use Rattle.pc_branch_licences.specs.Pools.{AreLawful};
-ghost use Rattle.pc_agg_search.specs.Problem.{IsEasyProblem, IsPosed, setting_of};
+ghost use Rattle.pc_agg_search.specs.Problem.{IsEasyFor, IsPosed, setting_of};
 ghost use Rattle.pc_agg_search.specs.declared.limit.Limit.{Limit};
 ghost use Rattle.pc_agg.specs.declared.settling.Total.TheVariants as totals;
-ghost use Rattle.pc_agg.specs.Settling.{AreOpenTotals, IsLimitOfGain, IsSettled, IsTotal, IsTotalDecided, IsTotalOf, left_open, settled_after};
+ghost use Rattle.pc_agg.specs.Settling.{AreOpenTotals, IsLimitOfGain, IsSettled, IsTotalDecided, IsTotalOf, left_open, settled_after};
+ghost use Rattle.pc_agg.specs.Posed.{IsTotalAt};
+ghost use Rattle.pc_agg_search.specs.Targets.{AreRowsIn};
 
 use pc_agg_search::{FoundCounts, Limit, Problem, Sought, equal_gains, seek};
 use pc_cells::Cells;
@@ -50,9 +47,9 @@ pub(crate) fn settle_open(
     requires posed { IsPosed problem.now }
     requires low { IsLimitOfGain (setting_of problem.now) problem.now.nodes low.now }
     requires high { IsLimitOfGain (setting_of problem.now) problem.now.nodes high.now }
-    requires closed { IsEasyProblem problem.now → low.now.found ≡ None → ⊥ }
+    requires closed { IsEasyFor problem.now → low.now.found ≡ None → ⊥ }
     ensures settled { IfOk result (IsSettled (setting_of problem.now) problem.now.nodes) }
-    ensures disjoint { IsEasyProblem problem.now → IfOk result (λ settled. IsDecided settled.relation) }
+    ensures disjoint { IsEasyFor problem.now → IfOk result (λ settled. IsDecided settled.relation) }
 {
     if are_open_totals(low, high) {
         return Ok(undecided(alloc));
@@ -99,7 +96,7 @@ fn undecided(alloc: Global) -> Settled
 pub(crate) fn settle_totals(alloc: Global, problem: &Problem<'_>) -> Result<Settled, Memory>
     requires posed { IsPosed problem.now }
     ensures settled { IfOk result (IsSettled (setting_of problem.now) problem.now.nodes) }
-    ensures disjoint { IsEasyProblem problem.now → IfOk result (λ settled. IsDecided settled.relation) }
+    ensures disjoint { IsEasyFor problem.now → IfOk result (λ settled. IsDecided settled.relation) }
 {
     let most = match find_total(alloc, problem, 1)? {
         Total::Settled(settled) => return Ok(settled),
@@ -125,8 +122,8 @@ fn settled_after(alloc: Global, most: Limit, fewest: Total) -> Settled
 fn find_total(alloc: Global, problem: &Problem<'_>, gain: i128) -> Result<Total, Memory>
     requires posed { IsPosed problem.now }
     requires one { (gain ≡ pos 1) ⊎ (gain ≡ neg_ℤ (pos 1)) }
-    ensures total { IfOk result (IsTotal (setting_of problem.now) problem.now.nodes (program_for (setting_of problem.now) (λ _. gain))) }
-    ensures disjoint { IsEasyProblem problem.now → IfOk result IsTotalDecided }
+    ensures total { IfOk result (IsTotalAt problem.now gain) }
+    ensures disjoint { IsEasyFor problem.now → IfOk result IsTotalDecided }
 {
     let gains = equal_gains(alloc, problem.cells.cells.len(), gain)?;
     match seek(alloc, problem, gains)? {
@@ -185,7 +182,7 @@ fn only(alloc: Global, counts: Seq<u64>) -> Result<FoundCounts, Memory>
 pub(crate) fn listed(alloc: Global, picks: &[Row], found: FoundCounts) -> Result<Settled, Memory>
     requires some { 0 < length found }
     requires sized { length picks.now ≡ length (slice_index_or found 0 []) }
-    ensures { IfOk result (λ settled. settled ≡ record { relation = relations.Possible (runs_from picks.now (slice_index_or found 0 [])); lack = lacks.Silent; found = found }) }
+    ensures { IfOk result (λ settled. settled ≡ listed picks.now found) }
 {
     let runs = rebuild(alloc, picks, found.as_slice()[0].as_slice())?;
     Ok(Settled {
@@ -196,7 +193,7 @@ pub(crate) fn listed(alloc: Global, picks: &[Row], found: FoundCounts) -> Result
 }
 
 pub(crate) fn impossible(alloc: Global, why: Why) -> Settled
-    ensures { result ≡ record { relation = relations.Impossible why; lack = lacks.Silent; found = [] } }
+    ensures { result ≡ impossible why }
 {
     Settled {
         relation: Relation::Impossible(why),
@@ -236,7 +233,7 @@ fn negated(number: i128) -> i128
 /// A row of each cell.
 pub(crate) fn rows_of_cells(alloc: Global, cells: &Cells) -> Result<Seq<Row>, Memory>
     requires filled { All IsFilled cells.now.cells }
-    ensures { IfOk result (λ picks. AllZip (λ (cell : Cell) row. IsInSome cell.leaves row) cells.now.cells picks) }
+    ensures { IfOk result (λ picks. AreRowsIn cells.now.cells picks) }
 {
     let mut picks = Seq::new(alloc);
     for place in 0..cells.cells.len() {

@@ -1,12 +1,12 @@
-ghost use Rattle.std.specs.Prelude.{◌≡◌, ◌-◌, ◌<◌, ◌≤◌, ◌^◌, ◌==◌, nat_abs, length, All, Any, IfOk, IfSome, IsSomeAnd, is_some};
-ghost use Rattle.pc_model.specs.Accepted.{IsNumeric, IsColumnWhere};
+ghost use Rattle.std.specs.Prelude.{◌≡◌, ◌-◌, ◌<◌, ◌≤◌, ◌^◌, ◌==◌, nat_abs, length, All, Any, IfOk, IfSome, is_some};
 ghost use Rattle.pc_branch_licences.specs.Pools.{AreLawful};
-ghost use Rattle.pc_agg_search.specs.Wants.{most_chosen, want_for};
+ghost use Rattle.pc_agg_search.specs.Wants.{want_for};
 ghost use Rattle.pc_agg.specs.Grounds.{HasValues};
 ghost use Rattle.pc_agg.specs.Rungs.{IsLadder};
-ghost use Rattle.pc_agg_search.specs.Problem.{IsEasyProblem, IsPosed, setting_of};
-ghost use Rattle.pc_agg.specs.Stands.{is_observed, proof_of, want_at, IsAttaining, IsStood, IsStoodOn, IsStoodSurely};
-ghost use Rattle.pc_agg_search.specs.Wants.{IsDoubt, IsFound};
+ghost use Rattle.pc_agg_search.specs.Problem.{IsEasyFor, IsPosed, setting_of};
+ghost use Rattle.pc_agg.specs.Stands.{is_observed, proof_of, want_at, IsAttaining, IsStoodOn, IsStoodSurely};
+ghost use Rattle.pc_agg.specs.Posed.{HaveValue, IsStoodOf, MayHaveValue};
+ghost use Rattle.pc_agg_search.specs.Posed.{AsksNumbers};
 
 use crate::climb::{Climbed, Standing, climb};
 use crate::ladder::{Ladder, Test, ladder_of};
@@ -56,13 +56,13 @@ pub(crate) fn search_end(
     found: FoundCounts,
 ) -> Result<Stood, Memory>
     requires posed { IsPosed problem.now }
-    requires numbers { IsSomeAnd problem.now.query.now.column (IsColumnWhere IsNumeric problem.now.schema.now) }
+    requires numbers { AsksNumbers problem.now }
     requires some { HasValues (setting_of problem.now) (is_some seen) }
     requires lawful { All (AreLawful (setting_of problem.now)) found }
-    requires doubt { IsDoubt (most_chosen (setting_of problem.now)) (want_for (is_some seen)) problem.now.nodes found }
+    requires doubt { MayHaveValue problem.now seen found }
     requires small_seen { IfSome seen (λ m. nat_abs m ≤ 2 ^ 63) }
-    ensures stood { IfOk result (IsStood (setting_of problem.now) problem.now.nodes extreme test seen found) }
-    ensures disjoint { IsEasyProblem problem.now → 0 < length found → Any (IsFound (most_chosen (setting_of problem.now)) (want_for (is_some seen))) found → IfOk result IsStoodSurely }
+    ensures stood { IfOk result (IsStoodOf problem.now extreme test seen found) }
+    ensures disjoint { IsEasyFor problem.now → 0 < length found → HaveValue problem.now seen found → IfOk result IsStoodSurely }
 {
     let Targets { gains, picks } = find_keys(alloc, problem, extreme)?;
     let observed = seen.is_some();

@@ -15,7 +15,7 @@ use Rattle.pc_cells.specs.Found.{class_of_cell}
 use Rattle.pc_proof.specs.Setting.{Setting, cells, on_chosen, program_for}
 use Rattle.pc_agg_search.specs.declared.problem.Problem.{Problem}
 use Rattle.pc_agg_search.specs.Limits.{greatest_gain}
-use Rattle.pc_agg_search.specs.Problem.{IsEasyProblem, IsPosed, setting_of}
+use Rattle.pc_agg_search.specs.Problem.{IsEasyFor, IsPosed, setting_of}
 use Rattle.pc_agg_search.specs.Targets.{chosen_gain}
 use Rattle.pc_proof.proofs.Masks.{map_twice}
 use Rattle.pc_agg_search.proofs.PosedPrograms.{own_classes, for_program, for_small, for_easy}
@@ -78,7 +78,7 @@ module _ (problem : Problem) (posed : IsPosed problem) where
       pub chosen_small : HasSmallGains p
       chosen_small = subst HasSmallGains (sym chosen_for) (for_small problem posed (on_chosen (λ class. gain)) each_small)
 
-      pub chosen_easy : IsEasyProblem problem → IsEasyProgram p
+      pub chosen_easy : IsEasyFor problem → IsEasyProgram p
       chosen_easy easy = subst IsEasyProgram (sym chosen_for) (for_easy problem posed (on_chosen (λ class. gain)) each_small easy)
 
   -- ---- and in all cells
@@ -94,5 +94,5 @@ module _ (problem : Problem) (posed : IsPosed problem) where
       pub even_small : HasSmallGains p
       even_small = subst HasSmallGains (sym even_for) (for_small problem posed (λ class. gain) (λ class. small))
 
-      pub even_easy : IsEasyProblem problem → IsEasyProgram p
+      pub even_easy : IsEasyFor problem → IsEasyProgram p
       even_easy easy = subst IsEasyProgram (sym even_for) (for_easy problem posed (λ class. gain) (λ class. small) easy)

@@ -11,7 +11,7 @@ use Rattle.pc_cells.specs.Found.{class_of_cell}
 use Rattle.pc_proof.specs.Setting.{cells, program_for, program_without}
 use Rattle.pc_agg_search.specs.declared.problem.Problem.{Problem}
 use Rattle.pc_agg_search.specs.Limits.{greatest_gain}
-use Rattle.pc_agg_search.specs.Problem.{IsEasyProblem, IsPosed, gained_program, setting_of}
+use Rattle.pc_agg_search.specs.Problem.{IsEasyFor, IsPosed, gained_program, setting_of}
 use Rattle.pc_agg_search.proofs.SettledPrograms.{classes_are, cells_program, cells_small, cells_easy, program_is}
 use Rattle.pc_agg_search.proofs.UnseenPrograms as unseens
 
@@ -39,7 +39,7 @@ module _ (problem : Problem) (posed : IsPosed problem) where
             cells_small problem.schema.now problem.constraints.now problem.query.now.chosen problem.cells.now.tree.nodes problem.cells.now.cells gains posed.formed posed.found.tree posed.found.listed p is
             posed.limited sized small
 
-        pub gained_easy : IsEasyProblem problem → IsEasyProgram p
+        pub gained_easy : IsEasyFor problem → IsEasyProgram p
         gained_easy easy =
             cells_easy problem.schema.now problem.constraints.now problem.query.now.chosen problem.cells.now.tree.nodes problem.cells.now.cells gains posed.formed posed.found.tree posed.found.listed p is
             posed.limited easy sized small
@@ -54,7 +54,7 @@ module _ (problem : Problem) (posed : IsPosed problem) where
       pub for_small : HasSmallGains (program_for (setting_of problem) gain)
       for_small = unseens.for_small problem.schema.now problem.constraints.now problem.query.now problem.cells.now.tree.nodes posed.formed posed.limited posed.found.tree gain small
 
-      pub for_easy : IsEasyProblem problem → IsEasyProgram (program_for (setting_of problem) gain)
+      pub for_easy : IsEasyFor problem → IsEasyProgram (program_for (setting_of problem) gain)
       for_easy easy = unseens.for_easy problem.schema.now problem.constraints.now problem.query.now problem.cells.now.tree.nodes posed.formed posed.limited posed.found.tree gain small easy
 
   -- ---- chosen cells that are closed
@@ -66,5 +66,5 @@ module _ (problem : Problem) (posed : IsPosed problem) where
     pub without_small : HasSmallGains (program_without (setting_of problem) closed)
     without_small = unseens.without_small problem.schema.now problem.constraints.now problem.query.now problem.cells.now.tree.nodes posed.formed posed.limited posed.found.tree closed
 
-    pub without_easy : IsEasyProblem problem → IsEasyProgram (program_without (setting_of problem) closed)
+    pub without_easy : IsEasyFor problem → IsEasyProgram (program_without (setting_of problem) closed)
     without_easy easy = unseens.without_easy problem.schema.now problem.constraints.now problem.query.now problem.cells.now.tree.nodes posed.formed posed.limited posed.found.tree closed easy

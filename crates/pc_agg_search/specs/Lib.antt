@@ -5,6 +5,7 @@ pub mod Fitting
 pub mod Flat
 pub mod Keys
 pub mod Limits
+pub mod Posed
 pub mod Posing
 pub mod Probing
 pub mod Problem

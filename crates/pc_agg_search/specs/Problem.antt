@@ -21,8 +21,8 @@ pub record IsPosed (p : Problem) : Type 0 where
   pub nodes : (1 ≤ p.nodes) × (p.nodes ≤ 100_000)
 
 -- every search of the problem ends within its budget
-abbrev pub IsEasyProblem : Problem → Type 0
-IsEasyProblem p = IsEasy p.schema.now p.constraints.now
+abbrev pub IsEasyFor : Problem → Type 0
+IsEasyFor p = IsEasy p.schema.now p.constraints.now
 
 -- the program of the cells with a gain for each
 abbrev pub gained_program : Problem → List ℤ → Program

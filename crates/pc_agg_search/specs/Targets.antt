@@ -3,11 +3,23 @@ use Rattle.std.specs.Prelude.{◌≡◌, ◌≤◌, ◌^◌, ℕ, ℤ, pos, nat_
 use Rattle.std.specs.List.{AllZip}
 use Rattle.pc_model.specs.declared.row.Row.{Row}
 use Rattle.pc_model.specs.declared.region.Region.{Region}
+use Rattle.pc_model.specs.declared.constraint.Constraint.{Constraint}
 use Rattle.pc_model.specs.Cells.{IsInSome, least_low, greatest_high}
+use Rattle.pc_program_bound.specs.declared.program.Program.{Program}
+use Rattle.pc_program_bound.specs.CellPrograms.{program_with}
 use Rattle.pc_cells.specs.declared.cells.Cell.{Cell}
+use Rattle.pc_cells.specs.Found.{class_of_cell}
 use Rattle.pc_agg_search.specs.declared.extreme.Extreme.{Extreme}
 use Rattle.pc_agg_search.specs.declared.extreme.Extreme.TheVariants.{Low, High}
 use Rattle.pc_agg_search.specs.Ends.{signed}
+
+-- the program of cells with a gain for each
+abbrev pub cell_program : List Constraint → List Cell → List ℤ → Program
+cell_program constraints cells gains = program_with constraints (map class_of_cell cells) gains
+
+-- a row of each cell
+abbrev pub AreRowsIn : List Cell → List Row → Type 0
+AreRowsIn cells picks = AllZip (λ (cell : Cell) row. IsInSome cell.leaves row) cells picks
 
 abbrev pub cell_at : List Cell → ℕ → Cell
 cell_at cells place = slice_index_or cells place (record { mask = 0; chosen = false; leaves = [] })

@@ -1,14 +1,12 @@
-ghost use Rattle.std.specs.Prelude.{◌≡◌, ◌≤◌, nat_abs, pos, cond, length, map, replicate, All, IfOk};
+ghost use Rattle.std.specs.Prelude.{◌≡◌, ◌≤◌, nat_abs, pos, cond, length, replicate, All, IfOk};
 ghost use Rattle.pc_program_bound.specs.Allocation.{IsProgram};
-ghost use Rattle.pc_program_bound.specs.CellPrograms.{program_with};
 ghost use Rattle.pc_branch.specs.Ends.{HasSmallGains};
 ghost use Rattle.pc_branch.specs.Outcome.{IsEasyProgram};
 ghost use Rattle.pc_simplex_tableau.specs.Numbers.{table};
-ghost use Rattle.pc_cells.specs.Found.{class_of_cell};
 ghost use Rattle.pc_proof.specs.Setting.{on_chosen, program_for};
-ghost use Rattle.pc_agg_search.specs.Targets.{chosen_gain};
+ghost use Rattle.pc_agg_search.specs.Targets.{chosen_gain, cell_program};
 ghost use Rattle.pc_agg_search.specs.Limits.{greatest_gain};
-ghost use Rattle.pc_agg_search.specs.Problem.{IsEasyProblem, IsPosed, gained_program, setting_of};
+ghost use Rattle.pc_agg_search.specs.Problem.{IsEasyFor, IsPosed, gained_program, setting_of};
 
 use crate::problem::Problem;
 use crate::programs::program_of;
@@ -31,7 +29,7 @@ pub fn gained_program(
     ensures program { IfOk result (λ p. p ≡ gained_program problem.now gains) }
     ensures is_program { IfOk result IsProgram }
     ensures small { IfOk result HasSmallGains }
-    ensures disjoint { IsEasyProblem problem.now → IfOk result IsEasyProgram }
+    ensures disjoint { IsEasyFor problem.now → IfOk result IsEasyProgram }
 {
     program_of(
         alloc,
@@ -48,7 +46,7 @@ pub fn chosen_program(alloc: Global, problem: &Problem<'_>, gain: i128) -> Resul
     ensures program { IfOk result (λ p. p ≡ program_for (setting_of problem.now) (on_chosen (λ _. gain))) }
     ensures is_program { IfOk result IsProgram }
     ensures small { IfOk result HasSmallGains }
-    ensures disjoint { IsEasyProblem problem.now → IfOk result IsEasyProgram }
+    ensures disjoint { IsEasyFor problem.now → IfOk result IsEasyProgram }
 {
     chosen_alone(alloc, problem.constraints, problem.cells, gain)
 }
@@ -60,7 +58,7 @@ fn chosen_alone(
     cells: &Cells,
     gain: i128,
 ) -> Result<Program, Memory>
-    ensures { IfOk result (λ p. p ≡ program_with constraints.now (map class_of_cell cells.now.cells) (table (length cells.now.cells) (chosen_gain cells.now.cells gain))) }
+    ensures { IfOk result (λ p. p ≡ cell_program constraints.now cells.now.cells (table (length cells.now.cells) (chosen_gain cells.now.cells gain))) }
 {
     let listed = cells.cells.as_slice();
     let gains = chosen_gains(alloc, listed, gain)?;
@@ -74,7 +72,7 @@ pub fn total_program(alloc: Global, problem: &Problem<'_>, gain: i128) -> Result
     ensures program { IfOk result (λ p. p ≡ program_for (setting_of problem.now) (λ _. gain)) }
     ensures is_program { IfOk result IsProgram }
     ensures small { IfOk result HasSmallGains }
-    ensures disjoint { IsEasyProblem problem.now → IfOk result IsEasyProgram }
+    ensures disjoint { IsEasyFor problem.now → IfOk result IsEasyProgram }
 {
     total_alone(alloc, problem.constraints, problem.cells, gain)
 }
@@ -86,7 +84,7 @@ fn total_alone(
     cells: &Cells,
     gain: i128,
 ) -> Result<Program, Memory>
-    ensures { IfOk result (λ p. p ≡ program_with constraints.now (map class_of_cell cells.now.cells) (replicate (length cells.now.cells) gain)) }
+    ensures { IfOk result (λ p. p ≡ cell_program constraints.now cells.now.cells (replicate (length cells.now.cells) gain)) }
 {
     let listed = cells.cells.as_slice();
     let gains = equal_gains(alloc, listed.len(), gain)?;

@@ -3,7 +3,7 @@ ghost use Rattle.pc_program_bound.specs.Allocation.{IsProgram};
 ghost use Rattle.pc_branch.specs.Ends.{HasSmallGains};
 ghost use Rattle.pc_branch.specs.Outcome.{IsOutcome, IsDecided};
 ghost use Rattle.pc_agg_search.specs.Limits.{greatest_gain, IsSought, IsClosed};
-ghost use Rattle.pc_agg_search.specs.Problem.{IsEasyProblem, IsPosed, gained_program};
+ghost use Rattle.pc_agg_search.specs.Problem.{IsEasyFor, IsPosed, gained_program};
 
 use crate::gains::gained_program;
 use crate::problem::Problem;
@@ -37,7 +37,7 @@ pub fn seek(alloc: Global, problem: &Problem<'_>, gains: Seq<i128>) -> Result<So
     requires sized { length gains ≡ length problem.now.cells.now.cells }
     requires small_gains { All (λ gain. nat_abs gain ≤ greatest_gain) gains }
     ensures sought { IfOk result (IsSought (gained_program problem.now gains) problem.now.nodes) }
-    ensures disjoint { IsEasyProblem problem.now → IfOk result (IsClosed (gained_program problem.now gains)) }
+    ensures disjoint { IsEasyFor problem.now → IfOk result (IsClosed (gained_program problem.now gains)) }
 {
     let program = gained_program(alloc, problem, gains)?;
     let outcome = solve(alloc, &program, problem.nodes)?;

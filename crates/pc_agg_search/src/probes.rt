@@ -1,4 +1,4 @@
-ghost use Rattle.std.specs.Prelude.{◌≡◌, ◌↔◌, ◌<◌, ◌≤◌, ◌++◌, ℕ, cond, [], All, IfOk, IsTrue, MatchOption, length, slice_index_or};
+ghost use Rattle.std.specs.Prelude.{◌≡◌, ◌↔◌, ◌<◌, ◌≤◌, ◌++◌, ℕ, cond, All, IfOk, IsTrue, length};
 ghost use Rattle.pc_program_bound.specs.Sums.{nat_at};
 ghost use Rattle.pc_program_bound.specs.Allocation.{IsProgram, cells_of};
 ghost use Rattle.pc_branch.specs.Ends.{HasSmallGains};
@@ -6,7 +6,7 @@ ghost use Rattle.pc_branch.specs.Outcome.{IsEasyProgram};
 ghost use Rattle.pc_agg_search.specs.declared.probes.ProbeVerdict.TheVariants as verdicts;
 ghost use Rattle.pc_agg_search.specs.Limits.{found_of};
 ghost use Rattle.pc_agg_search.specs.Probing.{is_under, within};
-ghost use Rattle.pc_agg_search.specs.Wants.{IsFound, IsMet, IsProbed, IsSure};
+ghost use Rattle.pc_agg_search.specs.Wants.{IsFound, IsMet, IsProbed, IsSure, IsPlaceOf};
 
 use crate::reached::worth;
 use crate::want::Want;
@@ -128,7 +128,7 @@ pub fn find_wanted(program: &Program, want: Want, found: &[Seq<u64>]) -> Option<
     requires program { IsProgram program.now }
     requires small { HasSmallGains program.now }
     requires met { All (IsMet program.now) found.now }
-    ensures { MatchOption result (All (λ counts. IsFound program.now want counts → ⊥) found.now) (λ place. (place < length found.now) × IsFound program.now want (slice_index_or found.now place [])) }
+    ensures { IsPlaceOf (IsFound program.now want) found.now result }
 {
     for place in 0..found.len() {
         if is_wanted(program, want, found[place].as_slice()) {

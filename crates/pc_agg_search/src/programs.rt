@@ -1,7 +1,6 @@
 ghost use Rattle.std.specs.Prelude.{◌≡◌, map, IfOk};
-ghost use Rattle.pc_program_bound.specs.CellPrograms.{program_with};
 ghost use Rattle.pc_cells.specs.declared.cells.Cell.{Cell};
-ghost use Rattle.pc_cells.specs.Found.{class_of_cell};
+ghost use Rattle.pc_agg_search.specs.Targets.{cell_program};
 
 use pc_cells::Cell;
 use pc_list::Seq;
@@ -17,7 +16,7 @@ pub fn program_of(
     cells: &[Cell],
     gains: Seq<i128>,
 ) -> Result<Program, Memory>
-    ensures { IfOk result (λ program. program ≡ program_with constraints.now (map class_of_cell cells.now) gains) }
+    ensures { IfOk result (λ program. program ≡ cell_program constraints.now cells.now gains) }
 {
     let masks = masks_of(alloc, cells)?;
     pc_proof::program_of(alloc, constraints, masks, gains)

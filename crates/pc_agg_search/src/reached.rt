@@ -1,6 +1,7 @@
-ghost use Rattle.std.specs.Prelude.{◌≡◌, ◌<◌, ◌≤◌, ◌*◌, ◌^◌, pos, nat_abs, ◌+ℤ◌, ◌*ℤ◌, length, [], All, MatchOption, slice_index_or};
+ghost use Rattle.std.specs.Prelude.{◌≡◌, ◌<◌, ◌≤◌, ◌*◌, ◌^◌, pos, nat_abs, ◌+ℤ◌, ◌*ℤ◌, All};
 ghost use Rattle.pc_program_bound.specs.Allocation.{IsProgram, IsAllocation, worth};
 ghost use Rattle.pc_branch.specs.Ends.{HasSmallGains};
+ghost use Rattle.pc_agg_search.specs.Wants.{IsPlaceOf};
 
 use pc_list::Seq;
 use pc_program_bound::Program;
@@ -10,7 +11,7 @@ pub fn find_worth(p: &Program, found: &[Seq<u64>], wanted: i128) -> Option<usize
     requires program { IsProgram p.now }
     requires small { HasSmallGains p.now }
     requires allowed { All (IsAllocation p.now p.now.floor p.now.cap) found.now }
-    ensures { MatchOption result (All (λ counts. worth p.now counts ≡ wanted → ⊥) found.now) (λ place. (place < length found.now) × (worth p.now (slice_index_or found.now place []) ≡ wanted)) }
+    ensures { IsPlaceOf (λ counts. worth p.now counts ≡ wanted) found.now result }
 {
     for place in 0..found.len() {
         if worth(p, found[place].as_slice()) == wanted {

@@ -1,13 +1,12 @@
-ghost use Rattle.std.specs.Prelude.{◌≡◌, ◌<◌, ◌≤◌, ◌^◌, pos, nat_abs, length, map, cond, true, None, Some, All, IfOk, IfSome, IsSomeAnd};
-ghost use Rattle.std.specs.List.{AllZip};
-ghost use Rattle.pc_model.specs.Accepted.{IsQuery, IsNumeric, IsColumnWhere};
+ghost use Rattle.std.specs.Prelude.{◌≡◌, ◌<◌, ◌≤◌, ◌^◌, pos, nat_abs, length, cond, true, None, Some, All, IfOk, IfSome};
+ghost use Rattle.pc_model.specs.Accepted.{IsQuery};
 ghost use Rattle.pc_model.specs.Right.{always_has_value};
 ghost use Rattle.pc_cells.specs.Found.{leaves_at, IsFilled, HoldsNumber, HasNumbers};
-ghost use Rattle.pc_proof.specs.Setting.{cells, on_chosen};
-ghost use Rattle.pc_agg_search.specs.Ends.{gain_towards, signed, IsPick};
-ghost use Rattle.pc_agg_search.specs.Keys.{key_of, IsAtEnd};
-ghost use Rattle.pc_agg_search.specs.Problem.{IsPosed, setting_of};
+ghost use Rattle.pc_proof.specs.Setting.{cells};
+ghost use Rattle.pc_agg_search.specs.Ends.{signed};
+ghost use Rattle.pc_agg_search.specs.Problem.{IsPosed};
 ghost use Rattle.pc_agg_search.specs.Targets.{cell_at, number_in, IsTarget, AreTargets};
+ghost use Rattle.pc_agg_search.specs.Posed.{AreAtEnd, ArePicks, AsksNumbers, gains_of, keys_of};
 
 use crate::extreme::Extreme;
 use crate::problem::Problem;
@@ -34,8 +33,8 @@ pub fn find_targets(
     requires query { IsQuery problem.now.schema.now problem.now.query.now }
     requires ungrouped { problem.now.query.now.group ≡ None }
     requires has_value { always_has_value problem.now.query.now.agg ≡ true }
-    ensures gains { IfOk result (λ found. found.gains ≡ map (gain_towards (setting_of problem.now) problem.now.query.now.agg extreme) (cells (setting_of problem.now))) }
-    ensures picks { IfOk result (λ found. AllZip (IsPick (setting_of problem.now) problem.now.query.now.agg extreme) (cells (setting_of problem.now)) found.picks) }
+    ensures gains { IfOk result (λ found. found.gains ≡ gains_of problem.now extreme) }
+    ensures picks { IfOk result (λ found. ArePicks problem.now extreme found.picks) }
     ensures small { IfOk result (λ found. All (λ gain. nat_abs gain ≤ 2 ^ 63) found.gains) }
 {
     targets_of(alloc, problem.cells, problem.query.column, extreme)
@@ -45,9 +44,9 @@ pub fn find_targets(
 /// there. A key is the number, turned at a low end.
 pub fn find_keys(alloc: Global, problem: &Problem<'_>, extreme: Extreme) -> Result<Targets, Memory>
     requires posed { IsPosed problem.now }
-    requires numbers { IsSomeAnd problem.now.query.now.column (IsColumnWhere IsNumeric problem.now.schema.now) }
-    ensures keys { IfOk result (λ found. found.gains ≡ map (on_chosen (key_of (setting_of problem.now) extreme)) (cells (setting_of problem.now))) }
-    ensures picks { IfOk result (λ found. AllZip (IsAtEnd (setting_of problem.now) extreme) (cells (setting_of problem.now)) found.picks) }
+    requires numbers { AsksNumbers problem.now }
+    ensures keys { IfOk result (λ found. found.gains ≡ keys_of problem.now extreme) }
+    ensures picks { IfOk result (λ found. AreAtEnd problem.now extreme found.picks) }
     ensures small { IfOk result (λ found. All (λ gain. nat_abs gain ≤ 2 ^ 63) found.gains) }
 {
     targets_of(alloc, problem.cells, problem.query.column, extreme)

@@ -1,10 +1,9 @@
-ghost use Rattle.std.specs.Prelude.{◌≡◌, ◌≤◌, ◌*◌, ◌^◌, nat_abs, All, IfOk};
+ghost use Rattle.std.specs.Prelude.{◌≡◌, ◌≤◌, ◌*◌, ◌^◌, nat_abs, IfOk};
 ghost use Rattle.pc_model.specs.declared.query.Agg.TheVariants as aggs;
-ghost use Rattle.pc_branch_licences.specs.Pools.{AreLawful};
-ghost use Rattle.pc_agg.specs.Owed.{Owes, OwesSettled, answer_of};
-ghost use Rattle.pc_agg_search.specs.Asked.{AreAsked, Asking, setting_for};
-ghost use Rattle.pc_agg_search.specs.Settings.{unseen};
+ghost use Rattle.pc_agg.specs.Owed.{answer_of};
+ghost use Rattle.pc_agg_search.specs.Asked.{AreAsked};
 ghost use Rattle.pc_avg.specs.Averages.{both, has_ends, HasShortEnds};
+ghost use Rattle.pc_agg.specs.Calls.{AreFound, OwesCall, OwesSettling};
 
 use crate::copies::{copied_lack, copied_relation};
 use crate::ends::search_end;
@@ -31,9 +30,9 @@ pub fn bound_avg(
     requires asked { AreAsked schema.now seen.now constraints.now cells.now query.now nodes }
     requires average { query.now.agg ≡ aggs.Avg }
     requires small_seen { nat_abs seen.now.sum ≤ 1_000_000 * 10 ^ 15 }
-    requires lawful { All (AreLawful (unseen schema.now constraints.now query.now cells.now.tree.nodes)) settled.now.found }
-    requires settled { (asking : Asking schema.now constraints.now query.now seen.now) → OwesSettled (setting_for schema.now constraints.now query.now seen.now cells.now.tree.nodes asking) nodes settled.now.relation settled.now.lack settled.now.found }
-    ensures owes { IfOk result (λ answer. (asking : Asking schema.now constraints.now query.now seen.now) → Owes (setting_for schema.now constraints.now query.now seen.now cells.now.tree.nodes asking) nodes answer) }
+    requires lawful { AreFound schema.now constraints.now cells.now query.now settled.now.found }
+    requires settled { OwesSettling schema.now seen.now constraints.now cells.now query.now nodes settled.now }
+    ensures owes { OwesCall schema.now seen.now constraints.now cells.now query.now nodes result }
     ensures kept { IfOk result (λ answer. (answer.relation ≡ settled.now.relation) × (answer.lack ≡ settled.now.lack)) }
     ensures short { IfOk result HasShortEnds }
 {

@@ -1,13 +1,13 @@
-ghost use Rattle.std.specs.Prelude.{◌≡◌, ◌<◌, ◌≤◌, ◌*◌, ◌^◌, nat_abs, [], length, All, IfOk, IsSomeAnd, slice_index_or};
-ghost use Rattle.pc_model.specs.Accepted.{IsNumeric, IsColumnWhere};
+ghost use Rattle.std.specs.Prelude.{◌≡◌, ◌<◌, ◌≤◌, ◌*◌, ◌^◌, nat_abs, [], length, All, IfOk, slice_index_or};
 ghost use Rattle.pc_num.specs.Signs.{Fits};
 ghost use Rattle.pc_model.specs.declared.query.Folded.{Folded};
 ghost use Rattle.pc_branch.specs.Outcome.{IsEasyProgram};
 ghost use Rattle.pc_proof.specs.Setting.{Setting};
 ghost use Rattle.pc_branch_licences.specs.Pools.{AreLawful};
-ghost use Rattle.pc_agg_search.specs.Problem.{IsEasyProblem, IsPosed, setting_of};
+ghost use Rattle.pc_agg_search.specs.Problem.{IsEasyFor, IsPosed, setting_of};
 ghost use Rattle.pc_avg.specs.Ends.{end_by_values, end_of, turned, CanTurn, IsEndIfAny, IsEndSurely};
 ghost use Rattle.pc_avg.specs.Sides.{IsSide};
+ghost use Rattle.pc_agg_search.specs.Posed.{AsksNumbers};
 
 use crate::sides::{Side, side_of};
 use pc_agg_search::{Extreme, Problem};
@@ -28,12 +28,12 @@ pub(crate) fn search_end(
     found: &[Seq<u64>],
 ) -> Result<Option<End>, Memory>
     requires posed { IsPosed problem.now }
-    requires numbers { IsSomeAnd problem.now.query.now.column (IsColumnWhere IsNumeric problem.now.schema.now) }
+    requires numbers { AsksNumbers problem.now }
     requires few_seen { seen.now.count ≤ 1_000_000 }
     requires small_seen { nat_abs seen.now.sum ≤ 1_000_000 * 10 ^ 15 }
     requires lawful { All (AreLawful (setting_of problem.now)) found.now }
     ensures end { IfOk result (IsEndIfAny (setting_of problem.now) seen.now problem.now.nodes extreme found.now) }
-    ensures disjoint { IsEasyProblem problem.now → IfOk result (IsEndSurely (setting_of problem.now) seen.now extreme found.now) }
+    ensures disjoint { IsEasyFor problem.now → IfOk result (IsEndSurely (setting_of problem.now) seen.now extreme found.now) }
 {
     let side = side_of(alloc, problem, seen, extreme)?;
     end_on(alloc, extreme, &side, found, problem.nodes)

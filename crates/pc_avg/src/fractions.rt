@@ -1,12 +1,12 @@
-ghost use Rattle.std.specs.Prelude.{◌≡◌, ◌<◌, ◌≤◌, ◌*◌, ◌^◌, nat_abs, pos, map, IfOk};
-ghost use Rattle.std.specs.List.{AllZip};
+ghost use Rattle.std.specs.Prelude.{◌≡◌, ◌<◌, ◌≤◌, ◌*◌, ◌^◌, nat_abs, pos, IfOk};
 ghost use Rattle.pc_branch.specs.Outcome.{IsEasyProgram};
-ghost use Rattle.pc_proof.specs.Setting.{cells, on_chosen, program_for};
+ghost use Rattle.pc_proof.specs.Setting.{on_chosen, program_for};
 ghost use Rattle.pc_avg_ratio.specs.Fractional.{IsFractional};
 ghost use Rattle.pc_agg_search.specs.Ends.{signed};
-ghost use Rattle.pc_agg_search.specs.Keys.{key_of, IsAtEnd};
-ghost use Rattle.pc_agg_search.specs.Problem.{IsEasyProblem, IsPosed, setting_of};
+ghost use Rattle.pc_agg_search.specs.Keys.{key_of};
+ghost use Rattle.pc_agg_search.specs.Problem.{IsEasyFor, IsPosed, setting_of};
 ghost use Rattle.pc_agg_search.specs.Wants.{most_chosen};
+ghost use Rattle.pc_agg_search.specs.Posed.{AreAtEnd, keys_of};
 
 use pc_agg_search::{Extreme, Problem, chosen_program, gained_program};
 use pc_avg_ratio::Fractional;
@@ -27,14 +27,14 @@ pub(crate) fn fraction_of(
     requires posed { IsPosed problem.now }
     requires few_seen { seen.now.count ≤ 1_000_000 }
     requires small_seen { nat_abs seen.now.sum ≤ 1_000_000 * 10 ^ 15 }
-    requires keyed { keys ≡ map (on_chosen (key_of (setting_of problem.now) extreme)) (cells (setting_of problem.now)) }
-    requires picked { AllZip (IsAtEnd (setting_of problem.now) extreme) (cells (setting_of problem.now)) picks.now }
+    requires keyed { keys ≡ keys_of problem.now extreme }
+    requires picked { AreAtEnd problem.now extreme picks.now }
     ensures fractional { IfOk result IsFractional }
     ensures rows { IfOk result (λ f. f.rows ≡ most_chosen (setting_of problem.now)) }
     ensures sums { IfOk result (λ f. f.sums ≡ program_for (setting_of problem.now) (on_chosen (key_of (setting_of problem.now) extreme))) }
     ensures count { IfOk result (λ f. f.count ≡ seen.now.count) }
     ensures sum { IfOk result (λ f. 0 < seen.now.count → f.sum ≡ signed extreme seen.now.sum) }
-    ensures disjoint { IsEasyProblem problem.now → IfOk result (λ f. IsEasyProgram f.rows) }
+    ensures disjoint { IsEasyFor problem.now → IfOk result (λ f. IsEasyProgram f.rows) }
 {
     let rows = chosen_program(alloc, problem, 1)?;
     let sums = gained_program(alloc, problem, keys)?;

@@ -1,9 +1,9 @@
-ghost use Rattle.std.specs.Prelude.{◌≡◌, ◌≤◌, ◌^◌, nat_abs, cond, map, length, All, IfSome};
-ghost use Rattle.pc_proof.specs.Setting.{cells, on_chosen};
-ghost use Rattle.pc_agg_search.specs.Keys.{key_of};
+ghost use Rattle.std.specs.Prelude.{◌≡◌, ◌≤◌, ◌^◌, nat_abs, cond, length, All, IfSome};
+ghost use Rattle.pc_proof.specs.Setting.{cells};
 ghost use Rattle.pc_agg_search.specs.Problem.{IsPosed, setting_of};
 ghost use Rattle.pc_avg.specs.Outermost.{greater, IsGreatestKey};
 ghost use Rattle.pc_avg.specs.Sides.{observed_key, IsOutermost};
+ghost use Rattle.pc_agg_search.specs.Posed.{keys_of};
 
 use pc_agg_search::{Extreme, Problem};
 use pc_cells::Cell;
@@ -17,7 +17,7 @@ pub(crate) fn outermost_of(
     seen: &Folded,
 ) -> Option<i128>
     requires posed { IsPosed problem.now }
-    requires keyed { keys.now ≡ map (on_chosen (key_of (setting_of problem.now) extreme)) (cells (setting_of problem.now)) }
+    requires keyed { keys.now ≡ keys_of problem.now extreme }
     requires small { All (λ key. nat_abs key ≤ 2 ^ 63) keys.now }
     ensures { IsOutermost (setting_of problem.now) extreme (observed_key seen.now extreme) result }
 {

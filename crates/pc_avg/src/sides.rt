@@ -1,8 +1,8 @@
-ghost use Rattle.std.specs.Prelude.{◌≤◌, ◌*◌, ◌^◌, nat_abs, IfOk, IsSomeAnd};
-ghost use Rattle.pc_model.specs.Accepted.{IsNumeric, IsColumnWhere};
+ghost use Rattle.std.specs.Prelude.{◌≤◌, ◌*◌, ◌^◌, nat_abs, IfOk};
 ghost use Rattle.pc_branch.specs.Outcome.{IsEasyProgram};
-ghost use Rattle.pc_agg_search.specs.Problem.{IsEasyProblem, IsPosed, setting_of};
+ghost use Rattle.pc_agg_search.specs.Problem.{IsEasyFor, IsPosed, setting_of};
 ghost use Rattle.pc_avg.specs.Sides.{IsSide};
+ghost use Rattle.pc_agg_search.specs.Posed.{AsksNumbers};
 
 use crate::fractions::fraction_of;
 use crate::outermost::outermost_of;
@@ -30,11 +30,11 @@ pub(crate) fn side_of(
     extreme: Extreme,
 ) -> Result<Side, Memory>
     requires posed { IsPosed problem.now }
-    requires numbers { IsSomeAnd problem.now.query.now.column (IsColumnWhere IsNumeric problem.now.schema.now) }
+    requires numbers { AsksNumbers problem.now }
     requires few_seen { seen.now.count ≤ 1_000_000 }
     requires small_seen { nat_abs seen.now.sum ≤ 1_000_000 * 10 ^ 15 }
     ensures side { IfOk result (IsSide (setting_of problem.now) seen.now extreme) }
-    ensures disjoint { IsEasyProblem problem.now → IfOk result (λ side. IsEasyProgram side.fraction.rows) }
+    ensures disjoint { IsEasyFor problem.now → IfOk result (λ side. IsEasyProgram side.fraction.rows) }
 {
     let Targets { gains, picks } = find_keys(alloc, problem, extreme)?;
     let outermost = outermost_of(problem, extreme, gains.as_slice(), seen);

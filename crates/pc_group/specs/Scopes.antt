@@ -1,7 +1,11 @@
 -- What the queries of a call are asked over, and what its blocks owe.
-use Rattle.std.specs.Prelude.{◌≤◌, List}
+use Rattle.std.specs.Prelude.{◌≤◌, ℕ, List, ◌++◌, Some}
+use Rattle.std.specs.List.{AllZip}
 use Rattle.pc_model.specs.declared.row.Row.{Row}
+use Rattle.pc_model.specs.declared.query.Folded.{Folded}
+use Rattle.pc_model.specs.declared.query.Query.{Query}
 use Rattle.pc_model.specs.Accepted.{AreConstraints}
+use Rattle.pc_model.specs.Folds.{IsFold}
 use Rattle.pc_model.specs.WellFormed.{IsWellFormed}
 use Rattle.pc_cells_tree.specs.Linked.{IsTree}
 use Rattle.pc_group.specs.declared.scope.Scope.{Scope}
@@ -24,3 +28,11 @@ IsDivided p blocks = AreDividedFor p.schema.now p.constraints.now p.shared.now.n
 -- what is written is the blocks, each right of these observed rows
 abbrev pub HasBlocks : Scope → List Row → List Wanted → Written → Type 0
 HasBlocks p observed = AreBlocksOf (AnswersWanted p.nodes p.schema.now observed p.constraints.now) p.shared.now.nodes
+
+-- what the rows of each name come to
+abbrev pub AreFolds : Query → List ℕ → List Row → List Folded → Type 0
+AreFolds query names observed folds = AllZip (λ (name : ℕ) (folded : Folded). IsFold query (Some name) observed folded) names folds
+
+-- these blocks stand behind those that were written
+abbrev pub AddsBlocks : Scope → List Row → Written → List Wanted → Written → Type 0
+AddsBlocks p observed written new more = (blocks : List Wanted) → HasBlocks p observed blocks written → HasBlocks p observed (blocks ++ new) more

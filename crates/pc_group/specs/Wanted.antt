@@ -37,12 +37,15 @@ is_allowed region column place = holds (side_at region column) (pos place)
 unfoldable pub allowed_names : Schema → Query → ℕ → List ℕ
 allowed_names schema query column = filter (is_allowed query.chosen column) (places_below (names_at (slice_get schema.columns column)))
 
+abbrev pub wanted_as : Query → Option ℕ → Wanted
+wanted_as query name = record { query = query; name = name }
+
 abbrev pub wanted_of : Query → ℕ → Wanted
-wanted_of query place = record { query = query; name = Some place }
+wanted_of query place = wanted_as query (Some place)
 
 -- one block, or one for each such name
 abbrev pub wanted_in : Schema → Query → Option ℕ → List Wanted
-wanted_in schema query None = record { query = query; name = None } ∷ []
+wanted_in schema query None = wanted_as query None ∷ []
 wanted_in schema query (Some column) = map (wanted_of query) (allowed_names schema query column)
 
 abbrev pub wanted_by : Schema → Query → List Wanted

@@ -1,5 +1,5 @@
-ghost use Rattle.std.specs.Prelude.{◌≡◌, ◌≤◌, ◌<◌, ◌*◌, ◌^◌, ◌++◌, ◌∷◌, [], ℕ, List, nat_abs, false, is_none, length, map, All, IfOk, IfSome, Some};
-ghost use Rattle.std.specs.List.{AllPass, AllZip};
+ghost use Rattle.std.specs.Prelude.{◌≡◌, ◌≤◌, ◌<◌, ◌*◌, ◌^◌, ◌∷◌, [], ℕ, List, nat_abs, false, is_none, length, map, All, IfOk, IfSome, Some};
+ghost use Rattle.std.specs.List.{AllPass};
 ghost use Rattle.pc_model.specs.declared.query.Agg.TheVariants as aggs;
 ghost use Rattle.pc_model.specs.declared.query.Folded.{Folded};
 ghost use Rattle.pc_model.specs.declared.row.Row.{Row};
@@ -9,15 +9,15 @@ ghost use Rattle.pc_model.specs.Membership.{in_domain};
 ghost use Rattle.pc_model.specs.WellFormed.{IsWellFormed};
 ghost use Rattle.pc_proof.specs.Setting.{narrowed};
 ghost use Rattle.pc_proof.specs.Unbroken.{AllowsName};
-ghost use Rattle.pc_agg_search.specs.Asked.{AreAsked, Asking, setting_for};
-ghost use Rattle.pc_agg.specs.Owed.{Owes};
+ghost use Rattle.pc_agg_search.specs.Asked.{AreAsked};
 ghost use Rattle.pc_avg.specs.Averages.{HasShortEnds};
 ghost use Rattle.pc_cells_tree.specs.Linked.{IsTree, IsDividedFor};
 ghost use Rattle.pc_group.specs.Answers.{AnswersWanted};
-ghost use Rattle.pc_group.specs.Scopes.{HasBlocks, IsDivided, IsScope};
+ghost use Rattle.pc_group.specs.Scopes.{IsDivided, IsScope, AddsBlocks, AreFolds};
 ghost use Rattle.pc_group.specs.Trees.{AreDividedFor};
-ghost use Rattle.pc_group.specs.Wanted.{Wanted, wanted, wanted_by, wanted_of};
+ghost use Rattle.pc_group.specs.Wanted.{wanted, wanted_by, wanted_of, wanted_as};
 ghost use Rattle.pc_group.specs.Written.{AreBlocksOf};
+ghost use Rattle.pc_agg.specs.Calls.{OwesCall};
 
 use crate::blocks::{Written, with_block};
 use crate::narrowing::query_for;
@@ -80,7 +80,7 @@ fn answer_query(
     requires seen { AllPass (in_domain scope.now.schema.now) rows.now }
     requires asked { IsQuery scope.now.schema.now query.now }
     requires divided { IsDivided scope.now (wanted_by scope.now.schema.now query.now) }
-    ensures { IfOk result (λ more. (blocks : List Wanted) → HasBlocks scope.now rows.now blocks written → HasBlocks scope.now rows.now (blocks ++ wanted_by scope.now.schema.now query.now) more) }
+    ensures { IfOk result (AddsBlocks scope.now rows.now written (wanted_by scope.now.schema.now query.now)) }
 {
     let Some(column) = query.group else {
         let seen = rows.fold(query);
@@ -103,7 +103,7 @@ fn answer_group(
     requires asked { IsQuery scope.now.schema.now query.now }
     requires grouped { query.now.group ≡ Some column }
     requires divided { IsDivided scope.now (wanted_by scope.now.schema.now query.now) }
-    ensures { IfOk result (λ more. (blocks : List Wanted) → HasBlocks scope.now rows.now blocks written → HasBlocks scope.now rows.now (blocks ++ wanted_by scope.now.schema.now query.now) more) }
+    ensures { IfOk result (AddsBlocks scope.now rows.now written (wanted_by scope.now.schema.now query.now)) }
 {
     let names = allowed_names(alloc, scope.schema, query, column)?;
     let folds = rows.fold_each(alloc, query, names.as_slice())?;
@@ -135,7 +135,7 @@ fn answer_names(
     requires few_seen { All (λ folded. folded.count ≤ 1_000_000) folds.now }
     requires small_seen { All (λ folded. nat_abs folded.sum ≤ 1_000_000 * 10 ^ 15) folds.now }
     requires divided { IsDivided scope.now (map (wanted_of query.now) names.now) }
-    ensures { IfOk result (λ more. (observed : List Row) (blocks : List Wanted) → AllZip (λ (name : ℕ) (folded : Folded). IsFold query.now (Some name) observed folded) names.now folds.now → HasBlocks scope.now observed blocks written → HasBlocks scope.now observed (blocks ++ map (wanted_of query.now) names.now) more) }
+    ensures { IfOk result (λ more. (observed : List Row) → AreFolds query.now names.now observed folds.now → AddsBlocks scope.now observed written (map (wanted_of query.now) names.now) more) }
 {
     let mut more = written;
     for (index, name) in names.iter().enumerate() {
@@ -161,7 +161,7 @@ fn answer_block(
     requires few_seen { seen.now.count ≤ 1_000_000 }
     requires small_seen { nat_abs seen.now.sum ≤ 1_000_000 * 10 ^ 15 }
     requires divided { IsDividedFor scope.now.schema.now scope.now.constraints.now (narrowed query.now.chosen query.now.group name) scope.now.shared.now.nodes }
-    ensures { IfOk result (λ more. (observed : List Row) (blocks : List Wanted) → IsFold query.now name observed seen.now → HasBlocks scope.now observed blocks written → HasBlocks scope.now observed (blocks ++ record { query = query.now; name = name } ∷ []) more) }
+    ensures { IfOk result (λ more. (observed : List Row) → IsFold query.now name observed seen.now → AddsBlocks scope.now observed written (wanted_as query.now name ∷ []) more) }
 {
     let asked = query_for(alloc, query, name)?;
     let cells = scope
@@ -191,7 +191,7 @@ fn answer_of(
 ) -> Result<Answer, Memory>
     requires asked { AreAsked schema.now seen.now constraints.now cells.now query.now nodes }
     requires small_seen { nat_abs seen.now.sum ≤ 1_000_000 * 10 ^ 15 }
-    ensures owes { IfOk result (λ answer. (asking : Asking schema.now constraints.now query.now seen.now) → Owes (setting_for schema.now constraints.now query.now seen.now cells.now.tree.nodes asking) nodes answer) }
+    ensures owes { OwesCall schema.now seen.now constraints.now cells.now query.now nodes result }
     ensures short { query.now.agg ≡ aggs.Avg → IfOk result HasShortEnds }
 {
     match query.agg {
@@ -216,7 +216,7 @@ fn average_of(
     requires asked { AreAsked schema.now seen.now constraints.now cells.now query.now nodes }
     requires average { query.now.agg ≡ aggs.Avg }
     requires small_seen { nat_abs seen.now.sum ≤ 1_000_000 * 10 ^ 15 }
-    ensures owes { IfOk result (λ answer. (asking : Asking schema.now constraints.now query.now seen.now) → Owes (setting_for schema.now constraints.now query.now seen.now cells.now.tree.nodes asking) nodes answer) }
+    ensures owes { OwesCall schema.now seen.now constraints.now cells.now query.now nodes result }
     ensures short { IfOk result HasShortEnds }
 {
     let settled = settle(alloc, schema, seen, constraints, cells, query, nodes)?;

@@ -1,7 +1,7 @@
-ghost use Rattle.std.specs.Prelude.{◌≡◌, ◌<◌, ◌≤◌, ◌++◌, ◌∷◌, [], ℕ, map, All, IfOk, IfSome, Some, slice_get, if◌then◌else◌};
+ghost use Rattle.std.specs.Prelude.{◌≡◌, ◌<◌, ◌≤◌, ◌++◌, ◌∷◌, [], map, All, IfOk, IfSome, Some, slice_get, if◌then◌else◌};
 ghost use Rattle.pc_model.specs.CutTrees.{side_at};
 ghost use Rattle.pc_model.specs.WellFormed.{IsWellFormed, HasFewNames};
-ghost use Rattle.pc_group.specs.Wanted.{Wanted, allowed_names, is_allowed, names_at, names_in, region_of, wanted, wanted_by, wanted_of};
+ghost use Rattle.pc_group.specs.Wanted.{allowed_names, is_allowed, names_at, names_in, region_of, wanted, wanted_by, wanted_of, wanted_as};
 
 use pc_list::Seq;
 use pc_model::{Kind, Query, Region, Schema, Side};
@@ -67,7 +67,7 @@ fn with_region(
     regions: Seq<Region>,
 ) -> Result<Seq<Region>, Memory>
     requires { IfSome name (λ place. place < 128) }
-    ensures { IfOk result (λ more. more ≡ regions ++ region_of (record { query = query.now; name = name }) ∷ []) }
+    ensures { IfOk result (λ more. more ≡ regions ++ region_of (wanted_as query.now name) ∷ []) }
 {
     let mut more = regions;
     more.push(narrowed(alloc, &query.chosen, query.group, name)?)?;

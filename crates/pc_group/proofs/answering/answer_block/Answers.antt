@@ -33,7 +33,7 @@ returns c =
     let owes = subst (λ (q : Query). (asking : Asking schema constraints q seen) → Owes (setting_for schema constraints q seen nodes asking) c.args.scope.now.nodes answer) c.in_ok-asked.ensures c.in_ok-answer.ensures.owes in
     let short = subst (λ (q : Query). q.agg ≡ Avg → HasShortEnds answer) c.in_ok-asked.ensures c.in_ok-answer.ensures.short in
     IfOk-weaker c.with_block.result _ _
-    (λ more has observed blocks fold each.
+    (λ more has observed fold blocks each.
     block_more (AnswersWanted c.args.scope.now.nodes schema observed constraints) c.args.scope.now.shared.now.nodes blocks (record { query = query; name = c.args.name }) nodes answer c.args.written more has
     (answers_wanted c.args.scope.now.nodes schema observed constraints query c.args.name nodes answer c.requires.scope.formed c.requires.scope.limited c.requires.asked c.requires.named c.requires.allowed seen fold owes short c.args.written.last) c.in_ok-cells.ensures.same each)
     c.with_block.ensures

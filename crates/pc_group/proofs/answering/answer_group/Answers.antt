@@ -50,5 +50,5 @@ returns c =
     let given : AllZip fold c.as_slice-2.result.now c.as_slice-3.result.now = rw (c.as_slice-2.ensures, c.as_slice-3.ensures) each in
     IfOk-weaker c.answer_names.result _ _
     (λ more has blocks before.
-    subst (λ (ws : List Wanted). AreBlocksOf (AnswersWanted c.args.scope.now.nodes c.args.scope.now.schema.now rows c.args.scope.now.constraints.now) c.args.scope.now.shared.now.nodes (blocks ++ ws) more) same (has rows blocks given before))
+    subst (λ (ws : List Wanted). AreBlocksOf (AnswersWanted c.args.scope.now.nodes c.args.scope.now.schema.now rows c.args.scope.now.constraints.now) c.args.scope.now.shared.now.nodes (blocks ++ ws) more) same (has rows given blocks before))
     c.answer_names.ensures

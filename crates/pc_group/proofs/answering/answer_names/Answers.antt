@@ -12,10 +12,10 @@ pub answer_block-requires-clause-divided : goal.answer_block-requires-clause-div
 answer_block-requires-clause-divided c = divided_at c.args.scope.now.schema.now c.args.scope.now.constraints.now c.args.scope.now.shared.now.nodes c.args.query.now c.args.names.now c.loop-index.index 0 c.loop-index-test.true c.requires.divided
 
 pub loop-index-preserved : goal.loop-index-preserved
-loop-index-preserved c = λ observed blocks folds before.
+loop-index-preserved c = λ observed folds blocks before.
     let query = c.args.query.now in
     let names = c.args.names.now in
     let i = c.loop-index.index in
     subst (λ (ws : List Wanted). AreBlocksOf (AnswersWanted c.args.scope.now.nodes c.args.scope.now.schema.now observed c.args.scope.now.constraints.now) c.args.scope.now.shared.now.nodes ws c.in_ok-more.more) (blocks_more query names blocks i 0 c.loop-index-test.true)
-    (c.in_ok-more.ensures observed (blocks ++ map (wanted_of query) (take i names))
-    (zip_at (λ (name : ℕ) (folded : Folded). IsFold query (Some name) observed folded) names c.args.folds.now i 0 _ folds c.loop-index-test.true) (c.loop-index.invariant observed blocks folds before))
+    (c.in_ok-more.ensures observed (zip_at (λ (name : ℕ) (folded : Folded). IsFold query (Some name) observed folded) names c.args.folds.now i 0 _ folds c.loop-index-test.true)
+    (blocks ++ map (wanted_of query) (take i names)) (c.loop-index.invariant observed folds blocks before))

@@ -1,14 +1,9 @@
-use Rattle.std.proofs.Common.{ℕ, List, ◌++◌, map, take, Some}
-use Rattle.std.specs.List.{AllZip}
-use Rattle.pc_model.specs.declared.query.Folded.{Folded}
+use Rattle.std.proofs.Common.{List, map, take}
 use Rattle.pc_model.specs.declared.row.Row.{Row}
-use Rattle.pc_model.specs.Folds.{IsFold}
-use Rattle.pc_group.specs.Answers.{AnswersWanted}
-use Rattle.pc_group.specs.Wanted.{Wanted, wanted_of}
-use Rattle.pc_group.specs.Written.{AreBlocksOf}
+use Rattle.pc_group.specs.Scopes.{AddsBlocks, AreFolds}
+use Rattle.pc_group.specs.Wanted.{wanted_of}
 use Rattle.pc_group.proofs.answering.answer_names.Given as goal
 
 abbrev pub invariant-loop-index : goal.invariant-loop-index
 invariant-loop-index l =
-    (observed : List Row) (blocks : List Wanted) → AllZip (λ (name : ℕ) (folded : Folded). IsFold l.query (Some name) observed folded) l.names l.folds →
-    AreBlocksOf (AnswersWanted l.scope.nodes l.scope.schema.now observed l.scope.constraints.now) l.scope.shared.now.nodes blocks l.fn.written → AreBlocksOf (AnswersWanted l.scope.nodes l.scope.schema.now observed l.scope.constraints.now) l.scope.shared.now.nodes (blocks ++ map (wanted_of l.query) (take l.index l.names)) l.more
+    (observed : List Row) → AreFolds l.query l.names observed l.folds → AddsBlocks l.scope observed l.fn.written (map (wanted_of l.query) (take l.index l.names)) l.more
