@@ -22,7 +22,7 @@ use Rattle.pc_cells_laws.proofs.TreesLeaves.{one_leaf}
 use Rattle.pc_model.proofs.WholeDomain.{in_whole}
 use Rattle.pc_cells_laws.proofs.TreesDomain.{domain_regions}
 use Rattle.pc_cells.specs.declared.cells.Cell.{Cell}
-use Rattle.pc_cells.specs.Found.{class_of_cell, cell_of, cells_of, IsFilled, HasNumbers}
+use Rattle.pc_cells.specs.Found.{class_of_cell, cell_of, cells_of, AreCellsFor, IsFilled, HasNumbers}
 
 -- ---- the cells of leaves
 
@@ -39,15 +39,15 @@ each_cell P leaves each =
 -- ---- the cells of a settled tree
 
 module _ (schema : Schema) (constraints : List Constraint) (chosen : Region) (nodes : List CutNode) (formed : IsWellFormed schema) (tree : IsSettledTree schema constraints chosen nodes) where
-  pub row_in_one_leaf : (row : Row) → in_domain schema row ≡ true → count_by (λ (leaf : Leaf). has leaf.region row) (leaves_in schema nodes) ≡ 1
+  row_in_one_leaf : (row : Row) → in_domain schema row ≡ true → count_by (λ (leaf : Leaf). has leaf.region row) (leaves_in schema nodes) ≡ 1
   row_in_one_leaf row allowed =
       one_leaf (whole_region schema) (shape_of nodes) row tree.proper ∙ ap (λ test. cond test 1 0) (in_whole schema row ∙ allowed)
 
   module _ (leaves : List Leaf) (leaves_are : leaves ≡ leaves_in schema nodes) (cells : List Cell) (cells_are : cells ≡ cells_of leaves) where
-    pub cells_in : cells ≡ cells_of (leaves_in schema nodes)
+    cells_in : cells ≡ cells_of (leaves_in schema nodes)
     cells_in = cells_are ∙ ap cells_of leaves_are
 
-    pub classes_in : (class : Class) → Contains (map class_of_cell cells) class ↔ HasRowOf schema constraints chosen class
+    classes_in : (class : Class) → Contains (map class_of_cell cells) class ↔ HasRowOf schema constraints chosen class
     classes_in class =
         let known = ap (map class_of_cell) cells_in ∙ classes_of_cells (leaves_in schema nodes) (classes_of (leaves_in schema nodes)) in
         subst (λ (l : List Class). Contains l class ↔ HasRowOf schema constraints chosen class) (sym known) (classes_of_tree schema constraints chosen nodes formed tree class)
@@ -56,7 +56,7 @@ module _ (schema : Schema) (constraints : List Constraint) (chosen : Region) (no
     each_cell_in : (P : Cell → Type 0) → ((class : Class) → Contains (classes_of (leaves_in schema nodes)) class → P (cell_of (leaves_in schema nodes) class)) → All P cells
     each_cell_in P each = subst (All P) (sym cells_in) (each_cell P (leaves_in schema nodes) each)
 
-    pub rows_in : All (λ (cell : Cell). (row : Row) → (IsRowOf schema constraints chosen (class_of_cell cell) row ↔ IsInSome cell.leaves row)) cells
+    rows_in : All (λ (cell : Cell). (row : Row) → (IsRowOf schema constraints chosen (class_of_cell cell) row ↔ IsInSome cell.leaves row)) cells
     rows_in = each_cell_in (λ (cell : Cell). (row : Row) → (IsRowOf schema constraints chosen (class_of_cell cell) row ↔ IsInSome cell.leaves row)) (λ class listed row. rows_of_tree schema constraints chosen nodes formed tree class row)
 
     -- what holds of each region of the schema
@@ -65,7 +65,7 @@ module _ (schema : Schema) (constraints : List Constraint) (chosen : Region) (no
         boxes_of-all P (leaves_in schema nodes) class
         (All-weaker (λ (leaf : Leaf). is_region_of schema leaf.region ≡ true) (λ (leaf : Leaf). P leaf.region) (λ (leaf : Leaf) h. each leaf.region h) (leaves_in schema nodes) (domain_regions schema (shape_of nodes) tree.proper formed))
 
-    pub filled_in : length leaves < 2 ^ 32 → All IsFilled cells
+    filled_in : length leaves < 2 ^ 32 → All IsFilled cells
     filled_in few =
         each_cell_in IsFilled
         (λ class listed. record {
@@ -74,12 +74,15 @@ module _ (schema : Schema) (constraints : List Constraint) (chosen : Region) (no
           boxes = each_leaf_in IsBox (IsBox-from_schema schema) class;
         })
 
-    pub regions_in : All (λ (cell : Cell). All (λ (leaf : Region). is_region_of schema leaf ≡ true) cell.leaves) cells
+    regions_in : All (λ (cell : Cell). All (λ (leaf : Region). is_region_of schema leaf ≡ true) cell.leaves) cells
     regions_in =
         each_cell_in (λ (cell : Cell). All (λ (leaf : Region). is_region_of schema leaf ≡ true) cell.leaves)
         (λ class listed. each_leaf_in (λ (leaf : Region). is_region_of schema leaf ≡ true) (λ leaf h. h) class)
 
-    pub numbers_in : (column : ℕ) → IsColumnWhere IsNumeric schema column → All (HasNumbers column) cells
+    numbers_in : (column : ℕ) → IsColumnWhere IsNumeric schema column → All (HasNumbers column) cells
     numbers_in column numeric =
         each_cell_in (HasNumbers column)
         (λ class listed. each_leaf_in (λ (leaf : Region). IsSpanned (side_at leaf column)) (λ leaf h. spanned_leaf schema leaf column numeric h) class)
+
+    pub are_cells_for : length leaves < 2 ^ 32 → AreCellsFor schema constraints chosen (record { tree = record { nodes = nodes }; cells = cells })
+    are_cells_for few = record { settled = tree; one_leaf = row_in_one_leaf; cells = cells_in; classes = classes_in; rows = rows_in; filled = filled_in few; regions = regions_in; numbers = numbers_in }

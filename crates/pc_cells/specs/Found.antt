@@ -1,15 +1,19 @@
 -- The cells of leaves, their rows, and what is asked of them.
-use Rattle.std.specs.Prelude.{◌≡◌, ℕ, ◌<◌, ◌^◌, ℤ, true, false, List, [], length, map, All, slice_index_or}
+use Rattle.std.specs.Prelude.{◌≡◌, ◌↔◌, ℕ, ◌<◌, ◌^◌, ℤ, true, false, List, [], length, map, All, Contains, count_by, slice_index_or}
 use Rattle.pc_model.specs.declared.schema.Schema.{Schema}
+use Rattle.pc_model.specs.declared.row.Row.{Row}
 use Rattle.pc_model.specs.declared.region.Region.{Region}
 use Rattle.pc_model.specs.declared.constraint.Constraint.{Constraint}
 use Rattle.pc_model.specs.declared.tree.Leaf.{Leaf}
+use Rattle.pc_model.specs.Accepted.{IsNumeric, IsColumnWhere}
 use Rattle.pc_model.specs.Boxes.{IsServable}
-use Rattle.pc_model.specs.Membership.{holds}
+use Rattle.pc_model.specs.Membership.{holds, in_domain, has}
+use Rattle.pc_model.specs.Regions.{is_region_of}
 use Rattle.pc_model.specs.CutTrees.{side_at}
-use Rattle.pc_model.specs.Cells.{Class, classes_of, boxes_of, IsSpanned}
+use Rattle.pc_model.specs.Cells.{Class, IsRowOf, HasRowOf, IsSettledTree, classes_of, boxes_of, leaves_in, IsInSome, IsSpanned}
 use Rattle.pc_box.specs.Boxes.{IsBox}
 use Rattle.pc_cells.specs.declared.cells.Cell.{Cell}
+use Rattle.pc_cells.specs.declared.cells.Cells.{Cells}
 
 abbrev pub class_of_cell : Cell → Class
 class_of_cell cell = record { mask = cell.mask; chosen = cell.chosen }
@@ -43,6 +47,21 @@ pub record HoldsNumber (leaves : List Region) (leaf column : ℕ) (number : ℤ)
 -- a column of numbers, in each leaf
 abbrev pub HasNumbers : ℕ → Cell → Type 0
 HasNumbers column cell = All (λ (leaf : Region). IsSpanned (side_at leaf column)) cell.leaves
+
+-- ---- the cells of all rows of a domain
+
+-- the cells of rows by which constraints speak of them and whether the region has them
+pub record AreCellsFor (schema : Schema) (constraints : List Constraint) (chosen : Region) (found : Cells) : Type 0 where
+  pub settled : IsSettledTree schema constraints chosen found.tree.nodes
+  pub one_leaf : (row : Row) → in_domain schema row ≡ true → count_by (λ (leaf : Leaf). has leaf.region row) (leaves_in schema found.tree.nodes) ≡ 1
+  pub cells : found.cells ≡ cells_of (leaves_in schema found.tree.nodes)
+  -- a class has a cell just where it has rows
+  pub classes : (class : Class) → (Contains (map class_of_cell found.cells) class ↔ HasRowOf schema constraints chosen class)
+  -- and its rows are those in the leaves of its cell
+  pub rows : All (λ (cell : Cell). (row : Row) → (IsRowOf schema constraints chosen (class_of_cell cell) row ↔ IsInSome cell.leaves row)) found.cells
+  pub filled : All IsFilled found.cells
+  pub regions : All (λ (cell : Cell). All (λ (leaf : Region). is_region_of schema leaf ≡ true) cell.leaves) found.cells
+  pub numbers : (column : ℕ) → IsColumnWhere IsNumeric schema column → All (HasNumbers column) found.cells
 
 -- ---- constraints of one schema
 

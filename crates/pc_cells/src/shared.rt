@@ -1,20 +1,14 @@
-ghost use Rattle.std.specs.Prelude.{◌≡◌, ◌+◌, ◌*◌, ◌≤◌, ◌∷◌, [], ◌↔◌, ℕ, true, length, map, All, Contains, IfOk, OnOk, OnErr, count_by};
-ghost use Rattle.pc_model.specs.declared.row.Row.{Row};
-ghost use Rattle.pc_model.specs.declared.region.Region.{Region};
-ghost use Rattle.pc_model.specs.declared.tree.Leaf.{Leaf};
+ghost use Rattle.std.specs.Prelude.{◌≡◌, ◌+◌, ◌*◌, ◌≤◌, ◌∷◌, [], true, length, All, IfOk, OnOk, OnErr};
 ghost use Rattle.pc_model.specs.declared.tree.LeafMark.TheVariants.{Barren};
 ghost use Rattle.pc_model.specs.declared.tree.CutNode.TheVariants as forms;
-ghost use Rattle.pc_model.specs.Accepted.{constraint_limit, IsNumeric, IsColumnWhere};
+ghost use Rattle.pc_model.specs.Accepted.{constraint_limit};
 ghost use Rattle.pc_model.specs.Boxes.{IsServable};
 ghost use Rattle.pc_model.specs.CutTrees.{shape_of};
-ghost use Rattle.pc_model.specs.Membership.{in_domain, has};
 ghost use Rattle.pc_model.specs.Regions.{is_region_of};
 ghost use Rattle.pc_model.specs.WellFormed.{IsWellFormed};
-ghost use Rattle.pc_model.specs.Cells.{Class, IsRowOf, HasRowOf, IsSettledTree, leaves_in, IsInSome};
 ghost use Rattle.pc_cells_tree.specs.Linked.{IsTree, IsDividedFor, HasKept, HasNeededCuts, IsFrugal};
 ghost use Rattle.pc_cells_tree.specs.Walking.{HasCutsAt};
-ghost use Rattle.pc_cells.specs.declared.cells.Cell.{Cell};
-ghost use Rattle.pc_cells.specs.Found.{class_of_cell, cells_of, IsFilled, HasNumbers};
+ghost use Rattle.pc_cells.specs.Found.{AreCellsFor};
 
 use crate::cells::Cells;
 use crate::gather::gather;
@@ -94,14 +88,7 @@ impl Shared {
         requires chosen { is_region_of schema.now chosen.now ≡ true }
         requires tree { IsTree schema.now self.now.nodes }
         requires divided { IsDividedFor schema.now constraints.now chosen.now self.now.nodes }
-        ensures settled { IfOk result (λ found. IsSettledTree schema.now constraints.now chosen.now found.tree.nodes) }
-        ensures one_leaf { IfOk result (λ found. (row : Row) → in_domain schema.now row ≡ true → count_by (λ (leaf : Leaf). has leaf.region row) (leaves_in schema.now found.tree.nodes) ≡ 1) }
-        ensures cells { IfOk result (λ found. found.cells ≡ cells_of (leaves_in schema.now found.tree.nodes)) }
-        ensures classes { IfOk result (λ found. (class : Class) → (Contains (map class_of_cell found.cells) class ↔ HasRowOf schema.now constraints.now chosen.now class)) }
-        ensures rows { IfOk result (λ found. All (λ (cell : Cell). (row : Row) → (IsRowOf schema.now constraints.now chosen.now (class_of_cell cell) row ↔ IsInSome cell.leaves row)) found.cells) }
-        ensures filled { IfOk result (λ found. All IsFilled found.cells) }
-        ensures regions { IfOk result (λ found. All (λ (cell : Cell). All (λ (leaf : Region). is_region_of schema.now leaf ≡ true) cell.leaves) found.cells) }
-        ensures numbers { IfOk result (λ found. (column : ℕ) → IsColumnWhere IsNumeric schema.now column → All (HasNumbers column) found.cells) }
+        ensures found { IfOk result (AreCellsFor schema.now constraints.now chosen.now) }
         ensures same { IfOk result (λ found. HasCutsAt self.now.nodes 0 (shape_of found.tree.nodes)) }
     {
         let alloc = self.nodes.allocator();

@@ -1,7 +1,7 @@
 ghost use Rattle.std.specs.Prelude.{◌≡◌, ◌<◌, ◌≤◌, get_or, ◌∷◌, ◌++◌, [], true, length, IfOk, IfSome, MatchOption};
 ghost use Rattle.pc_model.specs.Accepted.{AreConstraints, IsQuery};
 ghost use Rattle.pc_model.specs.Refusals.{Answers, Gives, placed};
-ghost use Rattle.pc_model.specs.WellFormed.{IsWellFormed, HaveFewNames};
+ghost use Rattle.pc_model.specs.WellFormed.{IsWellFormed};
 ghost use Rattle.pc_model.specs.declared.fault.FileKind.TheVariants as files;
 ghost use Rattle.pc_lang.specs.Files.{without_return, is_passed_over, line_from, question_from, constraint_from, with_line, constraints_from, lines_of, constraints_of, query_from, query_at, line_number, constraint_lines, left_after};
 ghost use Rattle.pc_model.specs.Texts.{is_name};
@@ -23,7 +23,6 @@ pub fn read_constraints(
     bytes: &[u8],
 ) -> Result<Seq<Constraint>, Refusal>
     requires well_formed { IsWellFormed schema.now }
-    requires few_names { HaveFewNames schema.now.columns }
     ensures gives { Gives result (constraints_of schema.now bytes.now) }
     ensures accepted { IfOk result (AreConstraints schema.now) }
 {
@@ -36,7 +35,6 @@ pub fn read_constraints(
 /// Reads a query. The place of a fault is the given one.
 pub fn read_query(alloc: Global, schema: &Schema, text: &str, place: u64) -> Result<Query, Refusal>
     requires well_formed { IsWellFormed schema.now }
-    requires few_names { HaveFewNames schema.now.columns }
     ensures gives { Gives result (query_at schema.now place text.now) }
     ensures accepted { IfOk result (IsQuery schema.now) }
 {
@@ -94,7 +92,6 @@ fn constraints_of_text(
     text: &[u8],
 ) -> Result<Seq<Constraint>, Refusal>
     requires well_formed { IsWellFormed schema.now }
-    requires few_names { HaveFewNames schema.now.columns }
     ensures gives { Gives result (constraints_from schema.now 1 [] (lines_of text.now)) }
     ensures accepted { IfOk result (AreConstraints schema.now) }
 {
@@ -131,7 +128,6 @@ fn with_line_at(
     line: &[u8],
 ) -> Result<Seq<Constraint>, Refusal>
     requires well_formed { IsWellFormed schema.now }
-    requires few_names { HaveFewNames schema.now.columns }
     requires accepted { AreConstraints schema.now before }
     ensures gives { Gives result (placed files.Constraints place (with_line schema.now before (without_return line.now))) }
     ensures accepted { IfOk result (AreConstraints schema.now) }
@@ -150,7 +146,6 @@ fn with_line(
     line: &[u8],
 ) -> Result<Seq<Constraint>, ReadStop>
     requires well_formed { IsWellFormed schema.now }
-    requires few_names { HaveFewNames schema.now.columns }
     requires accepted { AreConstraints schema.now before }
     ensures answers { Answers result (with_line schema.now before line.now) }
     ensures accepted { IfOk result (AreConstraints schema.now) }
@@ -172,7 +167,6 @@ fn constraint_from(
     line: &[u8],
 ) -> Result<Constraint, ReadStop>
     requires well_formed { IsWellFormed schema.now }
-    requires few_names { HaveFewNames schema.now.columns }
     requires accepted { AreConstraints schema.now before.now }
     ensures answers { Answers result (constraint_from schema.now before.now line.now) }
     ensures accepted { IfOk result (λ c. AreConstraints schema.now (before.now ++ c ∷ [])) }
@@ -202,7 +196,6 @@ fn question_from(alloc: Global, text: &[u8]) -> Result<Question, ReadStop>
 #[tactic(auto, unfolding(crate::specs::Files::query_from))]
 fn query_from(alloc: Global, schema: &Schema, text: &[u8]) -> Result<Query, ReadStop>
     requires well_formed { IsWellFormed schema.now }
-    requires few_names { HaveFewNames schema.now.columns }
     ensures answers { Answers result (query_from schema.now text.now) }
     ensures accepted { IfOk result (IsQuery schema.now) }
 {

@@ -4,7 +4,7 @@ ghost use Rattle.std.specs.List.{list_all};
 ghost use Rattle.pc_model.specs.Accepted.{AreConstraints};
 ghost use Rattle.pc_model.specs.Refusals.{Answers};
 ghost use Rattle.pc_model.specs.Texts.{is_name};
-ghost use Rattle.pc_model.specs.WellFormed.{IsWellFormed, HaveFewNames};
+ghost use Rattle.pc_model.specs.WellFormed.{IsWellFormed};
 ghost use Rattle.pc_lang.specs.Meaning.{at_most_limit, constraint_of, count_of, has_name, in_order, new_constraint};
 
 use crate::part::region_of;
@@ -26,7 +26,6 @@ pub(crate) fn constraint_of(
     line: Line,
 ) -> Result<Constraint, ReadStop>
     requires well_formed { IsWellFormed schema.now }
-    requires few_names { HaveFewNames schema.now.columns }
     ensures answers { Answers result (constraint_of schema.now before.now line) }
     ensures accepted { IfOk result (λ c. AreConstraints schema.now before.now → is_name line.name ≡ true → AreConstraints schema.now (before.now ++ c ∷ [])) }
 {
@@ -41,7 +40,6 @@ fn checked_constraint(
     line: Line,
 ) -> Result<Constraint, ReadStop>
     requires well_formed { IsWellFormed schema.now }
-    requires few_names { HaveFewNames schema.now.columns }
     ensures { Answers result (constraint_of schema.now before.now line) }
 {
     if MOST_CONSTRAINTS <= before.len() {
@@ -64,7 +62,6 @@ fn has_name(constraints: &[Constraint], name: &[u8]) -> bool
 #[tactic(auto, unfolding(crate::specs::Meaning::new_constraint))]
 fn new_constraint(alloc: Global, schema: &Schema, line: Line) -> Result<Constraint, ReadStop>
     requires well_formed { IsWellFormed schema.now }
-    requires few_names { HaveFewNames schema.now.columns }
     ensures { Answers result (new_constraint schema.now line) }
 {
     let when = region_of(alloc, schema, &line.when)?;

@@ -11,10 +11,9 @@ use pc_model::{Column, Kind, ReadStop, Reason, Region, Schema, Side};
 use std::alloc::Global;
 
 /// The region that a part stands for: what its atoms leave of the domain, one after another.
-#[tactic(auto, using(crate::proofs::RegionsOfParts::part_is_region))]
+#[tactic(auto, using(crate::proofs::RegionsOfParts::part_is_region, pc_model::proofs::FewNames::have_few_names))]
 pub(crate) fn region_of(alloc: Global, schema: &Schema, part: &Part) -> Result<Region, ReadStop>
     requires well_formed { IsWellFormed schema.now }
-    requires few_names { HaveFewNames schema.now.columns }
     ensures answers { Answers result (region_of schema.now part.now) }
     ensures regional { IfOk result (λ region. is_region_of schema.now region ≡ true) }
 {

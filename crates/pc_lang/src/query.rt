@@ -1,7 +1,7 @@
 ghost use Rattle.std.specs.Prelude.{◌≡◌, ◌≤◌, length, IfOk};
 ghost use Rattle.pc_model.specs.Accepted.{IsQuery};
 ghost use Rattle.pc_model.specs.Refusals.{Answers};
-ghost use Rattle.pc_model.specs.WellFormed.{IsWellFormed, HaveFewNames};
+ghost use Rattle.pc_model.specs.WellFormed.{IsWellFormed};
 ghost use Rattle.pc_lang.specs.Meaning.{chosen_of, grouping_of, has_names_as, measured, names_place, numeric_place, place_from, query_of};
 
 use crate::part::region_of;
@@ -18,7 +18,6 @@ pub(crate) fn query_of(
     question: &Question,
 ) -> Result<Query, ReadStop>
     requires well_formed { IsWellFormed schema.now }
-    requires few_names { HaveFewNames schema.now.columns }
     ensures answers { Answers result (query_of schema.now question.now) }
     ensures well_formed { IfOk result (IsQuery schema.now) }
 {
@@ -28,7 +27,6 @@ pub(crate) fn query_of(
 #[tactic(auto, using(crate::proofs::Places::few_columns), unfolding(crate::specs::Meaning::query_of))]
 fn checked_query(alloc: Global, schema: &Schema, question: &Question) -> Result<Query, ReadStop>
     requires well_formed { IsWellFormed schema.now }
-    requires few_names { HaveFewNames schema.now.columns }
     ensures { Answers result (query_of schema.now question.now) }
 {
     let (agg, column) = measured(schema, &question.measure)?;
@@ -99,9 +97,9 @@ fn has_names_as(kind: &Kind, asked: bool) -> bool
     }
 }
 
+#[tactic(auto, using(pc_model::proofs::FewNames::have_few_names))]
 fn chosen_of(alloc: Global, schema: &Schema, part: &Option<Part>) -> Result<Region, ReadStop>
     requires well_formed { IsWellFormed schema.now }
-    requires few_names { HaveFewNames schema.now.columns }
     ensures { Answers result (chosen_of schema.now part.now) }
 {
     match part {

@@ -1,7 +1,7 @@
 ghost use Rattle.std.specs.Prelude.{[], IfOk};
 ghost use Rattle.csv.specs.Reading.{default_config, records, strip_bom};
 ghost use Rattle.pc_model.specs.Refusals.{Gives};
-ghost use Rattle.pc_model.specs.WellFormed.{AreColumns, HaveFewNames, IsWellFormed};
+ghost use Rattle.pc_model.specs.WellFormed.{AreColumns, IsWellFormed};
 ghost use Rattle.pc_schema.specs.SchemaFile.{columns_from, schema_from, schema_of};
 
 use crate::column::next_column;
@@ -16,7 +16,6 @@ use std::alloc::Global;
 pub fn read_schema(alloc: Global, bytes: &[u8]) -> Result<Schema, Refusal>
     ensures gives { Gives result (schema_of bytes.now) }
     ensures well_formed { IfOk result IsWellFormed }
-    ensures few_names { IfOk result (λ schema. HaveFewNames schema.columns) }
 {
     match text_of(bytes) {
         Ok(text) => schema_from(read_columns(alloc, text)?),
@@ -24,12 +23,10 @@ pub fn read_schema(alloc: Global, bytes: &[u8]) -> Result<Schema, Refusal>
     }
 }
 
-#[tactic(auto, using(pc_model::proofs::FewNames::have_few_names))]
 fn schema_from(columns: Seq<Column>) -> Result<Schema, Refusal>
     requires { AreColumns columns }
     ensures gives { Gives result (schema_from columns) }
     ensures well_formed { IfOk result IsWellFormed }
-    ensures few_names { IfOk result (λ schema. HaveFewNames schema.columns) }
 {
     if columns.is_empty() {
         return Err(ReadStop::Reason(Reason::NoHeader).at(FileKind::Schema, 1));

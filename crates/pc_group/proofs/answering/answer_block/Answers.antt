@@ -18,7 +18,7 @@ cells-requires-clause-chosen c =
 
 pub answer_of-requires-clause-asked : goal.answer_of-requires-clause-asked
 answer_of-requires-clause-asked c =
-    let found = c.in_ok-cells.ensures in
+    let found = c.in_ok-cells.ensures.found in
     are_asked c.args.scope.now.schema.now c.args.seen.now c.args.scope.now.constraints.now c.in_ok-cells.cells c.args.query.now c.in_ok-asked.asked c.args.name c.args.scope.now.nodes c.in_ok-asked.ensures c.requires.scope.formed c.requires.scope.limited c.requires.asked c.requires.allowed
     (record { tree = found.settled; listed = found.cells; filled = found.filled; numbers = found.numbers }) c.requires.few_seen c.requires.small_seen c.requires.scope.budget
 
