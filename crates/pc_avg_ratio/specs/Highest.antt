@@ -91,6 +91,11 @@ IsStep f outermost budget standing (Better next) =
     IsStanding f next × (next.limit + next.tries < standing.limit + standing.tries) × IsAtMost (ratio_of standing.ratio) (ratio_of next.ratio)
 IsStep f outermost budget standing (End highest) = IsHighest f outermost budget (ratio_of standing.ratio) highest
 
+-- the step, whatever the outermost number and the budget, if the tree is within the worth at the ratio
+abbrev pub IsStepWithin : Fractional → Standing → Tree → ℤ → Step → Type 0
+IsStepWithin f standing tree most step =
+    (outermost : ℤ) (budget : ℕ) → IsTreeWithin (program_at f (ratio_of standing.ratio)) budget tree most → IsStep f outermost budget standing step
+
 abbrev pub IsStepSurely : Step → Type 0
 IsStepSurely (Better next) = ⊤
 IsStepSurely (End highest) = IsSurely highest

@@ -1,3 +1,4 @@
+pub mod Average
 pub mod Best
 pub mod Fractional
 pub mod Highest

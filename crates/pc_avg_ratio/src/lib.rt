@@ -2,6 +2,7 @@
 //! program.
 #![tactic(auto)]
 
+mod average;
 mod best;
 mod fractional;
 mod highest;

@@ -1,15 +1,15 @@
-ghost use Rattle.std.specs.Prelude.{◌≡◌, ◌≤◌, ◌^◌, ℕ, ℤ, pos, nat_abs, ◌*ℤ◌, ◌<ℤ◌, IfOk};
+ghost use Rattle.std.specs.Prelude.{◌≡◌, ◌≤◌, ◌^◌, pos, nat_abs, ◌*ℤ◌, ◌<ℤ◌, IfOk};
 ghost use Rattle.pc_program_bound.specs.Allocation.{worth};
-ghost use Rattle.pc_branch.specs.Outcome.{IsOutcome};
-ghost use Rattle.pc_branch.specs.declared.outcome.Outcome.TheVariants as outcomes;
-ghost use Rattle.pc_branch.specs.Outcome.{IsEasyProgram};
+ghost use Rattle.pc_branch.specs.Outcome.{IsEasyProgram, IsOutcome};
 ghost use Rattle.pc_proof.specs.Table.{ratio_of};
 ghost use Rattle.pc_avg_ratio.specs.declared.highest.Highest.TheVariants as highests;
 ghost use Rattle.pc_avg_ratio.specs.declared.steps.Step.TheVariants as steps;
+ghost use Rattle.pc_avg_ratio.specs.Average.{IsAsked, IsStepOver, outcome_of};
 ghost use Rattle.pc_avg_ratio.specs.Fractional.{program_at, ratio_with, rows_with, IsFractional, IsLawful, IsOutermost};
-ghost use Rattle.pc_avg_ratio.specs.Highest.{IsHighest, IsStep, IsStepSurely, IsSpent, IsSurely, IsTreeWithin};
+ghost use Rattle.pc_avg_ratio.specs.Highest.{IsHighest, IsStepSurely, IsStepWithin, IsSpent, IsSurely};
 ghost use Rattle.pc_avg_ratio.specs.Steps.{AreBest, IsProgramAt, IsStanding};
 
+use crate::average::Average;
 use crate::fractional::{Fractional, excess, over_before, rows_with};
 use crate::highest::Highest;
 use crate::programs::program_at;
@@ -36,6 +36,14 @@ pub(crate) enum Step {
     End(Highest),
 }
 
+/// What a search leaves whose budget is spent.
+#[derive(Debug, Drop)]
+pub(crate) struct SpentSearch {
+    pub bound: i128,
+    pub found: Option<Seq<u64>>,
+    pub tree: Tree,
+}
+
 /// The greatest ratio, from counts with a row on: while the best counts at a ratio have a greater one, they have fewer rows.
 /// Each step searches one program by a tree of at most so many nodes. No row has a number above the outermost.
 pub fn greatest_ratio(
@@ -53,9 +61,14 @@ pub fn greatest_ratio(
     ensures highest { IfOk result (IsHighest f.now outermost nodes (ratio_with f.now start)) }
     ensures disjoint { IsEasyProgram f.now.rows → IfOk result IsSurely }
 {
+    let average = Average {
+        fraction: f,
+        outermost,
+        nodes,
+    };
     let mut standing = standing_at(f, start, TOO_MANY_ROWS, TRIES);
     loop {
-        match take_step(alloc, f, outermost, standing, nodes)? {
+        match take_step(alloc, &average, standing)? {
             Step::Better(next) => standing = next,
             Step::End(highest) => return Ok(highest),
         }
@@ -63,30 +76,23 @@ pub fn greatest_ratio(
 }
 
 /// One step: the program at the ratio.
-fn take_step(
-    alloc: Global,
-    f: &Fractional,
-    outermost: i128,
-    standing: Standing,
-    nodes: u32,
-) -> Result<Step, Memory>
-    requires fractional { IsFractional f.now }
-    requires outermost { IsOutermost f.now outermost }
-    requires standing { IsStanding f.now standing }
-    requires nodes { (1 ≤ nodes) × (nodes ≤ 100_000) }
-    ensures step { IfOk result (IsStep f.now outermost nodes standing) }
-    ensures disjoint { IsEasyProgram f.now.rows → IfOk result IsStepSurely }
+fn take_step(alloc: Global, average: &Average<'_>, standing: Standing) -> Result<Step, Memory>
+    requires asked { IsAsked average.now }
+    requires standing { IsStanding average.now.fraction.now standing }
+    ensures step { IfOk result (IsStepOver average.now standing) }
+    ensures disjoint { IsEasyProgram average.now.fraction.now.rows → IfOk result IsStepSurely }
 {
-    let program = program_at(alloc, f, standing.ratio)?;
-    match solve(alloc, &program, nodes)? {
+    let program = program_at(alloc, average.fraction, standing.ratio)?;
+    match solve(alloc, &program, average.nodes)? {
         Outcome::Best {
             counts,
             value,
             tree,
-        } => Ok(after_best(f, standing, counts, value, tree)),
-        Outcome::Spent { bound, found, tree } => after_spent(
-            alloc, f, outermost, &program, standing, bound, found, tree, nodes,
-        ),
+        } => Ok(after_best(average.fraction, standing, counts, value, tree)),
+        Outcome::Spent { bound, found, tree } => {
+            let spent = SpentSearch { bound, found, tree };
+            after_spent(alloc, average, &program, standing, spent)
+        }
         Outcome::Nothing { tree: _ } => unreachable!(),
     }
 }
@@ -98,7 +104,7 @@ fn after_best(f: &Fractional, standing: Standing, counts: Seq<u64>, value: i128,
     requires best { AreBest f.now (ratio_of standing.ratio) counts }
     requires value { worth (program_at f.now (ratio_of standing.ratio)) counts ≡ value }
     requires small { nat_abs value ≤ 10 ^ 37 }
-    ensures step { (outermost : ℤ) (budget : ℕ) → IsTreeWithin (program_at f.now (ratio_of standing.ratio)) budget tree value → IsStep f.now outermost budget standing result }
+    ensures step { IsStepWithin f.now standing tree value result }
     ensures surely { IsStepSurely result }
 {
     let Standing {
@@ -122,28 +128,24 @@ fn after_best(f: &Fractional, standing: Standing, counts: Seq<u64>, value: i128,
 /// the steps go on from what was found, some times, or end above the ratio.
 fn after_spent(
     alloc: Global,
-    f: &Fractional,
-    outermost: i128,
+    average: &Average<'_>,
     program: &Program,
     standing: Standing,
-    bound: i128,
-    found: Option<Seq<u64>>,
-    tree: Tree,
-    nodes: u32,
+    spent: SpentSearch,
 ) -> Result<Step, Memory>
-    requires fractional { IsFractional f.now }
-    requires outermost { IsOutermost f.now outermost }
-    requires standing { IsStanding f.now standing }
-    requires program { IsProgramAt f.now (ratio_of standing.ratio) program.now }
-    requires outcome { IsOutcome program.now nodes (outcomes.Spent bound found tree) }
-    requires nodes { (1 ≤ nodes) × (nodes ≤ 100_000) }
-    ensures { IfOk result (IsStep f.now outermost nodes standing) }
+    requires asked { IsAsked average.now }
+    requires standing { IsStanding average.now.fraction.now standing }
+    requires program { IsProgramAt average.now.fraction.now (ratio_of standing.ratio) program.now }
+    requires outcome { IsOutcome program.now average.now.nodes (outcome_of spent) }
+    ensures { IfOk result (IsStepOver average.now standing) }
 {
+    let SpentSearch { bound, found, tree } = spent;
+    let f = average.fraction;
     let ratio = standing.ratio;
     if over_before(f, ratio) + bound <= 0 {
         return Ok(reached(standing, tree));
     }
-    if outermost * ratio.den <= ratio.num {
+    if average.outermost * ratio.den <= ratio.num {
         let tree = flat_tree(alloc, program.least.len())?;
         return Ok(reached(standing, tree));
     }
@@ -153,7 +155,7 @@ fn after_spent(
             return Ok(Step::Better(next));
         }
     }
-    end_above(alloc, f, outermost, program, standing, bound, tree, nodes)
+    end_above(alloc, average, program, standing, bound, tree)
 }
 
 /// The ratio is the greatest.
@@ -170,22 +172,20 @@ fn reached(standing: Standing, tree: Tree) -> Step
 /// What the tree of a spent search leaves over, unless its bound is lower than that of the search and leaves nothing.
 fn end_above(
     alloc: Global,
-    f: &Fractional,
-    outermost: i128,
+    average: &Average<'_>,
     program: &Program,
     standing: Standing,
     bound: i128,
     tree: Tree,
-    nodes: u32,
 ) -> Result<Step, Memory>
-    requires fractional { IsFractional f.now }
-    requires outermost { IsOutermost f.now outermost }
-    requires standing { IsStanding f.now standing }
-    requires program { IsProgramAt f.now (ratio_of standing.ratio) program.now }
-    requires outcome { IsSpent program.now nodes bound tree }
-    requires under { standing.ratio.num <ℤ (outermost *ℤ standing.ratio.den) }
-    ensures { IfOk result (IsStep f.now outermost nodes standing) }
+    requires asked { IsAsked average.now }
+    requires standing { IsStanding average.now.fraction.now standing }
+    requires program { IsProgramAt average.now.fraction.now (ratio_of standing.ratio) program.now }
+    requires outcome { IsSpent program.now average.now.nodes bound tree }
+    requires under { standing.ratio.num <ℤ (average.now.outermost *ℤ standing.ratio.den) }
+    ensures { IfOk result (IsStepOver average.now standing) }
 {
+    let f = average.fraction;
     let ratio = standing.ratio;
     let most = match tree_bound(alloc, program, &tree)? {
         Some(most) => most,
@@ -195,7 +195,7 @@ fn end_above(
     if left <= 0 {
         return Ok(reached(standing, tree));
     }
-    let value = raised(f, ratio, left, outermost);
+    let value = raised(f, ratio, left, average.outermost);
     Ok(Step::End(Highest::Above {
         ratio,
         counts: standing.counts,

@@ -19,14 +19,14 @@ pub unreachable-requires : goal.unreachable-requires
 unreachable-requires c =
     let args = c.args in
     let none = sym c.in_ok-most.ensures.bound ∙ c.in-None.is in
-    some_bound args.f.now (ratio_of args.standing.ratio) args.program.now c.requires.program args.nodes args.bound args.tree c.requires.outcome
+    some_bound args.average.now.fraction.now (ratio_of args.standing.ratio) args.program.now c.requires.program args.average.now.nodes args.bound args.tree c.requires.outcome
     args.standing.counts c.requires.standing.ratio.has.lawful none
 
 pub overflow_add-left : goal.overflow_add-left
 overflow_add-left c =
     let args = c.args in
     let is = sym c.in_ok-most.ensures.bound ∙ c.in-Some.is in
-    let small = small_bound args.f.now (ratio_of args.standing.ratio) args.program.now c.requires.program args.nodes args.bound args.tree c.requires.outcome
+    let small = small_bound args.average.now.fraction.now (ratio_of args.standing.ratio) args.program.now c.requires.program args.average.now.nodes args.bound args.tree c.requires.outcome
     args.standing.counts c.requires.standing.ratio.has.lawful c.in-Some.most is in
     omega (arith, ints)
 
@@ -34,7 +34,7 @@ pub raised-value-requires-clause-small_left : goal.raised-value-requires-clause-
 raised-value-requires-clause-small_left c =
     let args = c.args in
     let is = sym c.in_ok-most.ensures.bound ∙ c.in-Some.is in
-    let small = small_bound args.f.now (ratio_of args.standing.ratio) args.program.now c.requires.program args.nodes args.bound args.tree c.requires.outcome
+    let small = small_bound args.average.now.fraction.now (ratio_of args.standing.ratio) args.program.now c.requires.program args.average.now.nodes args.bound args.tree c.requires.outcome
     args.standing.counts c.requires.standing.ratio.has.lawful c.in-Some.most is in
     omega (arith, ints)
 
@@ -43,11 +43,11 @@ returns-then-left-le0 c =
     let args = c.args in
     let r = ratio_of args.standing.ratio in
     let is = sym c.in_ok-most.ensures.bound ∙ c.in-Some.is in
-    let small = small_bound args.f.now r args.program.now c.requires.program args.nodes args.bound args.tree c.requires.outcome
+    let small = small_bound args.average.now.fraction.now r args.program.now c.requires.program args.average.now.nodes args.bound args.tree c.requires.outcome
     args.standing.counts c.requires.standing.ratio.has.lawful c.in-Some.most is in
-    let left = sum_passed c.over_before.result c.in-Some.most (over_before args.f.now r) c.over_before.ensures.value c.over_before.ensures.small small in
-    subst (IsStep args.f.now args.outermost args.nodes args.standing) (sym c.reached.ensures)
-    (reached_by_bound args.f.now args.outermost args.nodes args.standing c.requires.standing args.program.now c.requires.program args.bound args.tree c.requires.outcome
+    let left = sum_passed c.over_before.result c.in-Some.most (over_before args.average.now.fraction.now r) c.over_before.ensures.value c.over_before.ensures.small small in
+    subst (IsStep args.average.now.fraction.now args.average.now.outermost args.average.now.nodes args.standing) (sym c.reached.ensures)
+    (reached_by_bound args.average.now.fraction.now args.average.now.outermost args.average.now.nodes args.standing c.requires.standing args.program.now c.requires.program args.bound args.tree c.requires.outcome
     c.in-Some.most is (is_at_most _ _ (rw left at c.if-left-le0.true)))
 
 pub returns : goal.returns
@@ -55,10 +55,10 @@ returns c =
     let args = c.args in
     let r = ratio_of args.standing.ratio in
     let is = sym c.in_ok-most.ensures.bound ∙ c.in-Some.is in
-    let small = small_bound args.f.now r args.program.now c.requires.program args.nodes args.bound args.tree c.requires.outcome
+    let small = small_bound args.average.now.fraction.now r args.program.now c.requires.program args.average.now.nodes args.bound args.tree c.requires.outcome
     args.standing.counts c.requires.standing.ratio.has.lawful c.in-Some.most is in
-    let left = sum_passed c.over_before.result c.in-Some.most (over_before args.f.now r) c.over_before.ensures.value c.over_before.ensures.small small in
-    let end : to_z w128 (of_z w128 args.outermost) ≡ args.outermost = omega (arith, ints) in
+    let left = sum_passed c.over_before.result c.in-Some.most (over_before args.average.now.fraction.now r) c.over_before.ensures.value c.over_before.ensures.small small in
+    let end : to_z w128 (of_z w128 args.average.now.outermost) ≡ args.average.now.outermost = omega (arith, ints) in
     let value = c.raised-value in
-    above_at args.f.now args.outermost args.nodes args.standing c.requires.standing args.program.now c.requires.program args.bound args.tree c.requires.outcome
+    above_at args.average.now.fraction.now args.average.now.outermost args.average.now.nodes args.standing c.requires.standing args.program.now c.requires.program args.bound args.tree c.requires.outcome
     c.in-Some.most is (is_above _ _ (rw left at c.if-left-le0.false)) c.requires.under value.result value.ensures.lowest value.ensures.small (rw (left, end) at value.ensures.value)

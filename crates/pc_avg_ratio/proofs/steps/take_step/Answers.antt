@@ -14,39 +14,39 @@ solve-requires-clause-width c = HasFitWidth-small c.in_ok-program.program c.in_o
 pub after_best-requires-clause-best : goal.after_best-requires-clause-best
 after_best-requires-clause-best c =
     let p = c.in_ok-program in
-    let at : IsProgramAt c.args.f.now (ratio_of c.args.standing.ratio) p.program = record { same = p.ensures.program; program = p.ensures.is_program; small = p.ensures.small } in
-    best_counts c.args.f.now (ratio_of c.args.standing.ratio) p.program at c.args.nodes c.in-Best.counts c.in-Best.value c.in-Best.tree
-    (subst (IsOutcome p.program c.args.nodes) c.in-Best.is c.in_ok-counts.ensures.outcome)
+    let at : IsProgramAt c.args.average.now.fraction.now (ratio_of c.args.standing.ratio) p.program = record { same = p.ensures.program; program = p.ensures.is_program; small = p.ensures.small } in
+    best_counts c.args.average.now.fraction.now (ratio_of c.args.standing.ratio) p.program at c.args.average.now.nodes c.in-Best.counts c.in-Best.value c.in-Best.tree
+    (subst (IsOutcome p.program c.args.average.now.nodes) c.in-Best.is c.in_ok-counts.ensures.outcome)
 
 pub after_best-requires-clause-small : goal.after_best-requires-clause-small
 after_best-requires-clause-small c =
     let p = c.in_ok-program in
-    let at : IsProgramAt c.args.f.now (ratio_of c.args.standing.ratio) p.program = record { same = p.ensures.program; program = p.ensures.is_program; small = p.ensures.small } in
-    let small = best_small c.args.f.now (ratio_of c.args.standing.ratio) p.program at c.args.nodes c.in-Best.counts c.in-Best.value c.in-Best.tree
-    (subst (IsOutcome p.program c.args.nodes) c.in-Best.is c.in_ok-counts.ensures.outcome) in
+    let at : IsProgramAt c.args.average.now.fraction.now (ratio_of c.args.standing.ratio) p.program = record { same = p.ensures.program; program = p.ensures.is_program; small = p.ensures.small } in
+    let small = best_small c.args.average.now.fraction.now (ratio_of c.args.standing.ratio) p.program at c.args.average.now.nodes c.in-Best.counts c.in-Best.value c.in-Best.tree
+    (subst (IsOutcome p.program c.args.average.now.nodes) c.in-Best.is c.in_ok-counts.ensures.outcome) in
     let same : to_z w128 (of_z w128 c.in-Best.value) ≡ c.in-Best.value = omega (arith, ints) in
     rw same small
 
 pub returns-in-Best-clause-step : goal.returns-in-Best-clause-step
 returns-in-Best-clause-step c =
     let p = c.in_ok-program in
-    let f = c.args.f.now in
+    let f = c.args.average.now.fraction.now in
     let r = ratio_of c.args.standing.ratio in
     let at : IsProgramAt f r p.program = record { same = p.ensures.program; program = p.ensures.is_program; small = p.ensures.small } in
-    let outcome = subst (IsOutcome p.program c.args.nodes) c.in-Best.is c.in_ok-counts.ensures.outcome in
-    let small = best_small f r p.program at c.args.nodes c.in-Best.counts c.in-Best.value c.in-Best.tree outcome in
+    let outcome = subst (IsOutcome p.program c.args.average.now.nodes) c.in-Best.is c.in_ok-counts.ensures.outcome in
+    let small = best_small f r p.program at c.args.average.now.nodes c.in-Best.counts c.in-Best.value c.in-Best.tree outcome in
     let same : to_z w128 (of_z w128 c.in-Best.value) ≡ c.in-Best.value = omega (arith, ints) in
-    let within = best_within_at f r p.program at c.args.nodes c.in-Best.counts c.in-Best.value c.in-Best.tree outcome in
-    c.after_best.ensures.step c.args.outermost c.args.nodes (rw same within)
+    let within = best_within_at f r p.program at c.args.average.now.nodes c.in-Best.counts c.in-Best.value c.in-Best.tree outcome in
+    c.after_best.ensures.step c.args.average.now.outermost c.args.average.now.nodes (rw same within)
 
 pub returns-in-Spent-clause-step : goal.returns-in-Spent-clause-step
 returns-in-Spent-clause-step c =
-    let end : to_z w128 (of_z w128 c.args.outermost) ≡ c.args.outermost = omega (arith, ints) in
+    let end : to_z w128 (of_z w128 c.args.average.now.outermost) ≡ c.args.average.now.outermost = omega (arith, ints) in
     rw end at c.after_spent.ensures
 
 pub unreachable-requires : goal.unreachable-requires
 unreachable-requires c =
     let p = c.in_ok-program in
-    let at : IsProgramAt c.args.f.now (ratio_of c.args.standing.ratio) p.program = record { same = p.ensures.program; program = p.ensures.is_program; small = p.ensures.small } in
-    never_nothing c.args.f.now (ratio_of c.args.standing.ratio) p.program at c.args.nodes c.args.standing.counts c.in-Nothing.tree c.requires.standing.ratio.has.lawful
-    (subst (IsOutcome p.program c.args.nodes) c.in-Nothing.is c.in_ok-counts.ensures.outcome)
+    let at : IsProgramAt c.args.average.now.fraction.now (ratio_of c.args.standing.ratio) p.program = record { same = p.ensures.program; program = p.ensures.is_program; small = p.ensures.small } in
+    never_nothing c.args.average.now.fraction.now (ratio_of c.args.standing.ratio) p.program at c.args.average.now.nodes c.args.standing.counts c.in-Nothing.tree c.requires.standing.ratio.has.lawful
+    (subst (IsOutcome p.program c.args.average.now.nodes) c.in-Nothing.is c.in_ok-counts.ensures.outcome)
