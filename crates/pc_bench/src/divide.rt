@@ -45,7 +45,7 @@ fn number(word: &str) -> Result<u32, Trouble> {
 }
 
 /// Divides the domain as often as it is to be, and answers the cells of the last time.
-#[tactic(auto, using(pc_model::proofs::WholeDomain::whole_is_region))]
+#[tactic(auto, using(pc_model::proofs::WholeDomain::whole_is_region, pc_model::proofs::FewNames::have_few_names))]
 fn divide(alloc: Global, plan: &Plan) -> Result<Cells, Trouble> {
     let schema = read_schema(alloc, plan.family.schema_text(alloc)?.as_bytes())?;
     let text = plan.family.constraints_text(alloc, plan.constraints)?;
@@ -66,7 +66,7 @@ struct LastConstraint {
     columns: usize,
 }
 
-#[tactic(auto, using(pc_model::proofs::WholeDomain::whole_is_region))]
+#[tactic(auto, using(pc_model::proofs::WholeDomain::whole_is_region, pc_model::proofs::FewNames::have_few_names))]
 fn last_constraint(alloc: Global, plan: &Plan) -> Result<LastConstraint, Trouble> {
     let schema = read_schema(alloc, plan.family.schema_text(alloc)?.as_bytes())?;
     let text = plan.family.constraints_text(alloc, plan.constraints)?;

@@ -2,7 +2,7 @@ ghost use Rattle.std.specs.Prelude.{◌≡◌, ◌≤◌, true, length, All};
 ghost use Rattle.pc_model.specs.Accepted.{constraint_limit};
 ghost use Rattle.pc_model.specs.Boxes.{IsServable};
 ghost use Rattle.pc_model.specs.Regions.{is_region_of};
-ghost use Rattle.pc_model.specs.WellFormed.{IsWellFormed, HaveFewNames};
+ghost use Rattle.pc_model.specs.WellFormed.{IsWellFormed};
 ghost use Rattle.pc_cells.specs.Found.{IsFilled};
 
 mod drawn;
@@ -165,7 +165,6 @@ fn are_apart(schema: &Schema, constraints: &[Constraint]) -> bool
 /// Whether the case is answered as it says; false where its texts are refused.
 fn is_case(alloc: Global, schema: &Schema, case: usize) -> Result<bool, Memory>
     requires well_formed { IsWellFormed schema.now }
-    requires few_names { HaveFewNames schema.now.columns }
 {
     let Some(&(text, question, count, disjoint)) = CASES.get(case) else {
         return Ok(false);

@@ -1,7 +1,7 @@
 ghost use Rattle.std.specs.Prelude.{◌≡◌, ◌≤◌, ◌+◌, map, All, IfOk};
 ghost use Rattle.pc_model.specs.Accepted.{IsQuery};
 ghost use Rattle.pc_model.specs.Refusals.{Gives};
-ghost use Rattle.pc_model.specs.WellFormed.{IsWellFormed, HaveFewNames};
+ghost use Rattle.pc_model.specs.WellFormed.{IsWellFormed};
 ghost use Rattle.pc_run_words.specs.Commands.{bound_names};
 ghost use Rattle.pc_run_words.specs.Words.{bound, prove};
 ghost use Rattle.pc_run.specs.Outcome.{asks, proves, queries_of};
@@ -35,6 +35,7 @@ pub(crate) fn read_case<F: Shelf>(
 }
 
 /// The same as the input of `bound`, which `prove` reads too.
+#[tactic(auto, using(pc_model::proofs::FewNames::have_few_names))]
 fn case_under<F: Shelf>(alloc: Global, files: &mut F, command: &Bound) -> Result<Case, Stop>
     ensures agrees { InputAgrees (asks command.now.nodes) (F.files files.old) (bound (bound_names command.now)) (F.faults files.old) (F.faults files.new) result }
     ensures sound { IfOk result IsSound }
@@ -57,7 +58,6 @@ fn case_under<F: Shelf>(alloc: Global, files: &mut F, command: &Bound) -> Result
 /// Reads the queries in their order. The place of a fault is that of the query among them.
 fn read_queries(alloc: Global, schema: &Schema, texts: &[&str]) -> Result<Seq<Query>, Refusal>
     requires well_formed { IsWellFormed schema.now }
-    requires few_names { HaveFewNames schema.now.columns }
     ensures gives { Gives result (queries_of schema.now (map (λ text. text.now) texts.now)) }
     ensures asked { IfOk result (All (IsQuery schema.now)) }
 {

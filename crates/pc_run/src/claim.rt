@@ -23,6 +23,7 @@ pub(crate) struct Claim {
 }
 
 /// Reads the files of `check` in their order, and loads the document.
+#[tactic(auto, using(pc_model::proofs::FewNames::have_few_names))]
 pub(crate) fn read_claim<F: Shelf>(
     alloc: Global,
     files: &mut F,

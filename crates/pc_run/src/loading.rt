@@ -76,7 +76,6 @@ pub(crate) fn load_schema<F: Shelf>(
     ensures faults_stay { F.faults files.old ≤ F.faults files.new }
     ensures one_call { RoseByOne (F.calls files.old) (F.calls files.new) }
     ensures well_formed { IfOk result IsWellFormed }
-    ensures few_names { IfOk result (λ schema. HaveFewNames schema.columns) }
 {
     let bytes = load_bytes(alloc, files, FileKind::Schema, name)?;
     Ok(read_schema(alloc, bytes.as_slice())?)
@@ -109,7 +108,6 @@ pub(crate) fn load_constraints<F: Shelf>(
     schema: &Schema,
 ) -> Result<Seq<Constraint>, Stop>
     requires well_formed { IsWellFormed schema.now }
-    requires few_names { HaveFewNames schema.now.columns }
     ensures agrees { Agrees kinds.Constraints (F.files files.old) (constraints_under schema.now name.now) result }
     ensures cause { HasCause (F.files files.old) name.now (F.faults files.old) (F.faults files.new) result }
     ensures files_stay { F.files files.new ≡ F.files files.old }

@@ -82,6 +82,7 @@ fn discard_ends(ends: Option<(End, End)>) {
 
 fn discard_end(_end: End) {}
 
+#[tactic(auto, using(pc_model::proofs::FewNames::have_few_names))]
 fn read_case(alloc: Global, texts: Texts<'_>) -> Result<Case, Refusal>
     ensures formed { IfOk result (λ case. IsWellFormed case.schema) }
     ensures limited { IfOk result (λ case. AreConstraints case.schema case.constraints) }

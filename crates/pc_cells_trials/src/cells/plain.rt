@@ -2,7 +2,7 @@ ghost use Rattle.std.specs.Prelude.{◌≡◌, ◌≤◌, ◌<◌, true, length,
 ghost use Rattle.pc_model.specs.Accepted.{constraint_limit};
 ghost use Rattle.pc_model.specs.Boxes.{IsServable};
 ghost use Rattle.pc_model.specs.Regions.{is_region_of};
-ghost use Rattle.pc_model.specs.WellFormed.{IsWellFormed, HaveFewNames};
+ghost use Rattle.pc_model.specs.WellFormed.{IsWellFormed};
 ghost use Rattle.pc_cells.specs.Found.{IsFilled};
 
 use pc_cells::{Cells, decompose};
@@ -260,7 +260,6 @@ fn has_plain_cells(
     question: &str,
 ) -> Result<bool, Memory>
     requires well_formed { IsWellFormed schema.now }
-    requires few_names { HaveFewNames schema.now.columns }
 {
     let Ok(constraints) = read_constraints(alloc, schema, text.as_bytes()) else {
         return Ok(false);

@@ -2,7 +2,7 @@ ghost use Rattle.std.specs.Prelude.{◌≡◌, ◌≤◌, true, length, All, OnO
 ghost use Rattle.pc_model.specs.Accepted.{constraint_limit};
 ghost use Rattle.pc_model.specs.Boxes.{IsServable};
 ghost use Rattle.pc_model.specs.Regions.{is_region_of};
-ghost use Rattle.pc_model.specs.WellFormed.{IsWellFormed, HaveFewNames};
+ghost use Rattle.pc_model.specs.WellFormed.{IsWellFormed};
 ghost use Rattle.pc_cells_tree.specs.Linked.{IsTree};
 
 use super::{SHOP, place_of};
@@ -64,7 +64,6 @@ fn is_cut_once(
     cuts: u64,
 ) -> Result<bool, Memory>
     requires well_formed { IsWellFormed schema.now }
-    requires few_names { HaveFewNames schema.now.columns }
 {
     let Ok(constraints) = read_constraints(alloc, schema, text.as_bytes()) else {
         return Ok(false);
@@ -191,7 +190,6 @@ pub(super) fn are_alike_in_turn(
     question: &str,
 ) -> Result<bool, Memory>
     requires well_formed { IsWellFormed schema.now }
-    requires few_names { HaveFewNames schema.now.columns }
 {
     let Ok(constraints) = read_constraints(alloc, schema, text.as_bytes()) else {
         return Ok(false);

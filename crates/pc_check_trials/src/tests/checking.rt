@@ -31,6 +31,7 @@ pub(super) fn verdict(alloc: Global, files: Files<'_>, text: &str) -> Result<Ver
     Ok(verdict)
 }
 
+#[tactic(auto, using(pc_model::proofs::FewNames::have_few_names))]
 fn read_ground(alloc: Global, files: Files<'_>) -> Result<Ground, Refusal>
     ensures formed { IfOk result (λ ground. IsWellFormed ground.schema) }
     ensures observed { IfOk result (λ ground. AllPass (in_domain ground.schema) ground.rows) }

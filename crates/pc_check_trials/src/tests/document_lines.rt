@@ -1,5 +1,5 @@
 //! The lines of documents, each on its own.
-ghost use Rattle.pc_model.specs.WellFormed.{HaveFewNames, IsWellFormed};
+ghost use Rattle.pc_model.specs.WellFormed.{IsWellFormed};
 
 use pc_document_lines::{
     EndLine, ProofLine, Side, likely_number, put_node, read_end_line, read_node, read_proof_line,
@@ -102,7 +102,6 @@ fn low_end(
     line: &str,
 ) -> Result<Option<EndLine>, Refusal>
     requires well_formed { IsWellFormed schema.now }
-    requires few_names { HaveFewNames schema.now.columns }
 {
     let query = read_query(alloc, schema, query, 1)?;
     read_end_line(alloc, schema, &query, Side::Low, line.as_bytes()).map_err(|_| Refusal::Memory)
@@ -146,7 +145,6 @@ fn proof_of(
     line: &str,
 ) -> Result<Option<ProofLine>, Refusal>
     requires well_formed { IsWellFormed schema.now }
-    requires few_names { HaveFewNames schema.now.columns }
 {
     let query = read_query(alloc, schema, query, 1)?;
     read_proof_line(alloc, schema, &query, line.as_bytes()).map_err(|_| Refusal::Memory)

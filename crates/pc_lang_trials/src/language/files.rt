@@ -1,4 +1,4 @@
-ghost use Rattle.pc_model.specs.WellFormed.{IsWellFormed, HaveFewNames};
+ghost use Rattle.pc_model.specs.WellFormed.{IsWellFormed};
 
 use super::put::SHOP;
 use pc_lang::{line_number, read_constraints, read_query};
@@ -35,7 +35,6 @@ fn is_query_fault(read: Result<Query, Refusal>, place: u64, number: u8) -> bool 
 // Asserts the number of the fault of each line.
 fn have_faults(rt: &impl Abort, alloc: Global, schema: &Schema, cases: &[(&str, u8)])
     requires well_formed { IsWellFormed schema.now }
-    requires few_names { HaveFewNames schema.now.columns }
 {
     for (text, number) in cases {
         let read = read_constraints(alloc, schema, text.as_bytes());
@@ -253,7 +252,6 @@ fn is_fault_past_twenty(
     number: u8,
 ) -> Result<bool, AllocError>
     requires well_formed { IsWellFormed schema.now }
-    requires few_names { HaveFewNames schema.now.columns }
 {
     let mut text = many_lines(alloc, 20)?;
     text.extend_from_slice(more.as_bytes())?;

@@ -1,4 +1,4 @@
-ghost use Rattle.pc_model.specs.WellFormed.{IsWellFormed, HaveFewNames};
+ghost use Rattle.pc_model.specs.WellFormed.{IsWellFormed};
 
 use super::files::many_lines;
 use super::put::SHOP;
@@ -54,7 +54,6 @@ fn is_meant(read: Result<Query, Refusal>, want: &Meant) -> bool {
 // Asserts what is read of each query.
 fn are_meant(rt: &impl Abort, alloc: Global, schema: &Schema, cases: &[(&str, Meant)])
     requires well_formed { IsWellFormed schema.now }
-    requires few_names { HaveFewNames schema.now.columns }
 {
     for (text, want) in cases {
         let read = read_query(alloc, schema, text, 1);
@@ -199,7 +198,6 @@ fn is_counted(
     want: &Counted,
 ) -> Result<bool, AllocError>
     requires well_formed { IsWellFormed schema.now }
-    requires few_names { HaveFewNames schema.now.columns }
 {
     let mut text = many_lines(alloc, before)?;
     text.extend_from_slice(line.as_bytes())?;

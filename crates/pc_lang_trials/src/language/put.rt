@@ -1,4 +1,4 @@
-ghost use Rattle.pc_model.specs.WellFormed.{IsWellFormed, HaveFewNames};
+ghost use Rattle.pc_model.specs.WellFormed.{IsWellFormed};
 
 use pc_lang::{is_whole, put_constraints, put_query, read_constraints, read_query};
 use pc_model::{Refusal, Schema};
@@ -16,7 +16,6 @@ const ODD: &[u8] = b"\"group\",cat,\"a b\",\"say \"\"x\"\"\",and,x\nn,int,-5,5\n
 // What is written of the constraints that were read.
 fn respelled(alloc: Global, schema: &Schema, text: &str) -> Result<Vec<u8>, Refusal>
     requires well_formed { IsWellFormed schema.now }
-    requires few_names { HaveFewNames schema.now.columns }
 {
     let constraints = read_constraints(alloc, schema, text.as_bytes())?;
     let mut out = Vec::new(alloc);
@@ -26,7 +25,6 @@ fn respelled(alloc: Global, schema: &Schema, text: &str) -> Result<Vec<u8>, Refu
 
 fn respelled_query(alloc: Global, schema: &Schema, text: &str) -> Result<Vec<u8>, Refusal>
     requires well_formed { IsWellFormed schema.now }
-    requires few_names { HaveFewNames schema.now.columns }
 {
     let query = read_query(alloc, schema, text, 1)?;
     let mut out = Vec::new(alloc);
@@ -49,7 +47,6 @@ pub(super) fn constraints_are_written(
     cases: &[(&str, &str)],
 )
     requires well_formed { IsWellFormed schema.now }
-    requires few_names { HaveFewNames schema.now.columns }
 {
     for (text, want) in cases {
         let written = is_text(respelled(alloc, schema, text), want);
@@ -66,7 +63,6 @@ pub(super) fn queries_are_written(
     cases: &[(&str, &str)],
 )
     requires well_formed { IsWellFormed schema.now }
-    requires few_names { HaveFewNames schema.now.columns }
 {
     for (text, want) in cases {
         let written = is_text(respelled_query(alloc, schema, text), want);
@@ -193,6 +189,7 @@ fn queries_of_odd_names(rt: HostRuntime) -> Result<(), Fail> {
 
 // The first part is of all rows, and the second is not.
 #[test]
+#[tactic(auto, using(pc_model::proofs::FewNames::have_few_names))]
 fn whole_parts(rt: HostRuntime) -> Result<(), Fail> {
     let alloc = rt.alloc();
     let schema = read_schema(alloc, SHOP)?;

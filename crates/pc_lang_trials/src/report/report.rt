@@ -1,5 +1,5 @@
 ghost use Rattle.std.specs.Prelude.{IsTrue};
-ghost use Rattle.pc_model.specs.WellFormed.{IsWellFormed, HaveFewNames};
+ghost use Rattle.pc_model.specs.WellFormed.{IsWellFormed};
 ghost use Rattle.pc_report.specs.Units.{AreAverages, IsAverage};
 
 use super::{SCHEMA, run_of};
@@ -45,7 +45,6 @@ fn written(
     answer: Answer,
 ) -> Result<Vec<u8>, Refusal>
     requires well_formed { IsWellFormed schema.now }
-    requires few_names { HaveFewNames schema.now.columns }
     requires averages { AreAverages answer.ends }
 {
     let query = read_query(alloc, schema, query, 1)?;
@@ -102,7 +101,6 @@ fn is_reported(
     want: &str,
 ) -> bool
     requires well_formed { IsWellFormed schema.now }
-    requires few_names { HaveFewNames schema.now.columns }
 {
     if !are_averages(&answer.ends) {
         return false;
@@ -167,7 +165,6 @@ fn without_ends(relation: Relation, lack: Lack) -> Answer {
 // Asserts the reports of ends that are reached, and of none.
 fn counts(rt: &impl Abort, alloc: Global, schema: &Schema) -> Result<(), AllocError>
     requires well_formed { IsWellFormed schema.now }
-    requires few_names { HaveFewNames schema.now.columns }
 {
     let exact = possible(alloc, Lack::Silent, (5, 1), (17, 1))?;
     let want =
@@ -184,7 +181,6 @@ fn counts(rt: &impl Abort, alloc: Global, schema: &Schema) -> Result<(), AllocEr
 // Asserts the reports of ends that may not be reached.
 fn sums(rt: &impl Abort, alloc: Global, schema: &Schema)
     requires well_formed { IsWellFormed schema.now }
-    requires few_names { HaveFewNames schema.now.columns }
 {
     let open = outer(Relation::Undecided, Lack::Silent, (-5, 1), (123_450, 1));
     let want = "query sum(price)\nrelation undecided\nlow -0.05 outer\nhigh 1234.50 outer\n";
@@ -214,7 +210,6 @@ fn sometimes(alloc: Global) -> Result<Lack, AllocError> {
 // Asserts the reports of ends that are reached, where a value may be lacking.
 fn averages(rt: &impl Abort, alloc: Global, schema: &Schema) -> Result<(), AllocError>
     requires well_formed { IsWellFormed schema.now }
-    requires few_names { HaveFewNames schema.now.columns }
 {
     let least = possible(alloc, sometimes(alloc)?, (-31, 1), (2, 1))?;
     let want =
@@ -231,7 +226,6 @@ fn averages(rt: &impl Abort, alloc: Global, schema: &Schema) -> Result<(), Alloc
 // Asserts the reports of a value that is never or always lacking.
 fn lacks(rt: &impl Abort, alloc: Global, schema: &Schema) -> Result<(), AllocError>
     requires well_formed { IsWellFormed schema.now }
-    requires few_names { HaveFewNames schema.now.columns }
 {
     let never = Lack::Never(NeverBy::Rows);
     let greatest = outer(Relation::Undecided, never, (-100, 1), (100_000, 1));

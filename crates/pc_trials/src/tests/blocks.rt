@@ -1,7 +1,7 @@
 //! The blocks of several queries, and their trees.
 ghost use Rattle.std.specs.Prelude.{All, IfOk};
 ghost use Rattle.pc_model.specs.Accepted.{IsQuery};
-ghost use Rattle.pc_model.specs.WellFormed.{HaveFewNames, IsWellFormed};
+ghost use Rattle.pc_model.specs.WellFormed.{IsWellFormed};
 
 use super::*;
 use pc_group::answer_all;
@@ -19,7 +19,6 @@ fn two_queries(
     second: &str,
 ) -> Result<Seq<Query>, Refusal>
     requires well_formed { IsWellFormed schema.now }
-    requires few_names { HaveFewNames schema.now.columns }
     ensures { IfOk result (All (IsQuery schema.now)) }
 {
     let mut queries = Seq::new(alloc);
@@ -31,6 +30,7 @@ fn two_queries(
 }
 
 /// The document of two queries over two sales, of Chicago's at most five lost.
+#[tactic(auto, using(pc_model::proofs::FewNames::have_few_names))]
 fn document_of(alloc: Global, first: &str, second: &str) -> Result<Document, Refusal> {
     let schema = read_schema(alloc, SHOP.as_bytes())?;
     let rows = read_rows(alloc, &schema, SALES.as_bytes())?;
