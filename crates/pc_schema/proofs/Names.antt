@@ -12,11 +12,9 @@ use Rattle.pc_model.specs.declared.fault.Reason.{Reason}
 use Rattle.pc_model.specs.declared.fault.ReadStop.{ReadStop}
 use Rattle.pc_model.specs.declared.fault.ReadStop.TheVariants as stops
 use Rattle.pc_model.specs.Refusals.{StopsAs}
-use Rattle.pc_model.specs.declared.schema.Kind.{Kind}
-use Rattle.pc_model.specs.declared.schema.Kind.TheVariants.{Int, Dec, Cat}
 use Rattle.pc_model.specs.declared.schema.Column.{Column}
 use Rattle.pc_model.specs.Texts.{IsName}
-use Rattle.pc_model.specs.WellFormed.{AreColumns, AreNames, HasFewNames, HaveFewNames, IsColumn, IsKind}
+use Rattle.pc_model.specs.WellFormed.{AreColumns, AreNames, IsColumn}
 use Rattle.pc_records.specs.Fields.{field}
 use Rattle.pc_schema.specs.SchemaFile.{name_of, names_from, is_taken, LackName}
 
