@@ -1,8 +1,5 @@
-ghost use Rattle.std.specs.Prelude.{◌≡◌, ◌<◌, ◌≤◌, true, length, All, IfOk};
-ghost use Rattle.pc_model.specs.Accepted.{constraint_limit};
-ghost use Rattle.pc_model.specs.Boxes.{IsServable};
-ghost use Rattle.pc_model.specs.Regions.{is_region_of};
-ghost use Rattle.pc_model.specs.WellFormed.{IsWellFormed};
+ghost use Rattle.std.specs.Prelude.{◌≡◌, ◌<◌, length, IfOk};
+ghost use Rattle.pc_cells_tree.specs.Linked.{CanBeDivided};
 ghost use Rattle.pc_cells.specs.Found.{AreCellsFor, leaves_at};
 
 use crate::shared::Shared;
@@ -45,10 +42,7 @@ pub fn decompose(
     constraints: &[Constraint],
     chosen: &Region,
 ) -> Result<Cells, Memory>
-    requires well_formed { IsWellFormed schema.now }
-    requires few { length constraints.now ≤ constraint_limit }
-    requires servable { All (IsServable schema.now) constraints.now }
-    requires chosen { is_region_of schema.now chosen.now ≡ true }
+    requires asked { CanBeDivided schema.now constraints.now chosen.now }
     ensures found { IfOk result (AreCellsFor schema.now constraints.now chosen.now) }
 {
     let mut shared = Shared::new(alloc, schema)?;

@@ -1,12 +1,9 @@
-ghost use Rattle.std.specs.Prelude.{◌≡◌, ◌+◌, ◌*◌, ◌≤◌, ◌∷◌, [], true, length, All, IfOk, OnOk, OnErr};
+ghost use Rattle.std.specs.Prelude.{◌≡◌, ◌+◌, ◌*◌, ◌∷◌, [], length, IfOk, OnOk, OnErr};
 ghost use Rattle.pc_model.specs.declared.tree.LeafMark.TheVariants.{Barren};
 ghost use Rattle.pc_model.specs.declared.tree.CutNode.TheVariants as forms;
-ghost use Rattle.pc_model.specs.Accepted.{constraint_limit};
-ghost use Rattle.pc_model.specs.Boxes.{IsServable};
 ghost use Rattle.pc_model.specs.CutTrees.{shape_of};
-ghost use Rattle.pc_model.specs.Regions.{is_region_of};
 ghost use Rattle.pc_model.specs.WellFormed.{IsWellFormed};
-ghost use Rattle.pc_cells_tree.specs.Linked.{IsTree, IsDividedFor, HasKept, HasNeededCuts, IsFrugal};
+ghost use Rattle.pc_cells_tree.specs.Linked.{CanBeDivided, IsTree, IsDividedFor, HasKept, HasNeededCuts, IsFrugal};
 ghost use Rattle.pc_cells_tree.specs.Walking.{HasCutsAt};
 ghost use Rattle.pc_cells.specs.Found.{AreCellsFor};
 
@@ -49,10 +46,7 @@ impl Shared {
         constraints: &[Constraint],
         chosen: &Region,
     ) -> Result<u64, Memory>
-        requires well_formed { IsWellFormed schema.now }
-        requires few { length constraints.now ≤ constraint_limit }
-        requires servable { All (IsServable schema.now) constraints.now }
-        requires chosen { is_region_of schema.now chosen.now ≡ true }
+        requires asked { CanBeDivided schema.now constraints.now chosen.now }
         requires tree { IsTree schema.now self.old.nodes }
         ensures tree { OnOk result (IsTree schema.now self.new.nodes) }
         ensures divided { OnOk result (IsDividedFor schema.now constraints.now chosen.now self.new.nodes) }
@@ -82,10 +76,7 @@ impl Shared {
         constraints: &[Constraint],
         chosen: &Region,
     ) -> Result<Cells, Memory>
-        requires well_formed { IsWellFormed schema.now }
-        requires few { length constraints.now ≤ constraint_limit }
-        requires servable { All (IsServable schema.now) constraints.now }
-        requires chosen { is_region_of schema.now chosen.now ≡ true }
+        requires asked { CanBeDivided schema.now constraints.now chosen.now }
         requires tree { IsTree schema.now self.now.nodes }
         requires divided { IsDividedFor schema.now constraints.now chosen.now self.now.nodes }
         ensures found { IfOk result (AreCellsFor schema.now constraints.now chosen.now) }

@@ -1,5 +1,5 @@
 -- Trees of cuts whose nodes are linked by number, the boxes of their nodes, and what becomes of one as it is refined.
-use Rattle.std.specs.Prelude.{◌≡◌, ℕ, ◌*◌, ◌<◌, ◌≤◌, ⊤, ◌⊎◌, Bool, true, false, List, [], ◌∷◌, ◌++◌, length, count_by, slice_index_or}
+use Rattle.std.specs.Prelude.{◌≡◌, ℕ, ◌*◌, ◌<◌, ◌≤◌, ⊤, ◌⊎◌, Bool, true, false, List, [], ◌∷◌, ◌++◌, length, All, count_by, slice_index_or}
 use Rattle.pc_model.specs.declared.schema.Schema.{Schema}
 use Rattle.pc_model.specs.declared.region.Region.{Region}
 use Rattle.pc_model.specs.declared.constraint.Constraint.{Constraint}
@@ -7,7 +7,10 @@ use Rattle.pc_model.specs.declared.tree.Cut.{Cut}
 use Rattle.pc_model.specs.declared.tree.LeafMark.TheVariants.{Barren}
 use Rattle.pc_model.specs.declared.tree.CutNode.{CutNode}
 use Rattle.pc_model.specs.declared.tree.CutNode.TheVariants as forms
-use Rattle.pc_model.specs.Regions.{whole_region}
+use Rattle.pc_model.specs.Accepted.{constraint_limit}
+use Rattle.pc_model.specs.Boxes.{IsServable}
+use Rattle.pc_model.specs.Regions.{whole_region, is_region_of}
+use Rattle.pc_model.specs.WellFormed.{IsWellFormed}
 use Rattle.pc_model.specs.CutTrees.{IsProper, first_part, second_part}
 use Rattle.pc_cells_tree.specs.Decisions.{CanBeSettled, IsNeeded}
 
@@ -51,6 +54,13 @@ abbrev pub IsTree : Schema → List CutNode → Type 0
 IsTree schema nodes = (boxes : List Region) × AreBoxesOf (whole_region schema) nodes boxes
 
 -- ---- leaves that can be marked
+
+-- the domain of a schema can be divided for the constraints and the region
+pub record CanBeDivided (schema : Schema) (constraints : List Constraint) (chosen : Region) : Type 0 where
+  pub well_formed : IsWellFormed schema
+  pub few : length constraints ≤ constraint_limit
+  pub servable : All (IsServable schema) constraints
+  pub regional : is_region_of schema chosen ≡ true
 
 abbrev pub IsDone : List Constraint → Region → Region → CutNode → Type 0
 IsDone constraints chosen box (forms.Leaf mark) = CanBeSettled constraints chosen box

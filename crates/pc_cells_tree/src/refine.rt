@@ -1,12 +1,11 @@
-ghost use Rattle.std.specs.Prelude.{◌≡◌, ◌+◌, ◌*◌, ◌≤◌, ◌<◌, true, length, All, IfOk};
+ghost use Rattle.std.specs.Prelude.{◌≡◌, ◌+◌, ◌*◌, ◌≤◌, ◌<◌, length, All, IfOk};
 ghost use Rattle.pc_model.specs.Accepted.{constraint_limit};
-ghost use Rattle.pc_model.specs.Boxes.{IsServable};
-ghost use Rattle.pc_model.specs.Regions.{whole_region, is_region_of};
+ghost use Rattle.pc_model.specs.Regions.{whole_region};
 ghost use Rattle.pc_model.specs.WellFormed.{IsWellFormed};
 ghost use Rattle.pc_box.specs.Boxes.{IsBox};
 ghost use Rattle.pc_box.specs.Cuts.{Divides};
 ghost use Rattle.pc_cells_tree.specs.Decisions.{IsComparable};
-ghost use Rattle.pc_cells_tree.specs.Linked.{IsTree, IsDividedFor, HasKept, HasNeededCuts, IsFrugal, AreBoxesOf, box_at, is_leaf_node};
+ghost use Rattle.pc_cells_tree.specs.Linked.{CanBeDivided, IsTree, IsDividedFor, HasKept, HasNeededCuts, IsFrugal, AreBoxesOf, box_at, is_leaf_node};
 ghost use Rattle.pc_cells_tree.specs.Refining.{IsCuttable, IsRefining, IsStep, boxes_with, nodes_cut, boxes_cut};
 
 use crate::decision::{Decision, decide};
@@ -40,10 +39,7 @@ pub fn refined(
     chosen: &Region,
     nodes: &[CutNode],
 ) -> Result<Refinement, Memory>
-    requires well_formed { IsWellFormed schema.now }
-    requires few { length constraints.now ≤ constraint_limit }
-    requires servable { All (IsServable schema.now) constraints.now }
-    requires chosen { is_region_of schema.now chosen.now ≡ true }
+    requires asked { CanBeDivided schema.now constraints.now chosen.now }
     requires tree { IsTree schema.now nodes.now }
     ensures tree { IfOk result (λ more. IsTree schema.now more.nodes) }
     ensures divided { IfOk result (λ more. IsDividedFor schema.now constraints.now chosen.now more.nodes) }

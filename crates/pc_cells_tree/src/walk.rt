@@ -1,16 +1,13 @@
-ghost use Rattle.std.specs.Prelude.{◌≡◌, ◌≤◌, ◌<◌, ◌^◌, true, length, All, IfOk};
+ghost use Rattle.std.specs.Prelude.{◌≡◌, ◌≤◌, ◌<◌, ◌^◌, length, IfOk};
 ghost use Rattle.pc_model.specs.declared.tree.CutNode.TheVariants.{Inner};
 ghost use Rattle.pc_model.specs.Accepted.{constraint_limit};
-ghost use Rattle.pc_model.specs.Boxes.{IsServable};
-ghost use Rattle.pc_model.specs.Regions.{is_region_of};
-ghost use Rattle.pc_model.specs.WellFormed.{IsWellFormed};
 ghost use Rattle.pc_model.specs.Cells.{IsSettledTree, IsSettledAs, leaves_in};
 ghost use Rattle.pc_model.specs.CutTrees.{shape_of};
 ghost use Rattle.pc_box.specs.Boxes.{IsBox};
 ghost use Rattle.pc_box.specs.Cuts.{Divides};
 ghost use Rattle.pc_cells_tree.specs.declared.walk.Task.TheVariants.{Visit, Close};
 ghost use Rattle.pc_cells_tree.specs.Decisions.{IsComparable, CanBeSettled};
-ghost use Rattle.pc_cells_tree.specs.Linked.{IsTree, IsDividedFor, node_at};
+ghost use Rattle.pc_cells_tree.specs.Linked.{CanBeDivided, IsTree, IsDividedFor, node_at};
 ghost use Rattle.pc_cells_tree.specs.Walking.{HasCutsAt, HasWalked, IsVisit, IsTask, IsStep, IsOpened, nothing};
 
 use crate::decision::{Decision, decide};
@@ -45,10 +42,7 @@ pub fn marked(
     chosen: &Region,
     nodes: &[CutNode],
 ) -> Result<Growth, Memory>
-    requires well_formed { IsWellFormed schema.now }
-    requires few { length constraints.now ≤ constraint_limit }
-    requires servable { All (IsServable schema.now) constraints.now }
-    requires chosen { is_region_of schema.now chosen.now ≡ true }
+    requires asked { CanBeDivided schema.now constraints.now chosen.now }
     requires tree { IsTree schema.now nodes.now }
     requires divided { IsDividedFor schema.now constraints.now chosen.now nodes.now }
     ensures settled { IfOk result (λ growth. IsSettledTree schema.now constraints.now chosen.now growth.nodes) }

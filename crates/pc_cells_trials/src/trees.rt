@@ -1,8 +1,4 @@
-ghost use Rattle.std.specs.Prelude.{◌≡◌, ◌≤◌, true, length, All};
-ghost use Rattle.pc_model.specs.Accepted.{constraint_limit};
-ghost use Rattle.pc_model.specs.Boxes.{IsServable};
-ghost use Rattle.pc_model.specs.Regions.{is_region_of};
-ghost use Rattle.pc_model.specs.WellFormed.{IsWellFormed};
+ghost use Rattle.pc_cells_tree.specs.Linked.{CanBeDivided};
 
 use pc_cells_tree::{Growth, marked, refined};
 use pc_lang::{read_constraints, read_query};
@@ -22,10 +18,7 @@ fn grown(
     constraints: &[Constraint],
     chosen: &Region,
 ) -> Result<Growth, Fail>
-    requires well_formed { IsWellFormed schema.now }
-    requires few { length constraints.now ≤ constraint_limit }
-    requires servable { All (IsServable schema.now) constraints.now }
-    requires chosen { is_region_of schema.now chosen.now ≡ true }
+    requires asked { CanBeDivided schema.now constraints.now chosen.now }
 {
     let start = [CutNode::Leaf {
         mark: LeafMark::Barren,

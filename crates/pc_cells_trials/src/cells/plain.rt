@@ -1,8 +1,6 @@
-ghost use Rattle.std.specs.Prelude.{◌≡◌, ◌≤◌, ◌<◌, true, length, All};
-ghost use Rattle.pc_model.specs.Accepted.{constraint_limit};
-ghost use Rattle.pc_model.specs.Boxes.{IsServable};
-ghost use Rattle.pc_model.specs.Regions.{is_region_of};
+ghost use Rattle.std.specs.Prelude.{◌<◌, All};
 ghost use Rattle.pc_model.specs.WellFormed.{IsWellFormed};
+ghost use Rattle.pc_cells_tree.specs.Linked.{CanBeDivided};
 ghost use Rattle.pc_cells.specs.Found.{IsFilled};
 
 use pc_cells::{Cells, decompose};
@@ -239,10 +237,7 @@ fn agrees(
     constraints: &[Constraint],
     chosen: &Region,
 ) -> Result<bool, Memory>
-    requires well_formed { IsWellFormed schema.now }
-    requires few { length constraints.now ≤ constraint_limit }
-    requires servable { All (IsServable schema.now) constraints.now }
-    requires chosen { is_region_of schema.now chosen.now ≡ true }
+    requires asked { CanBeDivided schema.now constraints.now chosen.now }
 {
     let found = decompose(alloc, schema, constraints, chosen)?;
     let plain = Plain {

@@ -1,9 +1,6 @@
-ghost use Rattle.std.specs.Prelude.{◌≡◌, ◌≤◌, true, length, All, OnOk};
-ghost use Rattle.pc_model.specs.Accepted.{constraint_limit};
-ghost use Rattle.pc_model.specs.Boxes.{IsServable};
-ghost use Rattle.pc_model.specs.Regions.{is_region_of};
+ghost use Rattle.std.specs.Prelude.{OnOk};
 ghost use Rattle.pc_model.specs.WellFormed.{IsWellFormed};
-ghost use Rattle.pc_cells_tree.specs.Linked.{IsTree};
+ghost use Rattle.pc_cells_tree.specs.Linked.{CanBeDivided, IsTree};
 
 use super::{SHOP, place_of};
 use pc_cells::{Cells, Shared, decompose};
@@ -44,10 +41,7 @@ fn is_refined_once(
     chosen: &Region,
     cuts: u64,
 ) -> Result<bool, Memory>
-    requires well_formed { IsWellFormed schema.now }
-    requires few { length constraints.now ≤ constraint_limit }
-    requires servable { All (IsServable schema.now) constraints.now }
-    requires chosen { is_region_of schema.now chosen.now ≡ true }
+    requires asked { CanBeDivided schema.now constraints.now chosen.now }
 {
     let mut shared = Shared::new(alloc, schema)?;
     let first = shared.refine(schema, constraints, chosen)?;
@@ -138,10 +132,7 @@ fn refine_in_turn(
     constraints: &[Constraint],
     chosen: &Region,
 ) -> Result<(), Memory>
-    requires well_formed { IsWellFormed schema.now }
-    requires few { length constraints.now ≤ constraint_limit }
-    requires servable { All (IsServable schema.now) constraints.now }
-    requires chosen { is_region_of schema.now chosen.now ≡ true }
+    requires asked { CanBeDivided schema.now constraints.now chosen.now }
     requires tree { IsTree schema.now shared.old.nodes }
     ensures { OnOk result (IsTree schema.now shared.new.nodes) }
 {
@@ -170,10 +161,7 @@ fn have_same_cells(
     constraints: &[Constraint],
     chosen: &Region,
 ) -> Result<bool, Memory>
-    requires well_formed { IsWellFormed schema.now }
-    requires few { length constraints.now ≤ constraint_limit }
-    requires servable { All (IsServable schema.now) constraints.now }
-    requires chosen { is_region_of schema.now chosen.now ≡ true }
+    requires asked { CanBeDivided schema.now constraints.now chosen.now }
 {
     let mut shared = Shared::new(alloc, schema)?;
     refine_in_turn(&mut shared, schema, constraints, chosen)?;

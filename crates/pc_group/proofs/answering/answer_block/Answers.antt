@@ -12,9 +12,15 @@ use Rattle.pc_group.proofs.Owing.{answers_wanted, are_asked}
 use Rattle.pc_group.proofs.Telling.{block_more}
 use Rattle.pc_group.proofs.answering.answer_block.Goals as goal
 
-pub cells-requires-clause-chosen : goal.cells-requires-clause-chosen
-cells-requires-clause-chosen c =
-    subst (λ (q : Query). is_region_of c.args.scope.now.schema.now q.chosen ≡ true) (sym c.in_ok-asked.ensures) (query_for_is c.args.scope.now.schema.now c.args.query.now c.args.name c.requires.allowed c.requires.asked).chosen
+pub cells-requires-clause-asked : goal.cells-requires-clause-asked
+cells-requires-clause-asked c = record {
+  well_formed = c.requires.scope.formed;
+  few = c.requires.scope.limited.few;
+  servable = c.requires.scope.limited.servable;
+  regional =
+      subst (λ (q : Query). is_region_of c.args.scope.now.schema.now q.chosen ≡ true) (sym c.in_ok-asked.ensures)
+      (query_for_is c.args.scope.now.schema.now c.args.query.now c.args.name c.requires.allowed c.requires.asked).chosen;
+}
 
 pub answer_of-requires-clause-asked : goal.answer_of-requires-clause-asked
 answer_of-requires-clause-asked c =
