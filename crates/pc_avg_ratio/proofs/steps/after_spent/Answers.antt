@@ -1,5 +1,4 @@
-use Rattle.std.proofs.Common.{◌≡◌, ℕ, List, Option, ◌-◌, refl, ap, sym, subst, ◌∙◌, to_z, of_z, arith}
-use Rattle.std.specs.Int.{w128}
+use Rattle.std.proofs.Common.{ℕ, List, Option, ◌-◌, refl, ap, sym, subst, ◌∙◌, arith}
 use Rattle.std.proofs.lemmas.Int.{ints}
 use Rattle.pc_program_bound.specs.Allocation.{constraints_of}
 use Rattle.pc_branch.specs.Outcome.{IsOutcome}
@@ -34,21 +33,21 @@ returns-then-over_before-bound-le0 c =
     subst (IsStep f c.args.average.now.outermost c.args.average.now.nodes c.args.standing) (sym c.reached.ensures)
     (reached_at f c.args.average.now.outermost c.args.average.now.nodes c.args.standing c.requires.standing c.args.spent.tree shown)
 
-pub overflow_mul-outermost : goal.overflow_mul-outermost
-overflow_mul-outermost c =
+pub overflow_mul-average : goal.overflow_mul-average
+overflow_mul-average c =
     let ratio = c.requires.standing.ratio in
     product_fits c.args.average.now.outermost c.args.standing.ratio.den (product_small c.args.average.now.outermost c.args.standing.ratio.den c.requires.asked.outermost.small ratio.positive ratio.small_den)
 
-pub returns-then-outermost-ratio : goal.returns-then-outermost-ratio
-returns-then-outermost-ratio c =
+pub returns-then-average-ratio : goal.returns-then-average-ratio
+returns-then-average-ratio c =
     let f = c.args.average.now.fraction.now in
     let r = ratio_of c.args.standing.ratio in
     let ratio = c.requires.standing.ratio in
     let product = product_is c.args.average.now.outermost c.args.standing.ratio.den (product_small c.args.average.now.outermost c.args.standing.ratio.den c.requires.asked.outermost.small ratio.positive ratio.small_den) in
     let num = as_it_is c.args.standing.ratio.num (let small = ratio.small_num in omega (arith, small)) in
-    let shown = flat_shown f c.requires.asked.fractional c.args.average.now.outermost c.requires.asked.outermost r (let above = ratio.positive in omega (arith, ints)) (is_at_most _ _ (rw (product, num) at c.if-outermost-ratio.true))
+    let shown = flat_shown f c.requires.asked.fractional c.args.average.now.outermost c.requires.asked.outermost r (let above = ratio.positive in omega (arith, ints)) (is_at_most _ _ (rw (product, num) at c.if-average-ratio.true))
     c.args.program.now c.requires.program c.args.average.now.nodes (constraints_of c.args.program.now) refl c.requires.asked.nodes.0 in
-    subst (IsStep f c.args.average.now.outermost c.args.average.now.nodes c.args.standing) (sym c.reached-then-outermost-ratio.ensures)
+    subst (IsStep f c.args.average.now.outermost c.args.average.now.nodes c.args.standing) (sym c.reached-then-average-ratio.ensures)
     (reached_at f c.args.average.now.outermost c.args.average.now.nodes c.args.standing c.requires.standing c.in_ok-tree.tree
     (subst (IsShown f c.args.average.now.outermost c.args.average.now.nodes r) (ap flat_tree (sym c.len.ensures) ∙ sym c.in_ok-tree.ensures) shown))
 
@@ -89,10 +88,4 @@ end_above-requires-clause-under c =
     let ratio = c.requires.standing.ratio in
     let product = product_is c.args.average.now.outermost c.args.standing.ratio.den (product_small c.args.average.now.outermost c.args.standing.ratio.den c.requires.asked.outermost.small ratio.positive ratio.small_den) in
     let num = as_it_is c.args.standing.ratio.num (let small = ratio.small_num in omega (arith, small)) in
-    let end : to_z w128 (of_z w128 c.args.average.now.outermost) ≡ c.args.average.now.outermost = omega (arith, ints) in
-    rw end (is_above _ _ (rw (product, num) at c.if-outermost-ratio.false))
-
-pub returns : goal.returns
-returns c =
-    let end : to_z w128 (of_z w128 c.args.average.now.outermost) ≡ c.args.average.now.outermost = omega (arith, ints) in
-    rw end at c.end_above.ensures
+    is_above _ _ (rw (product, num) at c.if-average-ratio.false)

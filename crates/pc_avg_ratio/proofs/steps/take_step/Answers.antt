@@ -39,11 +39,6 @@ returns-in-Best-clause-step c =
     let within = best_within_at f r p.program at c.args.average.now.nodes c.in-Best.counts c.in-Best.value c.in-Best.tree outcome in
     c.after_best.ensures.step c.args.average.now.outermost c.args.average.now.nodes (rw same within)
 
-pub returns-in-Spent-clause-step : goal.returns-in-Spent-clause-step
-returns-in-Spent-clause-step c =
-    let end : to_z w128 (of_z w128 c.args.average.now.outermost) ≡ c.args.average.now.outermost = omega (arith, ints) in
-    rw end at c.after_spent.ensures
-
 pub unreachable-requires : goal.unreachable-requires
 unreachable-requires c =
     let p = c.in_ok-program in
