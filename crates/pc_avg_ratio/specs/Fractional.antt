@@ -29,8 +29,11 @@ excess f r counts = r.den *ℤ sum_with f counts -ℤ r.num *ℤ rows_with f cou
 abbrev pub gain_over : Fractional → Ratio → ℕ → ℤ
 gain_over f r i = r.den *ℤ int_at f.sums.gain i -ℤ r.num *ℤ int_at f.rows.gain i
 
+abbrev pub gains_over : Fractional → Ratio → List ℤ
+gains_over f r = table (cells_of f.rows) (gain_over f r)
+
 abbrev pub program_at : Fractional → Ratio → Program
-program_at f r = record f.rows { gain = table (cells_of f.rows) (gain_over f r) }
+program_at f r = record f.rows { gain = gains_over f r }
 
 -- what is there before adds to it
 abbrev pub over_before : Fractional → Ratio → ℤ

@@ -52,6 +52,10 @@ raised f r left = record { num = r.num *ℤ fewest_rows f +ℤ left; den = r.den
 abbrev pub IsLesser : Ratio → Ratio → Ratio → Type 0
 IsLesser v a b = (IsSame v a × IsAtMost a b) ⊎ (IsSame v b × IsAtMost b a)
 
+-- the fraction is the ratio, or the outermost number where that is less
+abbrev pub IsCapped : Frac → Ratio → ℤ → Type 0
+IsCapped value r outermost = IsLesser (ratio_of value) r (whole outermost)
+
 -- the budget is spent at a ratio that counts have: what is left over there is spread over the fewest rows
 pub record IsAbove (f : Fractional) (outermost : ℤ) (budget : ℕ) (first : Ratio) (ratio : Frac) (counts : List ℕ) (tree : Tree) (value : Frac) : Type 0 where
   pub lowest : IsFrac ratio

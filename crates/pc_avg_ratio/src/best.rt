@@ -1,6 +1,6 @@
-ghost use Rattle.std.specs.Prelude.{◌≡◌, ◌<◌, pos, ◌*ℤ◌, ◌<ℤ◌, int_lt, false, [], length, All, IfSome, IsTrue, MatchOption, slice_index_or};
-ghost use Rattle.pc_avg_ratio.specs.Fractional.{rows_with, sum_with, IsFractional, IsLawful};
-ghost use Rattle.pc_avg_ratio.specs.Best.{IsHigher, IsHighestOf, IsNotHigher, HasNoRows};
+ghost use Rattle.std.specs.Prelude.{◌≡◌, ◌<◌, false, length, All, IfSome, IsTrue, MatchOption};
+ghost use Rattle.pc_avg_ratio.specs.Fractional.{IsFractional, IsLawful};
+ghost use Rattle.pc_avg_ratio.specs.Best.{is_above, IsHigher, IsHighestOf, IsNotHigher, HasNoRows, HasRowsAt};
 
 use crate::fractional::{Fractional, rows_with, sum_with};
 use pc_list::Seq;
@@ -25,7 +25,7 @@ fn is_higher(f: &Fractional, found: &[Seq<u64>], best: Option<usize>, place: usi
     requires fractional { IsFractional f.now }
     requires lawful { All (IsLawful f.now) found.now }
     requires inside { place < length found.now }
-    requires best { IfSome best (λ before. (before < length found.now) × (pos 0 <ℤ rows_with f.now (slice_index_or found.now before []))) }
+    requires best { IfSome best (HasRowsAt f.now found.now) }
     ensures higher { IsTrue result → IsHigher f.now found.now best place }
     ensures no_higher { result ≡ false → IsNotHigher f.now found.now best place }
 {
@@ -44,7 +44,7 @@ fn is_above(f: &Fractional, counts: &[u64], others: &[u64]) -> bool
     requires fractional { IsFractional f.now }
     requires lawful { IsLawful f.now counts.now }
     requires others { IsLawful f.now others.now }
-    ensures { result ≡ int_lt (sum_with f.now others.now *ℤ rows_with f.now counts.now) (sum_with f.now counts.now *ℤ rows_with f.now others.now) }
+    ensures { result ≡ is_above f.now counts.now others.now }
 {
     sum_with(f, others) * rows_with(f, counts) < sum_with(f, counts) * rows_with(f, others)
 }

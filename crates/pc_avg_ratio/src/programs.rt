@@ -1,10 +1,9 @@
 ghost use Rattle.std.specs.Prelude.{◌≡◌, ◌≤◌, nat_abs, pos, ◌≤ℤ◌, ◌-ℤ◌, ◌*ℤ◌, IfOk};
-ghost use Rattle.pc_program_bound.specs.Allocation.{IsProgram, cells_of};
+ghost use Rattle.pc_program_bound.specs.Allocation.{IsProgram};
 ghost use Rattle.pc_branch.specs.Ends.{HasSmallGains};
 ghost use Rattle.pc_branch.specs.Outcome.{IsEasyProgram};
 ghost use Rattle.pc_proof.specs.Table.{ratio_of};
-ghost use Rattle.pc_simplex_tableau.specs.Numbers.{table};
-ghost use Rattle.pc_avg_ratio.specs.Fractional.{gain_over, program_at, most_rows, most_sum, IsFractional};
+ghost use Rattle.pc_avg_ratio.specs.Fractional.{gains_over, program_at, most_rows, most_sum, IsFractional};
 
 use crate::fractional::Fractional;
 use pc_list::Seq;
@@ -35,7 +34,7 @@ fn gains_over(alloc: Global, f: &Fractional, ratio: Frac) -> Result<Seq<i128>, M
     requires positive { pos 0 ≤ℤ ratio.den }
     requires small_den { ratio.den ≤ℤ pos most_rows }
     requires small_num { nat_abs ratio.num ≤ most_sum }
-    ensures { IfOk result (λ gains. gains ≡ table (cells_of f.now.rows) (gain_over f.now (ratio_of ratio))) }
+    ensures { IfOk result (λ gains. gains ≡ gains_over f.now (ratio_of ratio)) }
 {
     let numbers = f.sums.gain.as_slice();
     let rows = f.rows.gain.as_slice();

@@ -1,9 +1,8 @@
 ghost use Rattle.std.specs.Prelude.{◌≡◌, ◌*◌, ◌≤◌, ◌^◌, nat_abs, pos, ◌≤ℤ◌, ◌<ℤ◌};
-ghost use Rattle.pc_model.specs.Aggregate.{whole};
 ghost use Rattle.pc_num.specs.Fractions.{IsFrac};
 ghost use Rattle.pc_proof.specs.Table.{ratio_of};
 ghost use Rattle.pc_avg_ratio.specs.Fractional.{most_rows, most_sum};
-ghost use Rattle.pc_avg_ratio.specs.Highest.{fewest_rows, raised, IsLesser};
+ghost use Rattle.pc_avg_ratio.specs.Highest.{fewest_rows, raised, IsCapped};
 
 use crate::fractional::Fractional;
 use pc_num::Frac;
@@ -18,7 +17,7 @@ pub(crate) fn raised(f: &Fractional, ratio: Frac, left: i128, outermost: i128) -
     requires small_outermost { nat_abs outermost ≤ 2 ^ 63 }
     ensures lowest { IsFrac result }
     ensures small { result.den ≤ℤ pos 30_000_000_000_000_000 }
-    ensures value { IsLesser (ratio_of result) (raised f.now (ratio_of ratio) left) (whole outermost) }
+    ensures value { IsCapped result (raised f.now (ratio_of ratio) left) outermost }
 {
     let fewest = fewest_rows(f);
     lesser(ratio.num * fewest + left, ratio.den * fewest, outermost)
@@ -39,7 +38,7 @@ fn lesser(top: i128, bottom: i128, outermost: i128) -> Frac
     requires small_outermost { nat_abs outermost ≤ 2 ^ 63 }
     ensures lowest { IsFrac result }
     ensures small { result.den ≤ℤ pos 30_000_000_000_000_000 }
-    ensures value { IsLesser (ratio_of result) (record { num = top; den = bottom }) (whole outermost) }
+    ensures value { IsCapped result (record { num = top; den = bottom }) outermost }
 {
     if top <= outermost * bottom {
         match Frac::new(top, bottom) {
