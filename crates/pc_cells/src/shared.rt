@@ -1,9 +1,9 @@
-ghost use Rattle.std.specs.Prelude.{◌≡◌, ◌+◌, ◌*◌, ◌∷◌, [], length, IfOk, OnOk, OnErr};
+ghost use Rattle.std.specs.Prelude.{◌≡◌, ◌∷◌, [], IfOk, OnErr};
 ghost use Rattle.pc_model.specs.declared.tree.LeafMark.TheVariants.{Barren};
 ghost use Rattle.pc_model.specs.declared.tree.CutNode.TheVariants as forms;
 ghost use Rattle.pc_model.specs.CutTrees.{shape_of};
 ghost use Rattle.pc_model.specs.WellFormed.{IsWellFormed};
-ghost use Rattle.pc_cells_tree.specs.Linked.{CanBeDivided, IsTree, IsDividedFor, HasKept, HasNeededCuts, IsFrugal};
+ghost use Rattle.pc_cells_tree.specs.Linked.{CanBeDivided, IsTree, IsCutOn, IsDividedFor};
 ghost use Rattle.pc_cells_tree.specs.Walking.{HasCutsAt};
 ghost use Rattle.pc_cells.specs.Found.{AreCellsFor};
 
@@ -48,12 +48,7 @@ impl Shared {
     ) -> Result<u64, Memory>
         requires asked { CanBeDivided schema.now constraints.now chosen.now }
         requires tree { IsTree schema.now self.old.nodes }
-        ensures tree { OnOk result (IsTree schema.now self.new.nodes) }
-        ensures divided { OnOk result (IsDividedFor schema.now constraints.now chosen.now self.new.nodes) }
-        ensures kept { OnOk result (HasKept schema.now constraints.now chosen.now self.old.nodes self.new.nodes) }
-        ensures needed { OnOk result (HasNeededCuts schema.now constraints.now chosen.now self.old.nodes self.new.nodes) }
-        ensures cuts { IfOk result (λ cuts. length self.new.nodes ≡ length self.old.nodes + 2 * cuts) }
-        ensures frugal { IfOk result (λ cuts. IsFrugal schema.now constraints.now chosen.now self.old.nodes cuts) }
+        ensures cut_on { IfOk result (IsCutOn schema.now constraints.now chosen.now self.old.nodes self.new.nodes) }
         ensures memory { OnErr result (self.new ≡ self.old) }
     {
         let alloc = self.nodes.allocator();

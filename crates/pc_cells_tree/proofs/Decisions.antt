@@ -22,7 +22,7 @@ use Rattle.pc_cells_tree.specs.declared.decision.Crossing.{Crossing}
 use Rattle.pc_cells_tree.specs.declared.decision.Finding.{Finding}
 use Rattle.pc_cells_tree.specs.declared.decision.Finding.TheVariants.{Broken, Crossed, Under}
 use Rattle.pc_cells_tree.specs.Stances.{IsAcross, IsAlong, IsStance}
-use Rattle.pc_cells_tree.specs.Decisions.{IsAlikeTo, IsComparable, IsMaskOf, IsCrossedBy, IsCrossing, HasShortMask, IsFound, IsWithCrossing, with_bit, CanBeSettled, IsCutFor, IsNeeded}
+use Rattle.pc_cells_tree.specs.Decisions.{IsAlikeTo, IsComparable, IsMaskOf, IsCrossedBy, IsCrossing, IsRegionOf, HasShortMask, IsFound, IsWithCrossing, with_bit, CanBeSettled, IsCutFor, IsNeeded}
 use Rattle.pc_cells_tree.proofs.Choices.{divided-along}
 
 -- ---- a box that has rows
@@ -209,10 +209,6 @@ module _ (cs : List Constraint) (chosen part : Region) (filled : IsBox part) whe
       by_side false says = across.not_apart says
 
 -- ---- what is done
-
--- the region that is crossed
-abbrev IsRegionOf : List Constraint → Crossing → Region → Type 0
-IsRegionOf cs crossing region = (d : Constraint) → region ≡ cond crossing.within (get_or cs crossing.place d).values (get_or cs crossing.place d).when
 
 by_region : (P : Region → Type 0) (within : Bool) (c : Constraint) → P c.values → P c.when → P (cond within c.values c.when)
 by_region P true c values when = values

@@ -1,5 +1,5 @@
--- What the pass leaves at its end, clause by clause.
-use Rattle.std.proofs.Common.{◌≡◌, ℕ, ◌+◌, ◌-◌, ◌*◌, ◌/◌, ◌≤◌, true, List, [], ◌∷◌, ◌++◌, length, get_or, All, refl, sym, ◌∙◌, ap, subst, arith}
+-- What the pass leaves at its end.
+use Rattle.std.proofs.Common.{◌≡◌, ℕ, ◌-◌, ◌*◌, ◌/◌, ◌≤◌, true, List, [], ◌∷◌, ◌++◌, length, get_or, All, refl, sym, ◌∙◌, ap, subst, arith}
 use Rattle.std.proofs.lemmas.List.{length-map}
 use Rattle.pc_model.specs.declared.schema.Column.{Column}
 use Rattle.pc_model.specs.declared.schema.Schema.{Schema}
@@ -15,7 +15,7 @@ use Rattle.pc_box.proofs.Likeness.{as_many_sides}
 use Rattle.pc_cells_tree.specs.declared.refine.Boxed.{Boxed}
 use Rattle.pc_cells_tree.specs.Decisions.{IsComparable, IsNeeded}
 use Rattle.pc_cells_tree.specs.Faces.{faces_for, IsSpentBy}
-use Rattle.pc_cells_tree.specs.Linked.{node_at, box_at, AreBoxesOf, IsTree, AreDoneBelow, IsDone, IsDividedFor, HasKept, HasNeededCuts, IsFrugal, leaf_count}
+use Rattle.pc_cells_tree.specs.Linked.{node_at, box_at, AreBoxesOf, IsTree, AreDoneBelow, IsDone, IsDividedFor, HasKept, HasNeededCuts, IsFrugal, IsCutOn, leaf_count}
 use Rattle.pc_cells_tree.specs.Refining.{IsRefining}
 use Rattle.pc_cells_tree.proofs.Faces.{needed_spent, faces_most}
 use Rattle.pc_cells_tree.proofs.Grown.{whole_comparable}
@@ -38,20 +38,20 @@ module _ (schema : Schema) (constraints : List Constraint) (chosen : Region) (st
   end_tree : AreBoxesOf whole end.nodes end.boxes
   end_tree = subst (λ part. AreBoxesOf part end.nodes end.boxes) tree.root is.tree
 
-  pub tree_left : IsTree schema end.nodes
+  tree_left : IsTree schema end.nodes
   tree_left = (end.boxes, end_tree)
 
-  pub divided_left : IsDividedFor schema constraints chosen end.nodes
+  divided_left : IsDividedFor schema constraints chosen end.nodes
   divided_left boxes other = subst (λ found. AreDoneBelow constraints chosen end.nodes found (length end.nodes)) (same_boxes whole end.nodes end.boxes end_tree boxes other) is.done
 
-  pub kept_left : HasKept schema constraints chosen start.nodes end.nodes
+  kept_left : HasKept schema constraints chosen start.nodes end.nodes
   kept_left = record {
     longer = is.longer;
     same = λ boxes other k old done.
         is.nodes_stay k old (subst (λ found. IsDone constraints chosen (box_at found k) (node_at start.nodes k)) (sym (same_boxes whole start.nodes start.boxes tree boxes other)) done);
   }
 
-  pub needed_left : HasNeededCuts schema constraints chosen start.nodes end.nodes
+  needed_left : HasNeededCuts schema constraints chosen start.nodes end.nodes
   needed_left boxes other k cut first second leaf e =
       subst (λ found. IsNeeded constraints chosen (box_at found k) cut) (same_boxes whole end.nodes end.boxes end_tree boxes other) (is.needed k cut first second leaf e)
 
@@ -84,9 +84,9 @@ module _ (schema : Schema) (constraints : List Constraint) (chosen : Region) (st
         let most = leaf_sum-most (faces_for last) (4 * columns) start.nodes start.boxes few_faces in
         omega (arith, most, is.spent rest (faces_for last) spent (divided start.boxes tree) whole_inside, is.cuts.1)
 
-  pub frugal_left : All (IsComparable constraints chosen) start.boxes → IsFrugal schema constraints chosen start.nodes cuts
+  frugal_left : All (IsComparable constraints chosen) start.boxes → IsFrugal schema constraints chosen start.nodes cuts
   frugal_left comparable rest last more all divided = frugal_cuts comparable rest last more all divided
 
-pub cuts_counted : (constraints : List Constraint) (chosen : Region) (start end : Boxed) → IsRefining constraints chosen start end (length end.nodes) →
-    length end.nodes ≡ length start.nodes + 2 * ((length end.nodes - length start.nodes) / 2)
-cuts_counted constraints chosen start end is = omega (arith, is.cuts.1)
+  pub cut_on : All (IsComparable constraints chosen) start.boxes → IsCutOn schema constraints chosen start.nodes end.nodes cuts
+  cut_on comparable =
+      record { tree = tree_left; divided = divided_left; kept = kept_left; cuts = omega (arith, is.cuts.1); needed = needed_left; frugal = frugal_left comparable }

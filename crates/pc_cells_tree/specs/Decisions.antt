@@ -42,6 +42,11 @@ pub record IsCrossing (part : Region) (constraints : List Constraint) (crossing 
   pub there : crossing.place < length constraints
   pub crossed : (c : Constraint) → IsCrossedBy part crossing.within (slice_index_or constraints crossing.place c)
 
+-- the region that is crossed
+abbrev pub IsRegionOf : List Constraint → Crossing → Region → Type 0
+IsRegionOf constraints crossing region =
+    (c : Constraint) → region ≡ cond crossing.within (slice_index_or constraints crossing.place c).values (slice_index_or constraints crossing.place c).when
+
 abbrev pub IsFound : Region → List Constraint → ℕ → Finding → Type 0
 IsFound part constraints from Broken = Any (IsRuledOut part) constraints
 IsFound part constraints from (Crossed crossing) = IsCrossing part constraints crossing × (Any (IsRuledOut part) (drop from constraints) → ⊥)

@@ -1,5 +1,5 @@
 -- Trees of cuts whose nodes are linked by number, the boxes of their nodes, and what becomes of one as it is refined.
-use Rattle.std.specs.Prelude.{◌≡◌, ℕ, ◌*◌, ◌<◌, ◌≤◌, ⊤, ◌⊎◌, Bool, true, false, List, [], ◌∷◌, ◌++◌, length, All, count_by, slice_index_or}
+use Rattle.std.specs.Prelude.{◌≡◌, ℕ, ◌+◌, ◌*◌, ◌<◌, ◌≤◌, ⊤, ◌⊎◌, Bool, true, false, List, [], ◌∷◌, ◌++◌, length, All, count_by, slice_index_or}
 use Rattle.pc_model.specs.declared.schema.Schema.{Schema}
 use Rattle.pc_model.specs.declared.region.Region.{Region}
 use Rattle.pc_model.specs.declared.constraint.Constraint.{Constraint}
@@ -100,3 +100,12 @@ abbrev pub IsFrugal : Schema → List Constraint → Region → List CutNode →
 IsFrugal schema constraints chosen nodes cuts =
     (rest : List Constraint) (last : Constraint) → constraints ≡ rest ++ last ∷ [] → chosen ≡ whole_region schema → IsDividedFor schema rest chosen nodes →
     cuts ≤ 4 * length schema.columns * leaf_count nodes
+
+-- the tree was cut on by so many cuts, until it is divided
+pub record IsCutOn (schema : Schema) (constraints : List Constraint) (chosen : Region) (before after : List CutNode) (count : ℕ) : Type 0 where
+  pub tree : IsTree schema after
+  pub divided : IsDividedFor schema constraints chosen after
+  pub kept : HasKept schema constraints chosen before after
+  pub cuts : length after ≡ length before + 2 * count
+  pub needed : HasNeededCuts schema constraints chosen before after
+  pub frugal : IsFrugal schema constraints chosen before count

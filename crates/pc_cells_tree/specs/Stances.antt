@@ -1,5 +1,5 @@
 -- How a box stands to a region, its open faces, and the cuts along the region.
-use Rattle.std.specs.Prelude.{◌≡◌, ℕ, ◌+◌, ◌<◌, ℤ, pos, ◌-ℤ◌, int_lt, ◌==◌, cond, if◌then◌else◌, List, [], ◌∷◌, length, Option, Some, None}
+use Rattle.std.specs.Prelude.{◌≡◌, ℕ, ◌+◌, ◌<◌, ℤ, pos, ◌-ℤ◌, int_lt, ◌==◌, cond, if◌then◌else◌, true, List, [], ◌∷◌, length, Option, Some, None, MatchOption}
 use Rattle.pc_model.specs.declared.region.Side.{Side}
 use Rattle.pc_model.specs.declared.region.Side.TheVariants.{Span, Names}
 use Rattle.pc_model.specs.declared.region.Region.{Region}
@@ -7,6 +7,8 @@ use Rattle.pc_model.specs.declared.tree.Cut.{Cut}
 use Rattle.pc_model.specs.declared.tree.Cut.TheVariants.{At, Among}
 use Rattle.pc_model.specs.CutTrees.{IsInside, IsApart, side_at}
 use Rattle.pc_model.specs.Places.{places_outside}
+use Rattle.pc_box.specs.Sides.{region_within}
+use Rattle.pc_cells_tree.specs.declared.choice.Candidate.{Candidate}
 use Rattle.pc_cells_tree.specs.declared.stance.Stance.{Stance}
 use Rattle.pc_cells_tree.specs.declared.stance.Stance.TheVariants.{Inside, Apart, Across}
 
@@ -52,6 +54,10 @@ side_cut column (Names bits) (Names other_bits) = set_cut column bits other_bits
 -- the cut is along an open face
 abbrev pub IsAlong : Region → Region → Cut → Type 0
 IsAlong part region cut = (column : ℕ) × (column < length part.sides) × (side_cut column (side_at part column) (side_at region column) ≡ Some cut)
+
+-- .. or no face of the box is open
+abbrev pub IsCandidateFor : Region → Region → Option Candidate → Type 0
+IsCandidateFor part region best = MatchOption best (region_within part region ≡ true) (λ (candidate : Candidate). IsAlong part region candidate.cut)
 
 -- ---- a box and a region
 

@@ -1,9 +1,8 @@
-ghost use Rattle.std.specs.Prelude.{◌≡◌, ◌≤◌, ◌<◌, ◌⊎◌, true, length, All, MatchOption};
+ghost use Rattle.std.specs.Prelude.{◌≡◌, ◌≤◌, ◌<◌, ◌⊎◌, length, All, MatchOption};
 ghost use Rattle.pc_model.specs.CutTrees.{IsInside};
 ghost use Rattle.pc_box.specs.Boxes.{AreAlike};
-ghost use Rattle.pc_box.specs.Sides.{region_within};
 ghost use Rattle.pc_cells_tree.specs.Decisions.{IsAlikeTo};
-ghost use Rattle.pc_cells_tree.specs.Stances.{column_limit, span_cut, set_cut, side_cut, IsAlong};
+ghost use Rattle.pc_cells_tree.specs.Stances.{column_limit, span_cut, set_cut, side_cut, IsAlong, IsCandidateFor};
 
 use pc_box::apart;
 use pc_model::{Constraint, Cut, Region, Side};
@@ -36,7 +35,7 @@ fn cut_along(part: &Region, region: &Region, constraints: &[Constraint]) -> Opti
     requires few { length part.now.sides ≤ column_limit }
     requires alike { AreAlike part.now region.now }
     requires all_alike { All (IsAlikeTo part.now) constraints.now }
-    ensures { MatchOption result (region_within part.now region.now ≡ true) (λ candidate. IsAlong part.now region.now candidate.cut) }
+    ensures { IsCandidateFor part.now region.now result }
 {
     let sides = part.sides.as_slice();
     let others = region.sides.as_slice();

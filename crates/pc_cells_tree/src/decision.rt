@@ -1,7 +1,6 @@
-ghost use Rattle.std.specs.Prelude.{◌≡◌, ◌+◌, ◌≤◌, ◌<◌, cond, length, All, slice_index_or};
-ghost use Rattle.pc_model.specs.declared.constraint.Constraint.{Constraint};
+ghost use Rattle.std.specs.Prelude.{◌≡◌, ◌+◌, ◌≤◌, ◌<◌, length, All};
 ghost use Rattle.pc_model.specs.Accepted.{constraint_limit};
-ghost use Rattle.pc_cells_tree.specs.Decisions.{IsAlikeTo, IsComparable, HasShortMask, IsMaskOf, IsFound, IsDecision, IsWithCrossing, with_bit};
+ghost use Rattle.pc_cells_tree.specs.Decisions.{IsAlikeTo, IsComparable, HasShortMask, IsMaskOf, IsRegionOf, IsFound, IsDecision, IsWithCrossing, with_bit};
 ghost use Rattle.pc_cells_tree.specs.Stances.{column_limit};
 
 use crate::choice::cut_through;
@@ -110,7 +109,7 @@ fn decide_side(part: &Region, constraints: &[Constraint], chosen: &Region, mask:
 // The predicate that is crossed, or the values.
 fn crossed_region(constraints: &[Constraint], crossing: Crossing) -> &Region
     requires { crossing.place < length constraints.now }
-    ensures { (c : Constraint) → result.now ≡ cond crossing.within (slice_index_or constraints.now crossing.place c).values (slice_index_or constraints.now crossing.place c).when }
+    ensures { IsRegionOf constraints.now crossing result.now }
 {
     let constraint = &constraints[crossing.place];
     if crossing.within {

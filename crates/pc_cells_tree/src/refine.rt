@@ -1,11 +1,11 @@
-ghost use Rattle.std.specs.Prelude.{◌≡◌, ◌+◌, ◌*◌, ◌≤◌, ◌<◌, length, All, IfOk};
+ghost use Rattle.std.specs.Prelude.{◌≡◌, ◌≤◌, ◌<◌, length, All, IfOk};
 ghost use Rattle.pc_model.specs.Accepted.{constraint_limit};
 ghost use Rattle.pc_model.specs.Regions.{whole_region};
 ghost use Rattle.pc_model.specs.WellFormed.{IsWellFormed};
 ghost use Rattle.pc_box.specs.Boxes.{IsBox};
 ghost use Rattle.pc_box.specs.Cuts.{Divides};
 ghost use Rattle.pc_cells_tree.specs.Decisions.{IsComparable};
-ghost use Rattle.pc_cells_tree.specs.Linked.{CanBeDivided, IsTree, IsDividedFor, HasKept, HasNeededCuts, IsFrugal, AreBoxesOf, box_at, is_leaf_node};
+ghost use Rattle.pc_cells_tree.specs.Linked.{CanBeDivided, IsTree, IsCutOn, AreBoxesOf, box_at, is_leaf_node};
 ghost use Rattle.pc_cells_tree.specs.Refining.{IsCuttable, IsRefining, IsStep, boxes_with, nodes_cut, boxes_cut};
 
 use crate::decision::{Decision, decide};
@@ -41,12 +41,7 @@ pub fn refined(
 ) -> Result<Refinement, Memory>
     requires asked { CanBeDivided schema.now constraints.now chosen.now }
     requires tree { IsTree schema.now nodes.now }
-    ensures tree { IfOk result (λ more. IsTree schema.now more.nodes) }
-    ensures divided { IfOk result (λ more. IsDividedFor schema.now constraints.now chosen.now more.nodes) }
-    ensures kept { IfOk result (λ more. HasKept schema.now constraints.now chosen.now nodes.now more.nodes) }
-    ensures cuts { IfOk result (λ more. length more.nodes ≡ length nodes.now + 2 * more.cuts) }
-    ensures needed { IfOk result (λ more. HasNeededCuts schema.now constraints.now chosen.now nodes.now more.nodes) }
-    ensures frugal { IfOk result (λ more. IsFrugal schema.now constraints.now chosen.now nodes.now more.cuts) }
+    ensures { IfOk result (λ more. IsCutOn schema.now constraints.now chosen.now nodes.now more.nodes more.cuts) }
 {
     let boxes = boxes_of(alloc, schema, nodes)?;
     let copy = Seq::from_slice(alloc, nodes)?;

@@ -14,7 +14,7 @@ loop-region-preserved c =
     let before = c.loop-region.shared.nodes in
     let region = c.region-item.result in
     let so_far = c.loop-region.invariant in
-    let done = c.in_ok-refine.ensures in
+    let done = c.in_ok-refine.ensures.cut_on in
     record {
       tree = done.tree;
       kept = keeps_more schema constraints region c.args.shared.now.nodes before c.refine.new.self.nodes so_far.tree so_far.kept done.kept;
