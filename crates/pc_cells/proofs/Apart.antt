@@ -8,13 +8,12 @@ use Rattle.std.proofs.lemmas.List.Sums.{sum_by-cons}
 use Rattle.pc_model.specs.declared.schema.Schema.{Schema}
 use Rattle.pc_model.specs.declared.constraint.Constraint.{Constraint}
 use Rattle.pc_model.specs.Boxes.{IsServable}
-use Rattle.pc_model.specs.CutTrees.{IsApart}
 use Rattle.pc_model.specs.Membership.{is_under, AreDisjoint}
 use Rattle.pc_model.specs.Regions.{is_region_of}
 use Rattle.pc_model.proofs.Regions.{region_inside}
 use Rattle.pc_box.specs.Boxes.{AreAlike}
 use Rattle.pc_box.proofs.Schemas.{AreAlike-from_schema}
-use Rattle.pc_cells.specs.Found.{AreOfOneSchema}
+use Rattle.pc_cells.specs.Found.{AreOfOneSchema, AreApart, AreApartFrom}
 
 -- ---- how many of a list pass
 
@@ -60,12 +59,6 @@ module _ {X : Type 0} (test : X → Bool) where
 
 -- ---- as far as a loop over the constraints has come
 
-abbrev pub AreApart : List Constraint → Type 0
-AreApart constraints = AllPairs (λ (a b : Constraint). IsApart a.when b.when) constraints
-
-abbrev AreApartFrom : List Constraint → Constraint → Type 0
-AreApartFrom earlier c = All (λ (other : Constraint). IsApart other.when c.when) earlier
-
 module _ (constraints : List Constraint) (place : ℕ) (c : Constraint) (inside : place < length constraints) (is : c ≡ get_or constraints place c) where
   earlier_is : (k : ℕ) (d : Constraint) → k < length (take place constraints) → (get_or (take place constraints) k d ≡ get_or constraints k d) × (k < place)
   earlier_is k d lt = (grind (arith, common_steps), grind (arith, common_steps))
@@ -82,13 +75,13 @@ module _ (constraints : List Constraint) (place : ℕ) (c : Constraint) (inside 
       AreAlike-from_schema one.0 (get_or (take place constraints) k d).when c.when other known
 
   -- each is apart from those before it
-  pub apart_from_earlier : AreApart constraints → AreApartFrom (take place constraints) c
+  pub apart_from_earlier : AreApart constraints → AreApartFrom (take place constraints) c.when
   apart_from_earlier apart k d lt =
       let earlier = earlier_is k d lt in
       rw (earlier.0, ← same_default d) (apart k place d earlier.1 inside)
 
   -- one that is not shows that not all are apart
-  pub not_apart : (result : Bool) → (IsTrue result ↔ AreApartFrom (take place constraints) c) → result ≡ false → IsTrue false ↔ AreApart constraints
+  pub not_apart : (result : Bool) → (IsTrue result ↔ AreApartFrom (take place constraints) c.when) → result ≡ false → IsTrue false ↔ AreApart constraints
   not_apart result means fails = ((λ e. absurd (false≢true e)), (λ apart. sym fails ∙ means.1 (apart_from_earlier apart)))
 
 pub all_apart : (constraints : List Constraint) (place : ℕ) → length constraints ≤ place → AreApart (take place constraints) → IsTrue true ↔ AreApart constraints

@@ -1,15 +1,16 @@
 -- The cells of leaves, their rows, and what is asked of them.
-use Rattle.std.specs.Prelude.{◌≡◌, ◌↔◌, ℕ, ◌<◌, ◌^◌, ℤ, true, false, List, [], length, map, All, Contains, count_by, slice_index_or}
+use Rattle.std.specs.Prelude.{◌≡◌, ◌↔◌, ℕ, ◌<◌, ◌^◌, ℤ, ◌≤ℤ◌, Bool, true, false, List, [], length, map, All, AllPairs, Contains, IsTrue, count_by, Option, Some, IfSome, slice_get, slice_index_or}
 use Rattle.pc_model.specs.declared.schema.Schema.{Schema}
 use Rattle.pc_model.specs.declared.row.Row.{Row}
 use Rattle.pc_model.specs.declared.region.Region.{Region}
 use Rattle.pc_model.specs.declared.constraint.Constraint.{Constraint}
 use Rattle.pc_model.specs.declared.tree.Leaf.{Leaf}
+use Rattle.pc_model.specs.Aggregate.{number_at}
 use Rattle.pc_model.specs.Accepted.{IsNumeric, IsColumnWhere}
 use Rattle.pc_model.specs.Boxes.{IsServable}
-use Rattle.pc_model.specs.Membership.{holds, in_domain, has}
+use Rattle.pc_model.specs.Membership.{AreDisjoint, holds, in_domain, has}
 use Rattle.pc_model.specs.Regions.{is_region_of}
-use Rattle.pc_model.specs.CutTrees.{side_at}
+use Rattle.pc_model.specs.CutTrees.{IsApart, side_at}
 use Rattle.pc_model.specs.Cells.{Class, IsRowOf, HasRowOf, IsSettledTree, classes_of, boxes_of, leaves_in, IsInSome, IsSpanned}
 use Rattle.pc_box.specs.Boxes.{IsBox}
 use Rattle.pc_cells.specs.declared.cells.Cell.{Cell}
@@ -44,6 +45,24 @@ pub record HoldsNumber (leaves : List Region) (leaf column : ℕ) (number : ℤ)
   pub there : leaf < length leaves
   pub held : holds (side_at (leaf_at leaves leaf) column) number ≡ true
 
+-- .. of the cell at a place
+abbrev pub leaf_in : List Cell → ℕ → ℕ → Region
+leaf_in cells place leaf = leaf_at (leaves_at cells place) leaf
+
+abbrev pub HoldsNumberIn : List Cell → ℕ → ℕ → ℕ → ℤ → Type 0
+HoldsNumberIn cells place leaf column number = HoldsNumber (leaves_at cells place) leaf column number
+
+-- the row has the number in the column, if one is named
+abbrev pub HasNumber : Option ℕ → ℤ → Row → Type 0
+HasNumber column number row = IfSome column (λ named. slice_get row.cells named ≡ Some number)
+
+-- no row of the leaves has less in the column, or none has more
+abbrev pub HaveAtLeast : List Region → ℕ → ℤ → Type 0
+HaveAtLeast leaves column number = (row : Row) → IsInSome leaves row → number ≤ℤ number_at row column
+
+abbrev pub HaveAtMost : List Region → ℕ → ℤ → Type 0
+HaveAtMost leaves column number = (row : Row) → IsInSome leaves row → number_at row column ≤ℤ number
+
 -- a column of numbers, in each leaf
 abbrev pub HasNumbers : ℕ → Cell → Type 0
 HasNumbers column cell = All (λ (leaf : Region). IsSpanned (side_at leaf column)) cell.leaves
@@ -67,3 +86,15 @@ pub record AreCellsFor (schema : Schema) (constraints : List Constraint) (chosen
 
 abbrev pub AreOfOneSchema : List Constraint → Type 0
 AreOfOneSchema constraints = (schema : Schema) × All (IsServable schema) constraints
+
+-- ---- constraints that speak of no row together
+
+abbrev pub AreApartFrom : List Constraint → Region → Type 0
+AreApartFrom constraints when = All (λ (other : Constraint). IsApart other.when when) constraints
+
+abbrev pub AreApart : List Constraint → Type 0
+AreApart constraints = AllPairs (λ (a b : Constraint). IsApart a.when b.when) constraints
+
+-- whether they are disjoint, for each schema that they are of
+abbrev pub TellsDisjoint : List Constraint → Bool → Type 0
+TellsDisjoint constraints apart = (schema : Schema) → All (IsServable schema) constraints → (IsTrue apart ↔ AreDisjoint schema constraints)

@@ -1,9 +1,7 @@
-ghost use Rattle.std.specs.Prelude.{◌≡◌, ◌<◌, ◌≤ℤ◌, ◌^◌, cond, length, All};
-ghost use Rattle.pc_model.specs.declared.row.Row.{Row};
-ghost use Rattle.pc_model.specs.Aggregate.{number_at};
-ghost use Rattle.pc_model.specs.Cells.{low_at, high_at, least_low, greatest_high, IsInSome};
-ghost use Rattle.pc_cells.specs.Ends.{end_at, is_past, last_end};
-ghost use Rattle.pc_cells.specs.Found.{IsFilled, leaves_at, leaf_at, HoldsNumber, HasNumbers};
+ghost use Rattle.std.specs.Prelude.{◌≡◌, ◌<◌, ◌^◌, length, All};
+ghost use Rattle.pc_model.specs.Cells.{low_at, high_at, least_low, greatest_high};
+ghost use Rattle.pc_cells.specs.Ends.{end_at, further_end, is_past, last_end};
+ghost use Rattle.pc_cells.specs.Found.{IsFilled, leaves_at, leaf_at, HaveAtLeast, HaveAtMost, HoldsNumberIn, HasNumbers};
 
 use crate::cells::Cells;
 use pc_model::{Region, Side};
@@ -25,10 +23,10 @@ impl Cells {
         requires numbers { All (HasNumbers column) self.now.cells }
         ensures low { result.low ≡ least_low column (leaves_at self.now.cells cell) }
         ensures high { result.high ≡ greatest_high column (leaves_at self.now.cells cell) }
-        ensures above_low { (row : Row) → IsInSome (leaves_at self.now.cells cell) row → result.low ≤ℤ number_at row column }
-        ensures below_high { (row : Row) → IsInSome (leaves_at self.now.cells cell) row → number_at row column ≤ℤ result.high }
-        ensures low_leaf { HoldsNumber (leaves_at self.now.cells cell) result.low_leaf column result.low }
-        ensures high_leaf { HoldsNumber (leaves_at self.now.cells cell) result.high_leaf column result.high }
+        ensures above_low { HaveAtLeast (leaves_at self.now.cells cell) column result.low }
+        ensures below_high { HaveAtMost (leaves_at self.now.cells cell) column result.high }
+        ensures low_leaf { HoldsNumberIn self.now.cells cell result.low_leaf column result.low }
+        ensures high_leaf { HoldsNumberIn self.now.cells cell result.high_leaf column result.high }
     {
         ends_of(self.leaves(cell), column as usize)
     }
@@ -80,7 +78,7 @@ fn end_of(leaves: &[Region], column: usize, low: bool) -> End
 }
 
 fn further_end(end: End, leaf: usize, region: &Region, column: usize, low: bool) -> End
-    ensures { result ≡ cond (is_past low (end_at low column region.now) end.number) (record { number = end_at low column region.now; leaf = leaf }) end }
+    ensures { result ≡ further_end end leaf region.now column low }
 {
     let number = end_at(region, column, low);
     if is_past(number, end.number, low) {

@@ -1,8 +1,7 @@
-ghost use Rattle.std.specs.Prelude.{◌≡◌, ◌<◌, ◌++◌, ◌∷◌, [], List, if◌then◌else◌, length, IfOk};
+ghost use Rattle.std.specs.Prelude.{◌≡◌, ◌<◌, List, length, IfOk};
 ghost use Rattle.pc_model.specs.declared.tree.Leaf.{Leaf};
-ghost use Rattle.pc_model.specs.declared.tree.LeafMark.TheVariants.{Class};
 ghost use Rattle.pc_cells.specs.Found.{cells_of};
-ghost use Rattle.pc_cells.specs.Gathering.{IsGatheredFrom, with_leaf_at};
+ghost use Rattle.pc_cells.specs.Gathering.{IsGatheredFrom, HasGathered, leaf_of, with_cell, with_leaf_at};
 
 use crate::cells::Cell;
 use indexmap::IndexSet;
@@ -41,7 +40,7 @@ pub(crate) fn gather(alloc: Global, leaves: Seq<Leaf>) -> Result<Seq<Cell>, Memo
 
 fn with_leaf(alloc: Global, gathering: Gathering, leaf: Leaf) -> Result<Gathering, Memory>
     requires { (leaves : List Leaf) × IsGatheredFrom leaves gathering }
-    ensures { IfOk result (λ more. (leaves : List Leaf) → IsGatheredFrom leaves gathering → IsGatheredFrom (leaves ++ leaf ∷ []) more) }
+    ensures { IfOk result (HasGathered gathering leaf) }
 {
     match leaf.mark {
         LeafMark::Barren => Ok(gathering),
@@ -58,7 +57,7 @@ fn with_region(
     region: Region,
 ) -> Result<Gathering, Memory>
     requires { (leaves : List Leaf) × IsGatheredFrom leaves gathering }
-    ensures { IfOk result (λ more. (leaves : List Leaf) → IsGatheredFrom leaves gathering → IsGatheredFrom (leaves ++ record { region = region; mark = Class class.mask class.chosen } ∷ []) more) }
+    ensures { IfOk result (HasGathered gathering (leaf_of class region)) }
 {
     let Gathering { mut classes, cells } = gathering;
     let (place, is_new) = classes.insert_full(class)?;
@@ -74,7 +73,7 @@ fn with_cell(
     class: ClassKey,
     is_new: bool,
 ) -> Result<Vec<Cell>, Memory>
-    ensures { IfOk result (λ more. more.items ≡ (if is_new then cells.items ++ record { mask = class.mask; chosen = class.chosen; leaves = [] } ∷ [] else cells.items)) }
+    ensures { IfOk result (λ more. more.items ≡ with_cell cells.items class is_new) }
 {
     if !is_new {
         return Ok(cells);

@@ -1,10 +1,10 @@
-ghost use Rattle.std.specs.Prelude.{◌≡◌, ◌<◌, true, length, All, IfOk, IfSome, Some, slice_get, slice_set};
+ghost use Rattle.std.specs.Prelude.{◌≡◌, ◌<◌, true, length, All, IfOk, IfSome, slice_set};
 ghost use Rattle.std.specs.Cmp.Lexicographic.{pointwise};
 ghost use Rattle.pc_model.specs.Membership.{has, holds};
 ghost use Rattle.pc_model.specs.CutTrees.{side_at};
 ghost use Rattle.pc_model.specs.Places.{is_place_of};
 ghost use Rattle.pc_box.specs.Boxes.{are_like, IsBox};
-ghost use Rattle.pc_cells.specs.Found.{IsFilled, leaves_at, leaf_at, HoldsNumber};
+ghost use Rattle.pc_cells.specs.Found.{IsFilled, leaves_at, leaf_in, HasNumber, HoldsNumberIn};
 
 use crate::cells::Cells;
 use pc_list::Seq;
@@ -25,9 +25,9 @@ impl Cells {
         requires there { cell < length self.now.cells }
         requires leaf_there { leaf < length (leaves_at self.now.cells cell) }
         requires filled { All IsFilled self.now.cells }
-        requires held { IfSome column (λ named. HoldsNumber (leaves_at self.now.cells cell) leaf named value) }
-        ensures row { IfOk result (λ row. has (leaf_at (leaves_at self.now.cells cell) leaf) row ≡ true) }
-        ensures number { IfOk result (λ row. IfSome column (λ named. slice_get row.cells named ≡ Some value)) }
+        requires held { IfSome column (λ at. HoldsNumberIn self.now.cells cell leaf at value) }
+        ensures row { IfOk result (λ row. has (leaf_in self.now.cells cell leaf) row ≡ true) }
+        ensures number { IfOk result (HasNumber column value) }
     {
         let leaves = self.leaves(cell);
         row_in(alloc, &leaves[leaf as usize], column, value)
@@ -38,7 +38,7 @@ fn row_in(alloc: Global, region: &Region, column: Option<u8>, value: i64) -> Res
     requires filled { IsBox region.now }
     requires held { IfSome column (λ named. holds (side_at region.now named) value ≡ true) }
     ensures row { IfOk result (λ row. has region.now row ≡ true) }
-    ensures number { IfOk result (λ row. IfSome column (λ named. slice_get row.cells named ≡ Some value)) }
+    ensures number { IfOk result (HasNumber column value) }
 {
     let cells = numbers_of(alloc, region.sides.as_slice())?;
     match column {

@@ -1,10 +1,9 @@
 ghost use Rattle.std.specs.Prelude.{◌≡◌, ◌∷◌, [], IfOk, OnErr};
 ghost use Rattle.pc_model.specs.declared.tree.LeafMark.TheVariants.{Barren};
 ghost use Rattle.pc_model.specs.declared.tree.CutNode.TheVariants as forms;
-ghost use Rattle.pc_model.specs.CutTrees.{shape_of};
 ghost use Rattle.pc_model.specs.WellFormed.{IsWellFormed};
 ghost use Rattle.pc_cells_tree.specs.Linked.{CanBeDivided, IsTree, IsCutOn, IsDividedFor};
-ghost use Rattle.pc_cells_tree.specs.Walking.{HasCutsAt};
+ghost use Rattle.pc_cells_tree.specs.Walking.{HasCutsOf};
 ghost use Rattle.pc_cells.specs.Found.{AreCellsFor};
 
 use crate::cells::Cells;
@@ -75,7 +74,7 @@ impl Shared {
         requires tree { IsTree schema.now self.now.nodes }
         requires divided { IsDividedFor schema.now constraints.now chosen.now self.now.nodes }
         ensures found { IfOk result (AreCellsFor schema.now constraints.now chosen.now) }
-        ensures same { IfOk result (λ found. HasCutsAt self.now.nodes 0 (shape_of found.tree.nodes)) }
+        ensures same { IfOk result (λ found. HasCutsOf self.now.nodes found.tree.nodes) }
     {
         let alloc = self.nodes.allocator();
         let Growth { nodes, leaves } = marked(

@@ -6,7 +6,7 @@ use Rattle.pc_model.specs.declared.tree.Cut.{Cut}
 use Rattle.pc_model.specs.declared.tree.LeafMark.TheVariants.{Barren}
 use Rattle.pc_model.specs.declared.tree.CutNode.{CutNode}
 use Rattle.pc_model.specs.declared.tree.CutNode.TheVariants as forms
-use Rattle.pc_model.specs.CutTrees.{CutShape, leaf, inner, first_part, second_part}
+use Rattle.pc_model.specs.CutTrees.{CutShape, leaf, inner, shape_of, first_part, second_part}
 use Rattle.pc_cells_tree.specs.declared.growth.Growth.{Growth}
 use Rattle.pc_cells_tree.specs.declared.walk.Task.{Task}
 use Rattle.pc_cells_tree.specs.declared.walk.Task.TheVariants.{Visit, Close}
@@ -20,6 +20,10 @@ use Rattle.pc_cells_tree.specs.Rooms.{room}
 abbrev pub HasCutsAt : List CutNode → ℕ → CutShape → Type 0
 HasCutsAt nodes k (leaf mark) = is_leaf_node (node_at nodes k) ≡ true
 HasCutsAt nodes k (inner cut t u) = (first : ℕ) × (second : ℕ) × (node_at nodes k ≡ forms.Inner cut first second) × HasCutsAt nodes first t × HasCutsAt nodes second u
+
+-- nodes in preorder have the cuts of a tree whose root is its first node
+abbrev pub HasCutsOf : List CutNode → List CutNode → Type 0
+HasCutsOf nodes written = HasCutsAt nodes 0 (shape_of written)
 
 -- a tree without its marks
 abbrev pub bare : CutShape → CutShape

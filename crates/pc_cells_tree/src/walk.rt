@@ -2,13 +2,12 @@ ghost use Rattle.std.specs.Prelude.{◌≡◌, ◌≤◌, ◌<◌, ◌^◌, leng
 ghost use Rattle.pc_model.specs.declared.tree.CutNode.TheVariants.{Inner};
 ghost use Rattle.pc_model.specs.Accepted.{constraint_limit};
 ghost use Rattle.pc_model.specs.Cells.{IsSettledTree, IsSettledAs, leaves_in};
-ghost use Rattle.pc_model.specs.CutTrees.{shape_of};
 ghost use Rattle.pc_box.specs.Boxes.{IsBox};
 ghost use Rattle.pc_box.specs.Cuts.{Divides};
 ghost use Rattle.pc_cells_tree.specs.declared.walk.Task.TheVariants.{Visit, Close};
 ghost use Rattle.pc_cells_tree.specs.Decisions.{IsComparable, CanBeSettled};
 ghost use Rattle.pc_cells_tree.specs.Linked.{CanBeDivided, IsTree, IsDividedFor, node_at};
-ghost use Rattle.pc_cells_tree.specs.Walking.{HasCutsAt, HasWalked, IsVisit, IsTask, IsStep, IsOpened, nothing};
+ghost use Rattle.pc_cells_tree.specs.Walking.{HasCutsOf, HasWalked, IsVisit, IsTask, IsStep, IsOpened, nothing};
 
 use crate::decision::{Decision, decide};
 use crate::growth::{Growth, number};
@@ -48,7 +47,7 @@ pub fn marked(
     ensures settled { IfOk result (λ growth. IsSettledTree schema.now constraints.now chosen.now growth.nodes) }
     ensures leaves { IfOk result (λ growth. growth.leaves ≡ leaves_in schema.now growth.nodes) }
     ensures few { IfOk result (λ growth. length growth.leaves < 2 ^ 32) }
-    ensures same { IfOk result (λ growth. HasCutsAt nodes.now 0 (shape_of growth.nodes)) }
+    ensures same { IfOk result (λ growth. HasCutsOf nodes.now growth.nodes) }
 {
     let whole = schema.whole(alloc)?;
     let growth = walked(alloc, constraints, chosen, nodes, whole)?;
