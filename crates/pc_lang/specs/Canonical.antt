@@ -36,6 +36,10 @@ unfoldable pub names_from : ℕ → ℕ → List (List ℕ) → List (List ℕ)
 names_from bits place [] = []
 names_from bits place (name ∷ rest) = if is_place_of bits (pos place) then name ∷ names_from bits (place + 1) rest else names_from bits (place + 1) rest
 
+-- the name of a place, if it is one of the bits
+abbrev pub name_if : ℕ → ℕ → List ℕ → List (List ℕ)
+name_if bits place name = if is_place_of bits (pos place) then name ∷ [] else []
+
 -- one name, or more; no set of a column is empty
 abbrev pub names_claim : List (List ℕ) → Claim
 names_claim [] = claims.Name []
@@ -106,12 +110,15 @@ abbrev pub unless_whole : List Atom → Option Part
 unless_whole [] = None
 unless_whole (atom ∷ atoms) = Some (record { atoms = atom ∷ atoms })
 
+abbrev pub chosen_for : Schema → Region → Option Part
+chosen_for schema region = unless_whole (atoms_for schema.columns region.sides)
+
 abbrev pub group_for : Schema → Option ℕ → Option (List ℕ)
 group_for schema None = None
 group_for schema (Some place) = Some (name_at schema.columns place)
 
 unfoldable pub question_for : Schema → Query → Question
-question_for schema query = record { measure = measure_for schema query.agg query.column; chosen = unless_whole (atoms_for schema.columns query.chosen.sides); group = group_for schema query.group }
+question_for schema query = record { measure = measure_for schema query.agg query.column; chosen = chosen_for schema query.chosen; group = group_for schema query.group }
 
 unfoldable pub query_text : Schema → Query → List ℕ
 query_text schema query = tokens_text (question_tokens (question_for schema query))

@@ -43,11 +43,15 @@ unfoldable pub with_line : Schema → List Constraint → List ℕ → Result (L
 with_line schema before line =
     if is_passed_over line then Ok before else (constraint_from schema before line >>= λ c. Ok (before ++ c ∷ []))
 
+-- .. of the line at a place of a file
+abbrev pub with_line_at : Schema → ℕ → List Constraint → List ℕ → Result (List Constraint) Fault
+with_line_at schema place before line = placed files.Constraints place (with_line schema before (without_return line))
+
 -- the constraints of the lines from a place on, after those before
 unfoldable pub constraints_from : Schema → ℕ → List Constraint → List (List ℕ) → Result (List Constraint) Fault
 constraints_from schema place before [] = Ok before
 constraints_from schema place before (line ∷ rest) =
-    placed files.Constraints place (with_line schema before (without_return line)) >>= λ after. constraints_from schema (place + 1) after rest
+    with_line_at schema place before line >>= λ after. constraints_from schema (place + 1) after rest
 
 abbrev pub lines_of : List ℕ → List (List ℕ)
 lines_of text = slice_split (λ byte. byte == 10) text

@@ -1,5 +1,5 @@
 -- Which constraint a line stands for, and which query a question: the checks of meaning, in their order.
-use Rattle.std.specs.Prelude.{ℕ, ◌+◌, Bool, true, false, unsigned_abs, List, [], ◌∷◌, length, bytes_eq, nat_le, nat_lt, Option, Some, None, Result, Ok, Err, if◌then◌else◌, not}
+use Rattle.std.specs.Prelude.{◌≡◌, ℕ, ◌+◌, ◌++◌, Bool, true, false, unsigned_abs, List, [], ◌∷◌, length, bytes_eq, nat_le, nat_lt, Option, Some, None, Result, Ok, Err, if◌then◌else◌, not}
 use Rattle.std.specs.Char.{is_ascii_digit}
 use Rattle.std.specs.List.{list_all, list_any}
 use Rattle.pc_model.specs.declared.fault.Reason.{Reason}
@@ -13,10 +13,11 @@ use Rattle.pc_model.specs.declared.constraint.Constraint.{Constraint}
 use Rattle.pc_model.specs.declared.query.Agg.{Agg}
 use Rattle.pc_model.specs.declared.query.Agg.TheVariants as aggs
 use Rattle.pc_model.specs.declared.query.Query.{Query}
-use Rattle.pc_model.specs.Accepted.{constraint_limit, frequency_limit}
+use Rattle.pc_model.specs.Accepted.{AreConstraints, constraint_limit, frequency_limit}
 use Rattle.pc_model.specs.Numbers.{number_of}
 use Rattle.pc_model.specs.Refusals.{◌>>=◌}
 use Rattle.pc_model.specs.Regions.{whole_region}
+use Rattle.pc_model.specs.Texts.{is_name}
 use Rattle.pc_lang_grammar.specs.declared.syntax.Part.{Part}
 use Rattle.pc_lang_grammar.specs.declared.syntax.Line.{Line}
 use Rattle.pc_lang_grammar.specs.declared.syntax.Measure.{Measure}
@@ -53,6 +54,10 @@ constraint_of schema before line =
     if nat_le constraint_limit (length before) then Err reasons.TooMany
     else if has_name before line.name then Err reasons.RepeatedName
     else new_constraint schema line
+
+-- constraints with it are accepted as those before it are
+abbrev pub IsAcceptedAfter : Schema → List Constraint → Line → Constraint → Type 0
+IsAcceptedAfter schema before line c = AreConstraints schema before → is_name line.name ≡ true → AreConstraints schema (before ++ c ∷ [])
 
 -- a kind with names, or one of numbers, as is asked
 abbrev pub has_names_as : Bool → Kind → Bool

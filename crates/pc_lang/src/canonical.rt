@@ -1,6 +1,6 @@
 ghost use Rattle.std.specs.Prelude.{◌≡◌, IfOk, Option};
 ghost use Rattle.pc_model.specs.WellFormed.{IsWellFormed};
-ghost use Rattle.pc_lang.specs.Canonical.{atoms_for, count_text, group_for, line_for, measure_for, measured_name, name_at, question_for, unless_whole};
+ghost use Rattle.pc_lang.specs.Canonical.{chosen_for, count_text, group_for, line_for, measure_for, measured_name, name_at, question_for, unless_whole};
 
 use crate::canonical_part::{no_text, number_text, part_for};
 use pc_lang_grammar::{Line, Measure, Part, Question};
@@ -81,7 +81,7 @@ fn measured_name(alloc: Global, schema: &Schema, column: Option<u8>) -> Result<T
 // A part, unless the region is the whole domain.
 fn chosen_for(alloc: Global, schema: &Schema, region: &Region) -> Result<Option<Part>, Memory>
     requires { IsWellFormed schema.now }
-    ensures { IfOk result (λ chosen. chosen ≡ unless_whole (atoms_for schema.now.columns region.now.sides)) }
+    ensures { IfOk result (λ chosen. chosen ≡ chosen_for schema.now region.now) }
 {
     let part = part_for(alloc, schema, region)?;
     Ok(unless_whole(part))

@@ -1,9 +1,8 @@
-ghost use Rattle.std.specs.Prelude.{◌≡◌, ◌≤◌, ◌<◌, ◌++◌, ◌∷◌, [], All, IfOk, OnOk, length, pos, if◌then◌else◌};
+ghost use Rattle.std.specs.Prelude.{◌≡◌, ◌≤◌, ◌<◌, ◌++◌, [], All, IfOk, OnOk, length};
 ghost use Rattle.pc_num.specs.Put.{scaled_text};
-ghost use Rattle.pc_model.specs.Places.{is_place_of};
 ghost use Rattle.pc_model.specs.Regions.{whole_side};
 ghost use Rattle.pc_model.specs.WellFormed.{IsColumn, IsKind, IsWellFormed};
-ghost use Rattle.pc_lang.specs.Canonical.{atoms_for, names_claim, names_from, part_for, same_side, side_atoms, side_claim, span_claim};
+ghost use Rattle.pc_lang.specs.Canonical.{atoms_for, name_if, names_claim, names_from, part_for, same_side, side_atoms, side_claim, span_claim};
 
 use crate::whole::same_side;
 use pc_lang_grammar::{Atom, Claim, Part};
@@ -157,7 +156,7 @@ fn names_of(alloc: Global, bits: u128, names: &[Text]) -> Result<Seq<Text>, Memo
 
 fn push_name(stated: &mut Seq<Text>, bits: u128, place: usize, name: &Text) -> Result<(), Memory>
     requires { place < 128 }
-    ensures { OnOk result (stated.new ≡ stated.old ++ (if is_place_of bits (pos place) then name.now ∷ [] else [])) }
+    ensures { OnOk result (stated.new ≡ stated.old ++ name_if bits place name.now) }
 {
     if has_bit(bits, place) {
         stated.push(name.clone()?)?;

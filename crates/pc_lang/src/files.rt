@@ -1,9 +1,8 @@
 ghost use Rattle.std.specs.Prelude.{◌≡◌, ◌<◌, ◌≤◌, get_or, ◌∷◌, ◌++◌, [], true, length, IfOk, IfSome, MatchOption};
 ghost use Rattle.pc_model.specs.Accepted.{AreConstraints, IsQuery};
-ghost use Rattle.pc_model.specs.Refusals.{Answers, Gives, placed};
+ghost use Rattle.pc_model.specs.Refusals.{Answers, Gives};
 ghost use Rattle.pc_model.specs.WellFormed.{IsWellFormed};
-ghost use Rattle.pc_model.specs.declared.fault.FileKind.TheVariants as files;
-ghost use Rattle.pc_lang.specs.Files.{without_return, is_passed_over, line_from, question_from, constraint_from, with_line, constraints_from, lines_of, constraints_of, query_from, query_at, line_number, constraint_lines, left_after};
+ghost use Rattle.pc_lang.specs.Files.{without_return, is_passed_over, line_from, question_from, constraint_from, with_line, with_line_at, constraints_from, lines_of, constraints_of, query_from, query_at, line_number, constraint_lines, left_after};
 ghost use Rattle.pc_model.specs.Texts.{is_name};
 ghost use Rattle.pc_lang_tokens.specs.Lexing.{is_blank};
 
@@ -129,7 +128,7 @@ fn with_line_at(
 ) -> Result<Seq<Constraint>, Refusal>
     requires well_formed { IsWellFormed schema.now }
     requires accepted { AreConstraints schema.now before }
-    ensures gives { Gives result (placed files.Constraints place (with_line schema.now before (without_return line.now))) }
+    ensures gives { Gives result (with_line_at schema.now place before line.now) }
     ensures accepted { IfOk result (AreConstraints schema.now) }
 {
     match with_line(alloc, schema, before, without_return(line)) {

@@ -1,11 +1,9 @@
-ghost use Rattle.std.specs.Prelude.{◌≡◌, ◌++◌, ◌∷◌, [], true, IfOk};
+ghost use Rattle.std.specs.Prelude.{◌≡◌, IfOk};
 ghost use Rattle.std.specs.Char.{is_ascii_digit};
 ghost use Rattle.std.specs.List.{list_all};
-ghost use Rattle.pc_model.specs.Accepted.{AreConstraints};
 ghost use Rattle.pc_model.specs.Refusals.{Answers};
-ghost use Rattle.pc_model.specs.Texts.{is_name};
 ghost use Rattle.pc_model.specs.WellFormed.{IsWellFormed};
-ghost use Rattle.pc_lang.specs.Meaning.{at_most_limit, constraint_of, count_of, has_name, in_order, new_constraint};
+ghost use Rattle.pc_lang.specs.Meaning.{IsAcceptedAfter, at_most_limit, constraint_of, count_of, has_name, in_order, new_constraint};
 
 use crate::part::region_of;
 use pc_lang_grammar::Line;
@@ -27,7 +25,7 @@ pub(crate) fn constraint_of(
 ) -> Result<Constraint, ReadStop>
     requires well_formed { IsWellFormed schema.now }
     ensures answers { Answers result (constraint_of schema.now before.now line) }
-    ensures accepted { IfOk result (λ c. AreConstraints schema.now before.now → is_name line.name ≡ true → AreConstraints schema.now (before.now ++ c ∷ [])) }
+    ensures accepted { IfOk result (IsAcceptedAfter schema.now before.now line) }
 {
     checked_constraint(alloc, schema, before, line)
 }

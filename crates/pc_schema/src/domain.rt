@@ -1,6 +1,5 @@
-ghost use Rattle.std.specs.Prelude.{◌≡◌, map, IfOk};
-ghost use Rattle.pc_model.specs.declared.schema.Column.{Column};
-ghost use Rattle.pc_model.specs.Regions.{whole_side};
+ghost use Rattle.std.specs.Prelude.{◌≡◌, IfOk};
+ghost use Rattle.pc_model.specs.Regions.{whole_region};
 ghost use Rattle.pc_model.specs.WellFormed.{HaveFewNames};
 ghost use Rattle.pc_schema.specs.Domain.{HoldsDomain};
 
@@ -12,7 +11,7 @@ use std::alloc::Global;
 #[tactic(auto, using(crate::proofs::WholeDomain::holds_domain))]
 pub fn whole(alloc: Global, schema: &Schema) -> Result<Region, Memory>
     requires { HaveFewNames schema.now.columns }
-    ensures sides { IfOk result (λ region. region.sides ≡ map (λ (column : Column). whole_side column.kind) schema.now.columns) }
+    ensures sides { IfOk result (λ region. region.sides ≡ (whole_region schema.now).sides) }
     ensures domain { IfOk result (HoldsDomain schema.now) }
 {
     schema.whole(alloc)
