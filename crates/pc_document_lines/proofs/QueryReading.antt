@@ -12,8 +12,7 @@ use Rattle.pc_model.specs.declared.schema.Schema.{Schema}
 use Rattle.pc_model.specs.declared.query.Query.{Query}
 use Rattle.pc_model.specs.Accepted.{IsQuery}
 use Rattle.pc_model.specs.Refusals.{placed}
-use Rattle.pc_model.specs.WellFormed.{HaveFewNames, IsWellFormed}
-use Rattle.pc_model.proofs.FewNames.{have_few_names}
+use Rattle.pc_model.specs.WellFormed.{IsWellFormed}
 use Rattle.pc_lang_tokens.proofs.ScaledTexts.{numbers_are_spelled}
 use Rattle.pc_lang_tokens.proofs.TextBytes.{tokens_text_is_text}
 use Rattle.pc_lang.specs.Canonical.{query_text}
@@ -91,8 +90,4 @@ none_read schema line text place fault is read =
     let none : likely_query schema line ≡ None = likely_from schema line (query_from schema text) (ap (query_from schema) (sym is)) ∙ err_placed place (query_from schema text) fault read in
     ap (if_spelled (query_line_text schema) (λ one. true) line) none
 
--- the names of a column are few
-pub few_names : (schema : Schema) → IsWellFormed schema → HaveFewNames schema.columns
-few_names schema formed = have_few_names schema.columns formed.columns
-
-pub ruleset likely_steps = (no_text, likely_read, none_read, few_names)
+pub ruleset likely_steps = (no_text, likely_read, none_read)
