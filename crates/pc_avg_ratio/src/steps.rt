@@ -140,9 +140,9 @@ fn after_spent(
     ensures { IfOk result (IsStepOver average.now standing) }
 {
     let SpentSearch { bound, found, tree } = spent;
-    let f = average.fraction;
+    let fraction = average.fraction;
     let ratio = standing.ratio;
-    if over_before(f, ratio) + bound <= 0 {
+    if over_before(fraction, ratio) + bound <= 0 {
         return Ok(reached(standing, tree));
     }
     if average.outermost * ratio.den <= ratio.num {
@@ -150,8 +150,8 @@ fn after_spent(
         return Ok(reached(standing, tree));
     }
     if let Some(counts) = found {
-        if standing.tries > 0 && excess(f, ratio, counts.as_slice()) > 0 {
-            let next = standing_at(f, counts, standing.limit, standing.tries - 1);
+        if standing.tries > 0 && excess(fraction, ratio, counts.as_slice()) > 0 {
+            let next = standing_at(fraction, counts, standing.limit, standing.tries - 1);
             return Ok(Step::Better(next));
         }
     }
@@ -185,17 +185,17 @@ fn end_above(
     requires under { standing.ratio.num <ℤ (average.now.outermost *ℤ standing.ratio.den) }
     ensures { IfOk result (IsStepOver average.now standing) }
 {
-    let f = average.fraction;
+    let fraction = average.fraction;
     let ratio = standing.ratio;
     let most = match tree_bound(alloc, program, &tree)? {
         Some(most) => most,
         None => unreachable!(),
     };
-    let left = over_before(f, ratio) + most;
+    let left = over_before(fraction, ratio) + most;
     if left <= 0 {
         return Ok(reached(standing, tree));
     }
-    let value = raised(f, ratio, left, average.outermost);
+    let value = raised(fraction, ratio, left, average.outermost);
     Ok(Step::End(Highest::Above {
         ratio,
         counts: standing.counts,
