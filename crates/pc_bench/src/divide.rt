@@ -1,7 +1,11 @@
+ghost use Rattle.pc_cells_tree.specs.Linked.{CanBeDivided};
+
 use crate::family::Family;
 use crate::trouble::Trouble;
 use pc_cells::{Cells, Shared, decompose};
 use pc_lang::read_constraints;
+use pc_model::{Constraint, Region, Schema};
+use pc_num::Memory;
 use pc_schema::read_schema;
 use std::alloc::Global;
 
@@ -71,13 +75,24 @@ fn last_constraint(alloc: Global, plan: &Plan) -> Result<LastConstraint, Trouble
     let schema = read_schema(alloc, plan.family.schema_text(alloc)?.as_bytes())?;
     let text = plan.family.constraints_text(alloc, plan.constraints)?;
     let constraints = read_constraints(alloc, &schema, text.as_bytes())?;
-    let constraints = constraints.as_slice();
-    let others = &constraints[..constraints.len().saturating_sub(1)];
     let whole = schema.whole(alloc)?;
-    let mut shared = Shared::new(alloc, &schema)?;
-    shared.refine(&schema, others, &whole)?;
+    let last = last_of(alloc, &schema, constraints.as_slice(), &whole)?;
+    Ok(last)
+}
+
+fn last_of(
+    alloc: Global,
+    schema: &Schema,
+    constraints: &[Constraint],
+    chosen: &Region,
+) -> Result<LastConstraint, Memory>
+    requires asked { CanBeDivided schema.now constraints.now chosen.now }
+{
+    let others = &constraints[..constraints.len().saturating_sub(1)];
+    let mut shared = Shared::new(alloc, schema)?;
+    shared.refine(schema, others, chosen)?;
     let leaves = shared.nodes.len() / 2 + 1;
-    let cuts = shared.refine(&schema, constraints, &whole)?;
+    let cuts = shared.refine(schema, constraints, chosen)?;
     Ok(LastConstraint {
         cuts,
         leaves,
