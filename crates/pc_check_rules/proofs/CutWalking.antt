@@ -1,5 +1,5 @@
 -- A walk from line to line of a tree of cuts: where it starts, what a line does to it, and what it has found at its end.
-use Rattle.std.proofs.Common.{◌≡◌, ℕ, ◌+◌, ◌<◌, ◌≤◌, true, List, [], ◌∷◌, ◌++◌, length, drop, get_or, All, None, refl, ap, ◌∙◌, sym, subst, arith, append-nil, length-drop}
+use Rattle.std.proofs.Common.{◌≡◌, ℕ, ◌+◌, ◌<◌, ◌≤◌, true, List, [], ◌∷◌, ◌++◌, length, drop, get_or, All, None, Ok, Err, refl, ap, ◌∙◌, sym, subst, arith, append-nil, length-drop}
 use Rattle.std.specs.Prelude.{reverse}
 use Rattle.std.proofs.lemmas.List.{drop_more, drop_all}
 use Rattle.std.proofs.lemmas.List.Elements.{All-nil, All-cons, All-head}
@@ -18,7 +18,7 @@ use Rattle.pc_model.specs.CutTrees.{CutShape, leaf, inner, size_of, nodes_from, 
 use Rattle.pc_model.specs.Cells.{leaves_in}
 use Rattle.pc_proof.specs.Demands.{Placed, Holds, cut_demands, Judges}
 use Rattle.pc_check_rules.specs.declared.cuts.CutWalk.{CutWalk}
-use Rattle.pc_check_rules.specs.declared.cuts.CutFinding.TheVariants as verdicts
+use Rattle.pc_check_rules.specs.declared.halt.Halt.TheVariants as halts
 use Rattle.pc_check_rules.specs.CutLines.{IsComparable}
 use Rattle.pc_check_rules.specs.Cuts.{cut_lines, IsCutFinding, rule_of_cut, IsKept, IsGathered, IsCutInTwo, HasMoved}
 use Rattle.pc_check_rules.proofs.Comparable.{whole_comparable}
@@ -137,18 +137,18 @@ module _ (schema : Schema) (constraints : List Constraint) (region : Region) (li
 
   -- the line breaks its rule, and it is the first one
   pub walking-broken : (place : ℕ) (walk : CutWalk) (part : Region) (node : CutNode) (at rule : ℕ) → IsBefore place node part walk → (IsKept constraints region part node → ⊥)
-      → at ≡ line + place → rule ≡ rule_of_cut node → IsCutFinding line schema constraints region list (verdicts.Broken at rule)
+      → at ≡ line + place → rule ≡ rule_of_cut node → IsCutFinding line schema constraints region list (Err (halts.Broken at rule))
   walking-broken place walk part node at rule walking broken at_is rule_is = λ s asked.
       rw (at_is, rule_is)
       (broken_line constraints region (cut_lines line schema list) (leaves_in schema list) (drop (place + 1) list) place (line + place) part (reverse walk.parts.items) walk.leaves node
       walking.trees (walking.long, walking.left_are, walking.decides, walking.gathered) broken s asked)
 
   pub walking-end : (place : ℕ) (items : List Region) (so_far : List Leaf) → length list ≤ place → IsAt place items so_far
-      → IsCutFinding line schema constraints region list (verdicts.Settled so_far)
-  walking-end place items so_far past walking =
+      → IsCutFinding line schema constraints region list (Ok so_far)
+  walking-end place items so_far past walking = λ s asked.
       let none : walking.trees ≡ [] = no_trees place walking.trees (sym (drop_all place list past) ∙ walking.left_are) in
       let demands = ap (demands_left (line + place) (reverse items)) none ∙ no_demands (line + place) (reverse items) in
       let leaves = ap (leaves_left (reverse items)) none ∙ no_leaves (reverse items) in (
-        λ s asked. walking.decides s asked None (subst (All (Holds s)) (sym demands) (All-nil (Holds s))),
+        walking.decides s asked None (subst (All (Holds s)) (sym demands) (All-nil (Holds s))),
         sym (walking.gathered ∙ ap (λ (found : List Leaf). so_far ++ found) leaves ∙ append-nil so_far),
       )

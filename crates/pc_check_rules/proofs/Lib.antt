@@ -2,7 +2,6 @@ pub mod Comparable
 pub mod Choices
 pub mod Comparing
 pub mod Corners
-pub mod Crossing
 pub mod CutForest
 pub mod CutWalking
 pub mod EndsShown

@@ -1,5 +1,5 @@
 -- A walk from line to line: where it starts, what a line does to it, and what it has found at its end.
-use Rattle.std.proofs.Common.{◌≡◌, ℕ, ◌+◌, ◌<◌, ◌≤◌, ℤ, List, [], ◌∷◌, ◌++◌, length, drop, get_or, All, Option, Some, None, refl, ap, ◌∙◌, sym, subst, arith, append-nil, length-drop}
+use Rattle.std.proofs.Common.{◌≡◌, ℕ, ◌+◌, ◌<◌, ◌≤◌, ℤ, List, [], ◌∷◌, ◌++◌, length, drop, get_or, All, Option, Some, None, Ok, Err, refl, ap, ◌∙◌, sym, subst, arith, append-nil, length-drop}
 use Rattle.std.proofs.lemmas.List.{drop_more, drop_all}
 use Rattle.std.proofs.lemmas.List.Elements.{All-nil, All-cons, All-head}
 use Rattle.pc_model.specs.declared.tree.TreeNode.{TreeNode}
@@ -12,7 +12,7 @@ use Rattle.pc_proof.specs.Demands.{Placed, Holds, split_demands, Judges}
 use Rattle.pc_check_rules.specs.declared.tree_line.Corner.{Corner}
 use Rattle.pc_check_rules.specs.declared.tree_line.Finding.TheVariants as found
 use Rattle.pc_check_rules.specs.declared.walk.Walk.{Walk}
-use Rattle.pc_check_rules.specs.declared.walk.TreeFinding.TheVariants as verdicts
+use Rattle.pc_check_rules.specs.declared.halt.Halt.TheVariants as halts
 use Rattle.pc_check_rules.specs.Lines.{IsOpen, IsFinding}
 use Rattle.pc_check_rules.specs.Walk.{whole_demands, whole_bound, less_part, more_part, rule_number, at_root, in_less, with_bound, later_corners, corners_of, IsStanding, IsNext, HasLeft, HasCell, HasPassed, IsTreeFinding}
 use Rattle.pc_check_rules.proofs.Corners.{root-open}
@@ -155,19 +155,19 @@ module _ (p : Program) (list : List TreeNode) (line : ℕ) where
 
   -- the line breaks its rule, and it is the first one
   pub walking-broken : (place : ℕ) (walk : Walk) (node : TreeNode) (at rule : ℕ) → IsBefore p list line place node walk → IsFinding p walk.corner node found.Broken
-      → at ≡ line + place → rule ≡ rule_number node → IsTreeFinding line p list (verdicts.Broken at rule)
+      → at ≡ line + place → rule ≡ rule_number node → IsTreeFinding line p list (Err (halts.Broken at rule))
   walking-broken place walk node at rule before broken at_is rule_is =
       let walking = before.walking in
       λ s. rw (at_is, rule_is)
       (broken_line p (whole_demands line p list) (whole_bound p list) (drop (place + 1) list) place (line + place) walk.corner (later_corners walk) walk.most node
       walking.trees (walking.long, walking.left_are, walking.decides, walking.bounded) broken s)
 
-  pub walking-end : (place : ℕ) (walk : Walk) → length list ≤ place → IsAt p list line place walk → IsTreeFinding line p list (verdicts.Bounded walk.most)
-  walking-end place walk past there =
+  pub walking-end : (place : ℕ) (walk : Walk) → length list ≤ place → IsAt p list line place walk → IsTreeFinding line p list (Ok walk.most)
+  walking-end place walk past there = λ s.
       let walking = there.walking in
       let none : walking.trees ≡ [] = no_trees place walking.trees (sym (drop_all place list past) ∙ walking.left_are) in
       let demands = ap (demands_left (line + place) p there.corners) none ∙ no_demands (line + place) p there.corners in
       let bounds = ap (bound_left p there.corners) none ∙ no_bound p there.corners in (
-        λ s. walking.decides s None (subst (All (Holds s)) (sym demands) (All-nil (Holds s))),
+        walking.decides s None (subst (All (Holds s)) (sym demands) (All-nil (Holds s))),
         sym (walking.bounded ∙ ap (greater walk.most) bounds ∙ greater-none walk.most),
       )

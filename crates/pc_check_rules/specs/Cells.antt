@@ -3,6 +3,7 @@ use Rattle.std.specs.Prelude.{◌≡◌, ℕ, List, ◌++◌, ◌∷◌, [], map
 use Rattle.std.specs.Int.{int_min, int_max}
 use Rattle.pc_model.specs.declared.region.Region.{Region}
 use Rattle.pc_model.specs.declared.tree.Leaf.{Leaf}
+use Rattle.pc_model.specs.declared.tree.LeafMark.TheVariants as marks
 use Rattle.pc_model.specs.Cells.{Class, classes_of, boxes_of, low_at, high_at, least_low, greatest_high}
 use Rattle.pc_check_rules.specs.declared.cells.GatheredCell.{GatheredCell}
 use Rattle.pc_check_rules.specs.declared.cells.ClassKey.{ClassKey}
@@ -33,10 +34,18 @@ pub record HasEnds (column : ℕ) (leaves : List Leaf) (cell : GatheredCell) : T
 abbrev pub class_of_key : ClassKey → Class
 class_of_key key = record { mask = key.mask; chosen = key.chosen }
 
+-- a leaf of the class
+abbrev pub class_leaf : Region → ClassKey → Leaf
+class_leaf region key = record { region = region; mark = marks.Class key.mask key.chosen }
+
 -- the cells and the classes are those of the leaves
 pub record IsGatheredFrom (column : ℕ) (leaves : List Leaf) (gathering : Gathering) : Type 0 where
   pub classes : map class_of_key gathering.classes.keys ≡ classes_of leaves
   pub cells : gathering.cells.items ≡ cells_from column leaves
+
+-- .. and afterwards those of the leaves and one more
+abbrev pub Gathers : ℕ → Gathering → Leaf → Gathering → Type 0
+Gathers column before leaf after = (leaves : List Leaf) → IsGatheredFrom column leaves before → IsGatheredFrom column (leaves ++ leaf ∷ []) after
 
 -- ---- one box more
 

@@ -1,20 +1,21 @@
 -- A walk over the lines of a tree of cuts, and the verdict on them.
-use Rattle.std.specs.Prelude.{◌≡◌, ℕ, List, [], ◌∷◌, ◌++◌, Option, Some, None, MatchOption}
+use Rattle.std.specs.Prelude.{◌≡◌, ℕ, List, [], ◌∷◌, ◌++◌, Option, MatchOption, Result}
 use Rattle.pc_model.specs.declared.schema.Schema.{Schema}
 use Rattle.pc_model.specs.declared.region.Region.{Region}
 use Rattle.pc_model.specs.declared.constraint.Constraint.{Constraint}
 use Rattle.pc_model.specs.declared.tree.Cut.{Cut}
 use Rattle.pc_model.specs.declared.tree.LeafMark.{LeafMark}
+use Rattle.pc_model.specs.declared.tree.Leaf.{Leaf}
 use Rattle.pc_model.specs.declared.tree.CutNode.{CutNode}
 use Rattle.pc_model.specs.declared.tree.CutNode.TheVariants as nodes
 use Rattle.pc_model.specs.Regions.{whole_region}
 use Rattle.pc_model.specs.CutTrees.{shape_of, first_part, second_part, IsProper}
 use Rattle.pc_model.specs.Cells.{IsSettledAs, leaves_in}
 use Rattle.pc_proof.specs.Setting.{Setting, region_of}
-use Rattle.pc_proof.specs.Demands.{Placed, cut_demands, Judges}
+use Rattle.pc_proof.specs.Demands.{Placed, cut_demands}
 use Rattle.pc_check_rules.specs.declared.cuts.CutWalk.{CutWalk}
-use Rattle.pc_check_rules.specs.declared.cuts.CutFinding.{CutFinding}
-use Rattle.pc_check_rules.specs.declared.cuts.CutFinding.TheVariants as verdicts
+use Rattle.pc_check_rules.specs.declared.halt.Halt.{Halt}
+use Rattle.pc_check_rules.specs.Halts.{Finds}
 
 -- ---- the whole tree
 
@@ -26,12 +27,10 @@ pub record IsAsked (constraints : List Constraint) (region : Region) (s : Settin
 abbrev pub cut_lines : ℕ → Schema → List CutNode → List Placed
 cut_lines line schema list = cut_demands line (whole_region schema) (shape_of list)
 
--- the verdict on the lines of the tree, and its leaves where none is broken
-abbrev pub IsCutFinding : ℕ → Schema → List Constraint → Region → List CutNode → CutFinding → Type 0
-IsCutFinding line schema constraints region list (verdicts.Broken at rule) =
-    (s : Setting) → IsAsked constraints region s → Judges s (cut_lines line schema list) (Some (at, rule))
-IsCutFinding line schema constraints region list (verdicts.Settled leaves) =
-    ((s : Setting) → IsAsked constraints region s → Judges s (cut_lines line schema list) None) × (leaves ≡ leaves_in schema list)
+-- what is found of the lines of the tree, and its leaves
+abbrev pub IsCutFinding : ℕ → Schema → List Constraint → Region → List CutNode → Result (List Leaf) Halt → Type 0
+IsCutFinding line schema constraints region list result =
+    (s : Setting) → IsAsked constraints region s → Finds s (cut_lines line schema list) (λ leaves. leaves ≡ leaves_in schema list) result
 
 -- ---- one line
 

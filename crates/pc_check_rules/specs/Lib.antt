@@ -3,6 +3,7 @@ pub mod CutLines
 pub mod Cuts
 pub mod Findings
 pub mod Fractions
+pub mod Halts
 pub mod Lines
 pub mod Programs
 pub mod Scene

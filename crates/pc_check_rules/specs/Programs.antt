@@ -1,5 +1,5 @@
 -- The programs of search trees, made of cells.
-use Rattle.std.specs.Prelude.{ℕ, ℤ, pos, neg_ℤ, ◌-ℤ◌, ◌*ℤ◌, Bool, cond, ◌&&◌, List, map}
+use Rattle.std.specs.Prelude.{◌≡◌, ℕ, ℤ, pos, neg_ℤ, ◌-ℤ◌, ◌*ℤ◌, Bool, cond, ◌&&◌, List, map}
 use Rattle.std.specs.List.{zip}
 use Rattle.pc_model.specs.declared.constraint.Constraint.{Constraint}
 use Rattle.pc_model.specs.declared.query.Agg.{Agg}
@@ -7,12 +7,15 @@ use Rattle.pc_model.specs.declared.query.Agg.TheVariants.{Count, Sum, Min, Max, 
 use Rattle.pc_model.specs.Aggregate.{Ratio}
 use Rattle.pc_program_bound.specs.declared.program.Program.{Program}
 use Rattle.pc_program_bound.specs.CellPrograms.{program_with}
-use Rattle.pc_proof.specs.Setting.{Setting}
-use Rattle.pc_proof.specs.Table.{is_under, is_over, is_within, is_from, high_program, low_program}
+use Rattle.pc_num.specs.declared.Frac.{Frac}
+use Rattle.pc_proof.specs.Setting.{Setting, on_chosen, program_for}
+use Rattle.pc_proof.specs.Table.{ratio_of, is_under, is_over, is_within, is_from, high_program, low_program}
 use Rattle.pc_check_rules.specs.declared.cells.GatheredCell.{GatheredCell}
 use Rattle.pc_check_rules.specs.declared.extreme.Extreme.{Extreme}
 use Rattle.pc_check_rules.specs.declared.extreme.Extreme.TheVariants.{Low, High}
+use Rattle.pc_check_rules.specs.declared.scene.Scene.{Scene}
 use Rattle.pc_check_rules.specs.Cells.{class_of_cell}
+use Rattle.pc_check_rules.specs.Scene.{IsSceneOf}
 
 -- ---- gains
 
@@ -76,3 +79,20 @@ program_towards extreme constraints cells agg v = open_on extreme constraints ce
 abbrev pub table_program : Extreme → Setting → Agg → Ratio → Program
 table_program High s agg v = high_program s agg v
 table_program Low s agg v = low_program s agg v
+
+-- ---- programs that settings have
+
+-- for a search tree that shows a value to be this end
+abbrev pub end_program : Extreme → Agg → Frac → Setting → Program
+end_program extreme agg value s = table_program extreme s agg (ratio_of value)
+
+-- with the same gain for each cell, or for each chosen one
+abbrev pub even_program : ℤ → Setting → Program
+even_program gain s = program_for s (λ class. gain)
+
+abbrev pub chosen_program : ℤ → Setting → Program
+chosen_program gain s = program_for s (on_chosen (λ class. gain))
+
+-- each setting of the scene has this one
+abbrev pub IsProgramIn : Scene → (Setting → Program) → Program → Type 0
+IsProgramIn scene program p = (s : Setting) → IsSceneOf scene s → p ≡ program s

@@ -6,8 +6,10 @@ use Rattle.pc_model.specs.declared.query.Agg.{Agg}
 use Rattle.pc_model.specs.declared.query.Agg.TheVariants.{Count, Sum, Min, Max, Avg}
 use Rattle.pc_model.specs.declared.query.Folded.{Folded}
 use Rattle.pc_model.specs.Aggregate.{Ratio, whole, IsAtMost}
-use Rattle.pc_proof.specs.Table.{limit, greater_of, lesser_of}
+use Rattle.pc_num.specs.declared.Frac.{Frac}
+use Rattle.pc_proof.specs.Table.{ratio_of, limit, greater_of, lesser_of}
 use Rattle.pc_check_rules.specs.declared.cells.GatheredCell.{GatheredCell}
+use Rattle.pc_check_rules.specs.declared.scene.Scene.{Scene}
 use Rattle.pc_check_rules.specs.declared.extreme.Extreme.{Extreme}
 use Rattle.pc_check_rules.specs.declared.extreme.Extreme.TheVariants.{Low, High}
 
@@ -89,3 +91,14 @@ abbrev pub ValuesAt : Extreme → Agg → List GatheredCell → Folded → Ratio
 ValuesAt High Avg cells seen v = IsSomeAnd (greatest_on cells seen.greatest) (λ g. IsAtMost (whole g) v)
 ValuesAt Low Avg cells seen v = IsSomeAnd (least_on cells seen.least) (λ m. IsAtMost v (whole m))
 ValuesAt extreme agg cells seen v = ⊥
+
+-- ---- .. in a scene
+
+abbrev pub EndShows : Extreme → Scene → Frac → Option ℤ → Type 0
+EndShows extreme scene value bound = EndAt extreme scene.agg scene.seen (ratio_of value) bound
+
+abbrev pub RatioShows : Extreme → Scene → Frac → Frac → Option ℤ → Type 0
+RatioShows extreme scene value ratio bound = RatioAt extreme scene.cells.now scene.seen (ratio_of value) (ratio_of ratio) bound
+
+abbrev pub ValuesShow : Extreme → Scene → Frac → Type 0
+ValuesShow extreme scene value = ValuesAt extreme scene.agg scene.cells.now scene.seen (ratio_of value)

@@ -1,5 +1,5 @@
 -- A walk over the lines of a search tree, and the verdict on them.
-use Rattle.std.specs.Prelude.{◌≡◌, ℕ, ◌+◌, ◌<◌, ℤ, ⊤, List, [], ◌∷◌, ◌++◌, length, reverse, slice_set, All, Option, Some, None, MatchOption}
+use Rattle.std.specs.Prelude.{◌≡◌, ℕ, ◌+◌, ◌<◌, ℤ, ⊤, List, [], ◌∷◌, ◌++◌, length, reverse, slice_set, All, Option, Some, None, MatchOption, Result}
 use Rattle.pc_model.specs.declared.tree.TreeNode.{TreeNode}
 use Rattle.pc_model.specs.declared.tree.TreeNode.TheVariants as nodes
 use Rattle.pc_program_bound.specs.declared.program.Program.{Program}
@@ -7,14 +7,14 @@ use Rattle.pc_program_bound.specs.Sums.{nat_at}
 use Rattle.pc_program_bound.specs.Bound.{bound_of, IsMultiplier, IsVoid}
 use Rattle.pc_program_bound.specs.SplitTrees.{tree_of, less_caps, more_floors, greater, bound_by}
 use Rattle.pc_proof.specs.Setting.{Setting}
-use Rattle.pc_proof.specs.Demands.{Placed, split_demands, Judges}
+use Rattle.pc_proof.specs.Demands.{Placed, split_demands}
+use Rattle.pc_check_rules.specs.declared.halt.Halt.{Halt}
 use Rattle.pc_check_rules.specs.declared.tree_line.Corner.{Corner}
 use Rattle.pc_check_rules.specs.declared.tree_line.Finding.TheVariants as found
 use Rattle.pc_check_rules.specs.declared.walk.Turn.{Turn}
 use Rattle.pc_check_rules.specs.declared.walk.Turn.TheVariants.{Less, More}
 use Rattle.pc_check_rules.specs.declared.walk.Walk.{Walk}
-use Rattle.pc_check_rules.specs.declared.walk.TreeFinding.{TreeFinding}
-use Rattle.pc_check_rules.specs.declared.walk.TreeFinding.TheVariants as verdicts
+use Rattle.pc_check_rules.specs.Halts.{Finds}
 use Rattle.pc_check_rules.specs.Lines.{Divides, IsFinding}
 
 -- ---- the whole tree
@@ -25,10 +25,9 @@ whole_demands line p list = split_demands line p p.floor p.cap (tree_of list)
 abbrev pub whole_bound : Program → List TreeNode → Option ℤ
 whole_bound p list = bound_by p p.floor p.cap (tree_of list)
 
--- the verdict on the lines of the tree, and its bound where none is broken
-abbrev pub IsTreeFinding : ℕ → Program → List TreeNode → TreeFinding → Type 0
-IsTreeFinding n p list (verdicts.Broken line rule) = (s : Setting) → Judges s (whole_demands n p list) (Some (line, rule))
-IsTreeFinding n p list (verdicts.Bounded most) = ((s : Setting) → Judges s (whole_demands n p list) None) × (most ≡ whole_bound p list)
+-- what is found of the lines of the tree, and its bound
+abbrev pub IsTreeFinding : ℕ → Program → List TreeNode → Result (Option ℤ) Halt → Type 0
+IsTreeFinding line p list result = (s : Setting) → Finds s (whole_demands line p list) (λ most. most ≡ whole_bound p list) result
 
 -- ---- one line
 

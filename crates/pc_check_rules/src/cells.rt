@@ -1,8 +1,7 @@
-ghost use Rattle.std.specs.Prelude.{◌≡◌, ◌<◌, ◌++◌, ◌∷◌, [], ℕ, List, length, map, All, IfOk, unwrap_or, false};
+ghost use Rattle.std.specs.Prelude.{◌≡◌, ◌<◌, List, length, map, All, IfOk, unwrap_or, false};
 ghost use Rattle.pc_model.specs.declared.tree.Leaf.{Leaf};
-ghost use Rattle.pc_model.specs.declared.tree.LeafMark.TheVariants.{Class};
 ghost use Rattle.pc_model.specs.Cells.{classes_of, low_at, high_at};
-ghost use Rattle.pc_check_rules.specs.Cells.{class_of_cell, cells_from, HasEnds, IsGatheredFrom, cell_of_box, widened, with_box};
+ghost use Rattle.pc_check_rules.specs.Cells.{Gathers, class_leaf, class_of_cell, cells_from, HasEnds, IsGatheredFrom, cell_of_box, widened, with_box};
 
 use indexmap::IndexSet;
 use pc_list::Seq;
@@ -64,7 +63,7 @@ fn gather(alloc: Global, leaves: &[Leaf], column: usize) -> Result<Gathering, Me
 
 fn with_leaf(gathering: Gathering, leaf: &Leaf, column: usize) -> Result<Gathering, Memory>
     requires { (leaves : List Leaf) × IsGatheredFrom column leaves gathering }
-    ensures { IfOk result (λ more. (leaves : List Leaf) → IsGatheredFrom column leaves gathering → IsGatheredFrom column (leaves ++ leaf.now ∷ []) more) }
+    ensures { IfOk result (Gathers column gathering leaf.now) }
 {
     match leaf.mark {
         LeafMark::Barren => Ok(gathering),
@@ -81,7 +80,7 @@ fn with_region(
     column: usize,
 ) -> Result<Gathering, Memory>
     requires { (leaves : List Leaf) × IsGatheredFrom column leaves gathering }
-    ensures { IfOk result (λ more. (leaves : List Leaf) → IsGatheredFrom column leaves gathering → IsGatheredFrom column (leaves ++ record { region = region.now; mark = Class class.mask class.chosen } ∷ []) more) }
+    ensures { IfOk result (Gathers column gathering (class_leaf region.now class)) }
 {
     let Gathering { mut classes, cells } = gathering;
     let (place, is_new) = classes.insert_full(class)?;

@@ -9,19 +9,14 @@ ghost use Rattle.pc_box.specs.Cuts.{Divides};
 ghost use Rattle.pc_check_rules.specs.CutLines.{IsComparable};
 ghost use Rattle.pc_check_rules.specs.Cuts.{IsCutFinding, IsCutStep, IsGathered, IsCutInTwo, rule_of_cut};
 
+use crate::halt::Halt;
+use crate::rules::{CUTS, LEAVES};
 use crate::settled::is_settled;
 use pc_box::{cut, divides};
 use pc_list::Seq;
 use pc_model::{Constraint, Cut, CutNode, Leaf, LeafMark, Region, Schema};
 use pc_num::Memory;
 use std::alloc::Global;
-
-/// What is found of the lines of a tree of cuts: the first one that breaks its rule, or else the leaves.
-#[derive(Debug, Drop)]
-pub enum CutFinding {
-    Broken { line: u64, rule: u8 },
-    Settled(Seq<Leaf>),
-}
 
 /// The boxes of the nodes that are still to come, the last one next, and the leaves before. Of a tree of n nodes
 /// there are at most n of both together, each with a side a column.
@@ -31,8 +26,7 @@ struct CutWalk {
     leaves: Seq<Leaf>,
 }
 
-/// The first line of a tree of cuts over the whole domain that breaks its rule, or the leaves. `line` is the number of
-/// its first line.
+/// The leaves of a tree of cuts over the whole domain. `line` is the number of its first line.
 pub fn judge_cuts(
     alloc: Global,
     schema: &Schema,
@@ -40,14 +34,14 @@ pub fn judge_cuts(
     region: &Region,
     nodes: &[CutNode],
     line: u64,
-) -> Result<CutFinding, Memory>
+) -> Result<Seq<Leaf>, Halt>
     requires well_formed { IsWellFormed schema.now }
     requires few { length constraints.now ≤ constraint_limit }
     requires servable { All (IsServable schema.now) constraints.now }
     requires region { is_region_of schema.now region.now ≡ true }
     requires preorder { IsInPreorder nodes.now }
     requires few_lines { line + length nodes.now < 2 ^ 64 }
-    ensures { IfOk result (IsCutFinding line schema.now constraints.now region.now nodes.now) }
+    ensures { IsCutFinding line schema.now constraints.now region.now nodes.now result }
 {
     let mut walk = at_whole(alloc, schema)?;
     for (place, node) in nodes.iter().enumerate() {
@@ -55,14 +49,14 @@ pub fn judge_cuts(
             unreachable!();
         };
         let Some(further) = step(alloc, constraints, region, walk, part, node)? else {
-            return Ok(CutFinding::Broken {
+            return Err(Halt::Broken {
                 line: line + place as u64,
                 rule: rule_of(node),
             });
         };
         walk = further;
     }
-    Ok(CutFinding::Settled(walk.leaves))
+    Ok(walk.leaves)
 }
 
 #[tactic(auto, using(pc_model::proofs::FewNames::have_few_names))]
@@ -145,7 +139,7 @@ fn rule_of(node: &CutNode) -> u8
     ensures { result ≡ rule_of_cut node.now }
 {
     match node {
-        CutNode::Inner { .. } => 3,
-        CutNode::Leaf { .. } => 4,
+        CutNode::Inner { .. } => CUTS,
+        CutNode::Leaf { .. } => LEAVES,
     }
 }

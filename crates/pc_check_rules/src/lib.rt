@@ -6,12 +6,13 @@ mod cells;
 mod cuts;
 mod ends;
 mod extreme;
-mod finding;
 mod fractions;
 mod gains;
+mod halt;
 mod numbers;
 mod programs;
 mod ratios;
+mod rules;
 mod scene;
 mod settled;
 mod shown;
@@ -21,8 +22,12 @@ mod trees;
 mod walk;
 
 pub use cells::{GatheredCell, cells_of};
-pub use cuts::{CutFinding, judge_cuts};
+pub use cuts::judge_cuts;
 pub use ends::{judge_high, judge_low};
-pub use finding::ProofFinding;
+pub use halt::Halt;
+pub use rules::{
+    CUTS, HIGH_ENDS, LACKS, LEAVES, LOW_ENDS, MULTIPLIERS, NAMES_AND_TREES, POSSIBLE_RUNS,
+    RELATIONS, SPLITS, VALUES_OF_RUNS,
+};
 pub use scene::Scene;
 pub use statements::{judge_always, judge_never, judge_why};

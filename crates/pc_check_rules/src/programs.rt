@@ -1,11 +1,10 @@
 ghost use Rattle.std.specs.Prelude.{◌≡◌, length, map, IfOk};
 ghost use Rattle.pc_program_bound.specs.Allocation.{IsProgram};
-ghost use Rattle.pc_proof.specs.Setting.{Setting, on_chosen, program_for};
 ghost use Rattle.pc_proof.specs.Table.{ratio_of};
 ghost use Rattle.pc_check_rules.specs.declared.cells.GatheredCell.{GatheredCell};
-ghost use Rattle.pc_check_rules.specs.Scene.{AreLimited, IsSceneOf};
+ghost use Rattle.pc_check_rules.specs.Scene.{AreLimited};
 ghost use Rattle.pc_check_rules.specs.Fractions.{IsMeasured};
-ghost use Rattle.pc_check_rules.specs.Programs.{chosen_gain, gain_towards, open_caps, program_on, program_towards, table_program, with_closed};
+ghost use Rattle.pc_check_rules.specs.Programs.{IsProgramIn, chosen_gain, chosen_program, end_program, even_program, gain_towards, open_caps, program_on, program_towards, with_closed};
 
 use crate::cells::GatheredCell;
 use crate::extreme::Extreme;
@@ -27,7 +26,7 @@ pub(crate) fn program_towards(
 ) -> Result<Program, Memory>
     requires limited { AreLimited scene.now.constraints.now }
     requires measured { IsMeasured value.now }
-    ensures program { IfOk result (λ p. (s : Setting) → IsSceneOf scene.now s → p ≡ table_program extreme s scene.now.agg (ratio_of value.now)) }
+    ensures program { IfOk result (IsProgramIn scene.now (end_program extreme scene.now.agg value.now)) }
     ensures is_program { IfOk result IsProgram }
 {
     made_towards(alloc, scene, extreme, value)
@@ -122,7 +121,7 @@ fn open_caps(
 /// The program with the same gain for each cell.
 pub(crate) fn even_program(alloc: Global, scene: &Scene<'_>, gain: i128) -> Result<Program, Memory>
     requires limited { AreLimited scene.now.constraints.now }
-    ensures program { IfOk result (λ p. (s : Setting) → IsSceneOf scene.now s → p ≡ program_for s (λ class. gain)) }
+    ensures program { IfOk result (IsProgramIn scene.now (even_program gain)) }
     ensures is_program { IfOk result IsProgram }
 {
     let gains = vec![in alloc; gain; scene.cells.len()]?;
@@ -136,7 +135,7 @@ pub(crate) fn chosen_program(
     gain: i128,
 ) -> Result<Program, Memory>
     requires limited { AreLimited scene.now.constraints.now }
-    ensures program { IfOk result (λ p. (s : Setting) → IsSceneOf scene.now s → p ≡ program_for s (on_chosen (λ class. gain))) }
+    ensures program { IfOk result (IsProgramIn scene.now (chosen_program gain)) }
     ensures is_program { IfOk result IsProgram }
 {
     let gains = chosen_gains(alloc, scene.cells, gain)?;

@@ -1,9 +1,10 @@
-ghost use Rattle.std.specs.Prelude.{◌≤◌, ◌^◌, ◌↔◌, ◌⊎◌, nat_abs, IfSome, IsSomeAnd, IsTrue};
+ghost use Rattle.std.specs.Prelude.{◌≤◌, ◌^◌, ◌↔◌, nat_abs, IfSome, IsSomeAnd, IsTrue};
 ghost use Rattle.pc_model.specs.Aggregate.{whole, IsAtMost};
 ghost use Rattle.pc_proof.specs.Table.{ratio_of};
+ghost use Rattle.pc_check_rules.specs.declared.extreme.Extreme.TheVariants.{High, Low};
 ghost use Rattle.pc_check_rules.specs.Fractions.{IsMeasured};
 ghost use Rattle.pc_check_rules.specs.Scene.{IsCounted};
-ghost use Rattle.pc_check_rules.specs.Shown.{IsSmall, EndAt, HighAt, LowAt, RatioAt, RowsAt, ValuesAt, counted, greatest_on, least_on, raised_at, lowered_at};
+ghost use Rattle.pc_check_rules.specs.Shown.{EndShows, HighAt, IsSmall, LowAt, RatioShows, RowsAt, ValuesShow, counted};
 
 use crate::bounds::{
     counted, is_forced, is_none_left, is_none_over, is_small, is_total_from, is_total_within,
@@ -26,7 +27,7 @@ pub(crate) fn tree_shows(
 ) -> bool
     requires seen { IsCounted scene.now.seen }
     requires measured { IsMeasured value.now }
-    ensures { IsTrue result ↔ (IsSmall most × EndAt extreme scene.now.agg scene.now.seen (ratio_of value.now) (counted most)) }
+    ensures { IsTrue result ↔ (IsSmall most × EndShows extreme scene.now value.now (counted most)) }
 {
     if !is_small(most) {
         return false;
@@ -38,7 +39,7 @@ fn end_at(scene: &Scene<'_>, extreme: Extreme, value: &Frac, bound: Option<i128>
     requires seen { IsCounted scene.now.seen }
     requires measured { IsMeasured value.now }
     requires small { IfSome bound (λ k. nat_abs k ≤ 10 ^ 37) }
-    ensures { IsTrue result ↔ EndAt extreme scene.now.agg scene.now.seen (ratio_of value.now) bound }
+    ensures { IsTrue result ↔ EndShows extreme scene.now value.now bound }
 {
     match extreme {
         Extreme::Low => low_at(scene.agg, &scene.seen, value, bound),
@@ -136,7 +137,7 @@ pub(crate) fn rows_show(scene: &Scene<'_>, extreme: Extreme, value: &Frac) -> bo
 /// Whether the numbers that rows can have show a value to be an end of the average.
 pub(crate) fn values_show(scene: &Scene<'_>, extreme: Extreme, value: &Frac) -> bool
     requires measured { IsMeasured value.now }
-    ensures { IsTrue result ↔ ValuesAt extreme scene.now.agg scene.now.cells.now scene.now.seen (ratio_of value.now) }
+    ensures { IsTrue result ↔ ValuesShow extreme scene.now value.now }
 {
     match (extreme, scene.agg) {
         (Extreme::High, Agg::Avg) => is_there_within(greatest_number(scene), value),
@@ -156,7 +157,7 @@ pub(crate) fn ratio_shows(
     requires seen { IsCounted scene.now.seen }
     requires measured { IsMeasured value.now }
     requires ratio { IsMeasured ratio.now }
-    ensures { IsTrue result ↔ (IsSmall most × RatioAt extreme scene.now.cells.now scene.now.seen (ratio_of value.now) (ratio_of ratio.now) (counted most)) }
+    ensures { IsTrue result ↔ (IsSmall most × RatioShows extreme scene.now value.now ratio.now (counted most)) }
 {
     if !is_small(most) {
         return false;
@@ -173,7 +174,7 @@ fn ratio_shows_high(scene: &Scene<'_>, value: &Frac, ratio: &Frac, bound: Option
     requires measured { IsMeasured value.now }
     requires ratio { IsMeasured ratio.now }
     requires small { IfSome bound (λ k. nat_abs k ≤ 10 ^ 37) }
-    ensures { IsTrue result ↔ IsSomeAnd (greatest_on scene.now.cells.now scene.now.seen.greatest) (λ g. IsAtMost (raised_at scene.now.seen (ratio_of ratio.now) bound) (ratio_of value.now) ⊎ IsAtMost (whole g) (ratio_of value.now)) }
+    ensures { IsTrue result ↔ RatioShows High scene.now value.now ratio.now bound }
 {
     let greatest = greatest_number(scene);
     if is_there_within(greatest, value) {
@@ -190,7 +191,7 @@ fn ratio_shows_low(scene: &Scene<'_>, value: &Frac, ratio: &Frac, bound: Option<
     requires measured { IsMeasured value.now }
     requires ratio { IsMeasured ratio.now }
     requires small { IfSome bound (λ k. nat_abs k ≤ 10 ^ 37) }
-    ensures { IsTrue result ↔ IsSomeAnd (least_on scene.now.cells.now scene.now.seen.least) (λ m. IsAtMost (ratio_of value.now) (lowered_at scene.now.seen (ratio_of ratio.now) bound) ⊎ IsAtMost (ratio_of value.now) (whole m)) }
+    ensures { IsTrue result ↔ RatioShows Low scene.now value.now ratio.now bound }
 {
     let least = least_number(scene);
     if is_there_from(least, value) {

@@ -6,20 +6,14 @@ ghost use Rattle.pc_program_bound.specs.SplitTrees.{IsInPreorder, greater};
 ghost use Rattle.pc_proof.specs.Form.{IsFormedNode};
 ghost use Rattle.pc_check_rules.specs.Walk.{IsTreeFinding, IsStanding, IsStep, HasLeft, at_root, in_less, in_more, with_bound, rule_number};
 
+use crate::halt::Halt;
+use crate::rules::{MULTIPLIERS, SPLITS};
 use crate::tree_line::{Corner, Finding, judge_line};
 use pc_list::Seq;
 use pc_model::TreeNode;
 use pc_num::Memory;
 use pc_program_bound::Program;
 use std::alloc::Global;
-
-/// What is found of the lines of a search tree: the first one that breaks its rule, or else the greatest bound of the
-/// leaves, which is none where all of them are void.
-#[derive(Clone, Copy, Debug, PartialEq, Eq)]
-pub(crate) enum TreeFinding {
-    Broken { line: u64, rule: u8 },
-    Bounded(Option<i128>),
-}
 
 /// A split of which the walk is in one part. Behind the lesser part the cap of the cell is put back, and the floor is
 /// where the greater part begins; behind the greater part the floor is put back.
@@ -38,32 +32,32 @@ struct Walk {
     most: Option<i128>,
 }
 
-/// The first line of a search tree that breaks its rule, or the bound that the tree shows. `line` is the number of its
-/// first line.
+/// The bound that a search tree shows, which is the greatest one of its leaves, and none where all of them are void.
+/// `line` is the number of its first line.
 pub(crate) fn judge_tree(
     alloc: Global,
     program: &Program,
     nodes: &[TreeNode],
     line: u64,
-) -> Result<TreeFinding, Memory>
+) -> Result<Option<i128>, Halt>
     requires program { IsProgram program.now }
     requires preorder { IsInPreorder nodes.now }
     requires fits { All IsFormedNode nodes.now }
     requires few { line + length nodes.now < 2 ^ 64 }
-    ensures { IfOk result (IsTreeFinding line program.now nodes.now) }
+    ensures { IsTreeFinding line program.now nodes.now result }
 {
     let plain = without_gain(alloc, program)?;
     let mut walk = Walk::at_root(alloc, program)?;
     for (place, node) in nodes.iter().enumerate() {
         let Some(further) = walk.step(program, &plain, node)? else {
-            return Ok(TreeFinding::Broken {
+            return Err(Halt::Broken {
                 line: line + place as u64,
                 rule: rule_number(node),
             });
         };
         walk = further;
     }
-    Ok(TreeFinding::Bounded(walk.most))
+    Ok(walk.most)
 }
 
 impl Walk {
@@ -223,9 +217,9 @@ fn rule_number(node: &TreeNode) -> u8
     ensures { result ≡ rule_number node.now }
 {
     match node {
-        TreeNode::Split { .. } => 7,
-        TreeNode::Bound { .. } => 8,
-        TreeNode::Void { .. } => 8,
+        TreeNode::Split { .. } => SPLITS,
+        TreeNode::Bound { .. } => MULTIPLIERS,
+        TreeNode::Void { .. } => MULTIPLIERS,
     }
 }
 
