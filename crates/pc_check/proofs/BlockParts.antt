@@ -1,5 +1,5 @@
 -- The verdict on a block by its parts: the name, the tree, and the answer.
-use Rattle.std.proofs.Common.{◌≡◌, ℕ, ◌+◌, List, ◌++◌, length, All, Option, Some, None, refl, sym, ap, arith}
+use Rattle.std.proofs.Common.{◌≡◌, ℕ, ◌+◌, List, ◌++◌, length, All, Option, Some, None, Result, Err, refl, sym, ap, arith}
 use Rattle.std.proofs.lemmas.List.Elements.{All-nil}
 use Rattle.pc_model.specs.CutTrees.{shape_of, IsInPreorder}
 use Rattle.pc_cells_laws.proofs.Trees.{length-nodes}
@@ -13,11 +13,11 @@ use Rattle.pc_proof.specs.Counts.{tree_count, block_count}
 use Rattle.pc_proof.specs.Demands.{Placed, Holds, TreeLines, Judges, allowed, name_demands, front_lines, cells_demands, tree_lines, relation_line, block_demands, next_line}
 use Rattle.pc_proof.specs.Documents.{lines_of}
 use Rattle.pc_proof.proofs.Parts.{one-holds}
-use Rattle.pc_check_rules.proofs.Verdicts.{judges-front, judges-back}
-use Rattle.pc_check.specs.declared.verdict.Verdict.{Verdict}
-use Rattle.pc_check.specs.declared.verdict.Verdict.TheVariants as verdicts
+use Rattle.pc_check_rules.specs.declared.halt.Halt.{Halt}
+use Rattle.pc_check_rules.specs.Halts.{HaltsIn}
+use Rattle.pc_check_rules.proofs.Verdicts.{stops, goes_on}
 use Rattle.pc_check.specs.Blocks.{HasNodes}
-use Rattle.pc_check.specs.Verdicts.{Finds, spot_of, answer_demands}
+use Rattle.pc_check.specs.Verdicts.{Keeps, answer_demands}
 
 -- ---- lines
 
@@ -57,10 +57,9 @@ module _ (s : Setting) (kind : TreeLines) (line : ℕ) (answer : Answer) (held :
   abbrev answered : List Placed
   answered = answer_demands s (relation_line kind s line) answer
 
-  pub tree_broken : (at rule : ℕ) → Judges s tree (Some (at, rule)) → Finds s (block_demands kind s line answer) (verdicts.No at rule)
-  tree_broken at rule broken =
-      judges-back s names (tree ++ answered) (Some (at, rule)) (name_held s line s.question.name held) (judges-front s tree answered (at, rule) broken)
+  pub tree_broken : (halt : Halt) → HaltsIn s tree halt → Keeps s (block_demands kind s line answer) (Err halt)
+  tree_broken halt broken = goes_on s names (tree ++ answered) {X = Unit {0}} (λ kept. Unit {0}) (Err halt) (name_held s line s.question.name held) (stops s tree answered halt broken)
 
-  pub answer_judged : (verdict : Verdict) → Judges s tree None → Finds s answered verdict → Finds s (block_demands kind s line answer) verdict
-  answer_judged verdict settled judged =
-      judges-back s names (tree ++ answered) (spot_of verdict) (name_held s line s.question.name held) (judges-back s tree answered (spot_of verdict) settled judged)
+  pub answer_judged : (result : Result (Unit {0}) Halt) → Judges s tree None → Keeps s answered result → Keeps s (block_demands kind s line answer) result
+  answer_judged result settled judged =
+      goes_on s names (tree ++ answered) {X = Unit {0}} (λ kept. Unit {0}) result (name_held s line s.question.name held) (goes_on s tree answered {X = Unit {0}} (λ kept. Unit {0}) result settled judged)

@@ -18,15 +18,15 @@ use Rattle.pc_model.specs.Folds.{IsFold}
 use Rattle.pc_model.specs.Membership.{in_domain}
 use Rattle.pc_model.specs.WellFormed.{IsWellFormed}
 use Rattle.pc_proof.specs.declared.document.Block.{Block}
+use Rattle.pc_proof.specs.Documents.{Premises, setting_of}
 use Rattle.pc_proof.specs.Form.{IsFormedBlock}
-use Rattle.pc_proof.specs.Setting.{narrowed}
+use Rattle.pc_check.specs.Blocks.{region_for}
 use Rattle.pc_proof.specs.Unbroken.{AllowsName}
 use Rattle.pc_proof.proofs.Observing.{comes}
 use Rattle.pc_proof.proofs.SeenSums.{seen_small}
 use Rattle.pc_check_rules.specs.Cells.{cells_from}
 use Rattle.pc_check_rules.specs.Scene.{AreLimited, IsCounted, HasMeasure}
 use Rattle.pc_check.specs.declared.matter.Matter.{Matter}
-use Rattle.pc_check.specs.Blocks.{setting_in}
 use Rattle.pc_check.specs.Verdicts.{IsMatterOf}
 
 -- ---- sizes
@@ -59,23 +59,23 @@ measure_there schema Min column measured = is_there ℕ (IsColumnWhere IsNumeric
 measure_there schema Max column measured = is_there ℕ (IsColumnWhere IsNumeric schema) column measured
 measure_there schema Avg column measured = is_there ℕ (IsColumnWhere IsNumeric schema) column measured
 
-module _ (schema : Schema) (rows : List Row) (constraints : List Constraint) (block : Block) where
+module _ (case : Premises) (block : Block) where
   -- the cells and the fold that the code has, and the query over the region that it keeps
   pub record IsMadeOf (region : Region) (leaves : List Leaf) (matter : Matter) : Type 0 where
-    pub schema_is : matter.schema.now ≡ schema
+    pub schema_is : matter.schema.now ≡ case.schema
     pub asked_is : matter.asked.now ≡ record { agg = block.query.agg; column = block.query.column; chosen = region; group = None }
-    pub region_is : region ≡ narrowed block.query.chosen block.query.group block.name
-    pub constraints_are : matter.scene.constraints.now ≡ constraints
+    pub region_is : region ≡ region_for block
+    pub constraints_are : matter.scene.constraints.now ≡ case.constraints
     pub cells_are : matter.scene.cells.now ≡ cells_from (unwrap_or block.query.column 0) leaves
     pub agg_is : matter.scene.agg ≡ block.query.agg
-    pub folded : IsFold block.query block.name rows matter.scene.seen
+    pub folded : IsFold block.query block.name case.observed matter.scene.seen
 
   abbrev asked_over : Region → Query
   asked_over region = record { agg = block.query.agg; column = block.query.column; chosen = region; group = None }
 
-  pub matter_of : (region : Region) (leaves : List Leaf) (matter : Matter) (nodes : List CutNode) → IsWellFormed schema → IsFormedBlock schema block
-      → AllowsName block.query.chosen block.query.group block.name → IsMadeOf region leaves matter → leaves ≡ leaves_in schema nodes
-      → IsMatterOf matter (setting_in schema rows constraints block nodes)
+  pub matter_of : (region : Region) (leaves : List Leaf) (matter : Matter) (nodes : List CutNode) → IsWellFormed case.schema → IsFormedBlock case.schema block
+      → AllowsName block.query.chosen block.query.group block.name → IsMadeOf region leaves matter → leaves ≡ leaves_in case.schema nodes
+      → IsMatterOf matter (setting_of case block nodes)
   matter_of region leaves matter nodes formed block_formed allowed made same = record {
     schema_is = sym made.schema_is;
     asked_is = ap asked_over (sym made.region_is) ∙ sym made.asked_is;
@@ -83,8 +83,8 @@ module _ (schema : Schema) (rows : List Row) (constraints : List Constraint) (bl
       constraints_are = sym made.constraints_are;
       cells_are = made.cells_are ∙ ap (cells_from (unwrap_or block.query.column 0)) same;
       agg_is = sym made.agg_is;
-      comes_to = comes (setting_in schema rows constraints block nodes).question matter.scene.seen made.folded;
-      measured = measure_there schema block.query.agg block.query.column block_formed.query.measured;
+      comes_to = comes (setting_of case block nodes).question matter.scene.seen made.folded;
+      measured = measure_there case.schema block.query.agg block.query.column block_formed.query.measured;
     };
     posed = record { formed = formed; query = block_formed.query };
     named = block_formed.named;

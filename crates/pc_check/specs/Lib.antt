@@ -1,4 +1,4 @@
 pub mod Blocks
-pub mod Statements
+pub mod Premises
 pub mod Totals
 pub mod Verdicts

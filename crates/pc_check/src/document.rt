@@ -1,19 +1,23 @@
-ghost use Rattle.std.specs.Prelude.{◌≡◌, ◌+◌, ◌<◌, ◌^◌, All, IfOk, IfSome, None, Ok, option_copied};
+ghost use Rattle.std.specs.Prelude.{◌≡◌, ◌+◌, ◌<◌, ◌^◌, List, All, IfOk, IfSome, None, Ok, option_copied};
 ghost use Rattle.std.specs.List.{AllPass};
 ghost use Rattle.pc_model.specs.Accepted.{AreConstraints};
 ghost use Rattle.pc_model.specs.CutTrees.{IsInPreorder};
 ghost use Rattle.pc_model.specs.Membership.{in_domain};
 ghost use Rattle.pc_model.specs.WellFormed.{IsWellFormed};
 ghost use Rattle.pc_proof.specs.Counts.{block_count, blocks_count};
-ghost use Rattle.pc_proof.specs.Documents.{AreRight, Premises, nodes_after};
+ghost use Rattle.pc_proof.specs.declared.document.Block.{Block};
+ghost use Rattle.pc_proof.specs.Documents.{AreRight, Premises as Case, nodes_after, premises_of};
 ghost use Rattle.pc_proof.specs.Form.{IsFormedBlock, IsInForm};
 ghost use Rattle.pc_check.specs.declared.verdict.Verdict.TheVariants.{Yes};
 ghost use Rattle.pc_check.specs.Blocks.{FindsIn, HasNodes};
-ghost use Rattle.pc_check.specs.Verdicts.{IsVerdictOn, premises_of};
+ghost use Rattle.pc_check.specs.Premises.{ArePremises, case_of};
+ghost use Rattle.pc_check.specs.Verdicts.{IsFound, IsVerdictOn};
 
 use crate::block::{allows_name, judge_block};
 use crate::line_counts::{block_count, front_lines};
+use crate::premises::Premises;
 use crate::verdict::Verdict;
+use pc_check_rules::{Halt, NAMES_AND_TREES};
 use pc_model::{Constraint, CutNode, Schema};
 use pc_num::Memory;
 use pc_proof::{Block, BlockTree, Document};
@@ -37,37 +41,41 @@ pub fn check(
     ensures verdict { IfOk result (IsVerdictOn (premises_of schema.now rows.now constraints.now) doc.now.blocks) }
     ensures right { result ≡ Ok Yes → AreRight (premises_of schema.now rows.now constraints.now) doc.now.blocks }
 {
-    judge_blocks(alloc, schema, rows, constraints, doc.blocks.as_slice())
+    let premises = Premises {
+        schema,
+        rows,
+        constraints,
+    };
+    verdict_of(judge_blocks(alloc, &premises, doc.blocks.as_slice()))
 }
 
-/// The verdict on the blocks of a document.
-fn judge_blocks(
-    alloc: Global,
-    schema: &Schema,
-    rows: &Rows,
-    constraints: &[Constraint],
-    blocks: &[Block],
-) -> Result<Verdict, Memory>
-    requires well_formed { IsWellFormed schema.now }
-    requires observed { AllPass (in_domain schema.now) rows.now }
-    requires accepted { AreConstraints schema.now constraints.now }
-    requires formed { All (IsFormedBlock schema.now) blocks.now }
+/// The verdict that the blocks of a document come to, where there was memory to try them.
+fn verdict_of(found: Result<(), Halt>) -> Result<Verdict, Memory>
+    ensures { (case : Case) (blocks : List Block) → IsFound case blocks found → IfOk result (IsVerdictOn case blocks) }
+{
+    match found {
+        Ok(()) => Ok(Verdict::Yes),
+        Err(Halt::Broken { line, rule }) => Ok(Verdict::No { line, rule }),
+        Err(Halt::Memory) => Err(Memory),
+    }
+}
+
+/// Tries the blocks of a document.
+fn judge_blocks(alloc: Global, premises: &Premises<'_>, blocks: &[Block]) -> Result<(), Halt>
+    requires premises { ArePremises premises.now }
+    requires formed { All (IsFormedBlock premises.now.schema.now) blocks.now }
     requires few_lines { 2 + blocks_count blocks.now < 2 ^ 64 }
-    ensures { IfOk result (IsVerdictOn (premises_of schema.now rows.now constraints.now) blocks.now) }
+    ensures { IsFound (case_of premises.now) blocks.now result }
 {
     let mut line = 2;
     let mut before = None;
     for block in blocks {
         let nodes = nodes_after(before, &block.tree);
-        match judge_next(alloc, schema, rows, constraints, block, nodes, line)? {
-            Verdict::No { line, rule } => return Ok(Verdict::No { line, rule }),
-            Verdict::Yes => {
-                line += block_count(block);
-                before = nodes;
-            }
-        }
+        judge_next(alloc, premises, block, nodes, line)?;
+        line += block_count(block);
+        before = nodes;
     }
-    Ok(Verdict::Yes)
+    Ok(())
 }
 
 /// The nodes of a block's tree: its own, or those of the block before, where there is one.
@@ -80,44 +88,40 @@ fn nodes_after<'a>(before: Option<&'a [CutNode]>, tree: &'a BlockTree) -> Option
     }
 }
 
-/// The verdict on a block with the nodes of its tree, if there are any.
+/// Tries a block with the nodes of its tree, if there are any.
 fn judge_next(
     alloc: Global,
-    schema: &Schema,
-    rows: &Rows,
-    constraints: &[Constraint],
+    premises: &Premises<'_>,
     block: &Block,
     nodes: Option<&[CutNode]>,
     line: u64,
-) -> Result<Verdict, Memory>
-    requires well_formed { IsWellFormed schema.now }
-    requires observed { AllPass (in_domain schema.now) rows.now }
-    requires accepted { AreConstraints schema.now constraints.now }
-    requires formed { IsFormedBlock schema.now block.now }
+) -> Result<(), Halt>
+    requires premises { ArePremises premises.now }
+    requires formed { IsFormedBlock premises.now.schema.now block.now }
     requires preorder { IfSome (option_copied nodes) IsInPreorder }
     requires nodes_are { IfSome (option_copied nodes) (HasNodes block.now.tree) }
     requires few_lines { line + block_count block.now < 2 ^ 64 }
-    ensures { IfOk result (FindsIn (premises_of schema.now rows.now constraints.now) line block.now (option_copied nodes.entry)) }
+    ensures { FindsIn (case_of premises.now) line block.now (option_copied nodes.entry) result }
 {
     match nodes {
-        None => Ok(judge_treeless(block, line)),
-        Some(nodes) => judge_block(alloc, schema, rows, constraints, block, nodes, line),
+        None => judge_treeless(block, line),
+        Some(nodes) => judge_block(alloc, premises, block, nodes, line),
     }
 }
 
-/// The verdict on a block that names the tree of a block before, where there is none.
-fn judge_treeless(block: &Block, line: u64) -> Verdict
+/// A block that names the tree of a block before, where there is none, breaks a rule.
+fn judge_treeless(block: &Block, line: u64) -> Result<(), Halt>
     requires few_lines { line + block_count block.now < 2 ^ 64 }
-    ensures { (case : Premises) → FindsIn case line block.now None result }
+    ensures { (case : Case) → FindsIn case line block.now None result }
 {
     if !allows_name(&block.query.chosen, block.query.group, block.name) {
-        return Verdict::No {
+        return Err(Halt::Broken {
             line: line + 1,
-            rule: 2,
-        };
+            rule: NAMES_AND_TREES,
+        });
     }
-    Verdict::No {
+    Err(Halt::Broken {
         line: line + front_lines(block.name),
-        rule: 2,
-    }
+        rule: NAMES_AND_TREES,
+    })
 }

@@ -11,9 +11,9 @@ mod line_counts;
 mod lines;
 mod matter;
 mod observed;
+mod premises;
 mod relations;
 mod runs;
-mod statements;
 mod totals;
 mod verdict;
 

@@ -1,7 +1,6 @@
 ghost use Rattle.std.specs.Prelude.{◌≡◌, ◌+◌, ◌≤◌, ◌<◌, ◌^◌, ◌↔◌, ◌+ℤ◌, IsTrue, IsSome, IsSomeAnd, option_map};
 ghost use Rattle.pc_num.specs.Signs.{Fits};
 ghost use Rattle.pc_model.specs.Aggregate.{IsSame, whole};
-ghost use Rattle.pc_model.specs.Possible.{IsPossible};
 ghost use Rattle.pc_model.specs.Runs.{rows_of};
 ghost use Rattle.pc_proof.specs.Form.{IsFormedRatio, IsFormedValue, IsFormedWhole};
 ghost use Rattle.pc_proof.specs.Observed.{ComesTo};
@@ -9,7 +8,7 @@ ghost use Rattle.pc_proof.specs.Setting.{Setting};
 ghost use Rattle.pc_proof.specs.Table.{greater_of, lesser_of, ratio_of};
 ghost use Rattle.pc_check_rules.specs.Scene.{IsJudged};
 ghost use Rattle.pc_check.specs.Totals.{average_of, question_with, total_value};
-ghost use Rattle.pc_check.specs.Verdicts.{IsMatterOf};
+ghost use Rattle.pc_check.specs.Verdicts.{ArePossibleIn, IsMatterOf};
 
 use crate::matter::Matter;
 use pc_model::{Agg, Folded, Run, greatest_of, least_of};
@@ -19,7 +18,7 @@ use pc_witness::fold_runs;
 /// What the observed rows and the possible ones of the runs come to.
 pub(crate) fn total_with(matter: &Matter<'_>, runs: &[Run]) -> Folded
     requires judged { IsJudged matter.now.scene }
-    requires possible { IsPossible matter.now.schema.now matter.now.scene.constraints.now (rows_of runs.now) }
+    requires possible { ArePossibleIn matter.now runs.now }
     ensures few { result.count ≤ 2 ^ 37 }
     ensures fits { Fits result.sum }
     ensures comes { (s : Setting) → IsMatterOf matter.now s → ComesTo (question_with s.question (rows_of runs.now)) result }

@@ -1,24 +1,23 @@
 use Rattle.std.proofs.Common.{refl, ◌∙◌}
-use Rattle.std.proofs.lemmas.Result.{IfOk-weaker}
-use Rattle.pc_check.specs.Blocks.{setting_in}
+use Rattle.pc_proof.specs.Documents.{setting_of}
+use Rattle.pc_check.specs.Premises.{case_of}
 use Rattle.pc_check.proofs.Matters.{limited, counted, matter_of}
 use Rattle.pc_check.proofs.block.judge_cells.Goals as goal
 
 pub judge_answer-requires-clause-judged : goal.judge_answer-requires-clause-judged
-judge_answer-requires-clause-judged c = record {
-  limited = limited c.args.schema.now c.args.constraints.now c.requires.accepted;
-  counted = counted c.args.schema.now c.args.block.now.query c.args.rows.now c.args.block.now.name c.in_ok-seen.seen c.requires.well_formed c.requires.observed c.in_ok-seen.ensures.folded c.in_ok-seen.ensures.few;
-}
+judge_answer-requires-clause-judged c =
+    let premises = c.args.premises.now in
+    let given = c.requires.premises in
+    record {
+      limited = limited premises.schema.now premises.constraints.now given.accepted;
+      counted = counted premises.schema.now c.args.block.now.query premises.rows.now c.args.block.now.name c.in_ok-seen.seen given.formed given.observed c.in_ok-seen.ensures.folded c.in_ok-seen.ensures.few;
+    }
 
 pub returns : goal.returns
-returns c =
-    let schema = c.args.schema.now in
-    let rows = c.args.rows.now in
-    let constraints = c.args.constraints.now in
-    let block = c.args.block.now in
-    IfOk-weaker c.judge_answer.result _ _
-    (λ verdict judged nodes same. judged (setting_in schema rows constraints block nodes)
-    (matter_of schema rows constraints block c.args.region c.args.leaves.now _ nodes c.requires.well_formed c.requires.formed c.requires.allowed
+returns c = λ nodes same.
+    let case = case_of c.args.premises.now in
+    c.judge_answer.ensures (setting_of case c.args.block.now nodes)
+    (matter_of case c.args.block.now c.args.region c.args.leaves.now _ nodes c.requires.premises.formed c.requires.formed c.requires.allowed
     (record {
       schema_is = refl;
       asked_is = refl;
@@ -27,5 +26,4 @@ returns c =
       cells_are = c.as_slice.ensures ∙ c.in_ok-cells.ensures.cells;
       agg_is = refl;
       folded = c.in_ok-seen.ensures.folded;
-    }) same))
-    c.judge_answer.ensures
+    }) same)
