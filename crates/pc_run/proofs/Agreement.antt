@@ -7,7 +7,7 @@ use Rattle.pc_base.specs.declared.status.Status.TheVariants as ended
 use Rattle.pc_base.specs.Files.{Files}
 use Rattle.pc_rows.specs.declared.case.Case.{Case}
 use Rattle.pc_proof.specs.declared.document.Document.{Document}
-use Rattle.pc_proof.specs.Documents.{Premises, AreUnbroken, IsFirstBrokenIn}
+use Rattle.pc_proof.specs.Documents.{Premises, AreUnbroken, IsFirstBrokenIn, premises_of}
 use Rattle.pc_proof.proofs.DocumentLines.{document-whole}
 use Rattle.pc_document_lines.proofs.AllLines.{all_lines}
 use Rattle.pc_document.specs.DocumentLines.{document_text}
@@ -17,10 +17,9 @@ use Rattle.pc_check.specs.declared.verdict.Verdict.{Verdict}
 use Rattle.pc_check.specs.declared.verdict.Verdict.TheVariants as verdicts
 use Rattle.pc_run_words.specs.Words.{Asked, CheckNames, check, command_of}
 use Rattle.pc_run.specs.declared.claim.Claim.{Claim}
-use Rattle.pc_run.specs.Answers.{premises_in}
 use Rattle.pc_run.specs.Outcome.{Obstacle, Input, claims, as_input, refused, absent, claim_under, ComesTo, AreAccepted}
 use Rattle.pc_run.specs.Reports.{usage_line}
-use Rattle.pc_run.specs.Replies.{BreaksFirst, BreaksRule, HasVerdict, IsCheckable, IsNoDocument, IsSoundInput, RepliesTo, RepliesToCommand, Responds, Says, SaysFault, SaysInput, SaysOutcome, SaysProof, SaysVerdict, SpellsUnbroken, premises_for, status_of}
+use Rattle.pc_run.specs.Replies.{BreaksFirst, BreaksRule, HasVerdict, IsCheckable, IsNoDocument, IsSoundInput, RepliesTo, RepliesToCommand, Responds, Says, SaysFault, SaysInput, SaysOutcome, SaysProof, SaysVerdict, SpellsUnbroken, status_of}
 use Rattle.pc_run.specs.Meaning.{Call, ChecksClaim, IsAnswerable, IsDoneUnlessMemory, IsProved, Means, SaysNoUnlessMemory}
 use Rattle.pc_run.proofs.Answering.{answers, same_names}
 
@@ -30,8 +29,9 @@ module _ (claim : Claim) (sound : IsCheckable claim) (spells : SpellsUnbroken cl
   not_broken : (line rule : ℕ) → BreaksRule claim line rule → ⊥
   not_broken line rule broken =
       let same = only_document claim.schema claim.bytes broken.document spells.document (all_lines claim.schema sound.well_formed) broken.spelled spells.spelled in
-      document-whole (premises_for claim) None 2 line rule spells.document.blocks
-      (subst (λ (document : Document). IsFirstBrokenIn (premises_for claim) None 2 line rule document.blocks) same broken.first) spells.unbroken
+      let premises = premises_of claim.schema claim.rows claim.constraints in
+      document-whole premises None 2 line rule spells.document.blocks
+      (subst (λ (document : Document). IsFirstBrokenIn premises None 2 line rule document.blocks) same broken.first) spells.unbroken
 
   breaks_none : (line rule : ℕ) → BreaksFirst claim line rule → ⊥
   breaks_none line rule breaks =
@@ -46,7 +46,8 @@ text_is nodes case bytes proof = (proof.answers.formed, sym proof.proved)
 
 spells_proof : (claim : Claim) → IsProved claim → SpellsUnbroken claim
 spells_proof claim is =
-    let same : ◌≡◌ {A = Premises} (record { schema = claim.schema; observed = claim.rows; constraints = claim.constraints }) (premises_in is.case) = rw (is.same_schema, is.same_rows, is.same_constraints) refl in
+    let same : premises_of claim.schema claim.rows claim.constraints ≡ premises_of is.case.schema is.case.rows is.case.constraints
+    = rw (is.same_schema, is.same_rows, is.same_constraints) refl in
     record {
       document = is.proof.document;
       spelled = subst (λ (schema : Schema). IsDocumentText schema claim.bytes is.proof.document) (sym is.same_schema) (text_is is.nodes is.case claim.bytes is.proof);

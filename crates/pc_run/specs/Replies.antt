@@ -13,7 +13,7 @@ use Rattle.pc_base.specs.Counts.{Rose}
 use Rattle.pc_base.specs.Files.{Files, IsAbsent}
 use Rattle.pc_proof.specs.declared.document.Document.{Document}
 use Rattle.pc_proof.specs.declared.document.Block.{Block}
-use Rattle.pc_proof.specs.Documents.{Premises, AreRight, AreUnbroken, IsFirstBrokenIn}
+use Rattle.pc_proof.specs.Documents.{AreRight, AreUnbroken, IsFirstBrokenIn, premises_of}
 use Rattle.pc_proof.specs.Unbroken.{plain_relation}
 use Rattle.pc_document.specs.DocumentLines.{document_text}
 use Rattle.pc_document.specs.Told.{IsDocumentText, IsFaultLine}
@@ -102,27 +102,24 @@ pub record SaysProof (nodes : ℕ) (case : Case) (text : List ℕ) : Type 0 wher
 
 -- ---- the verdict on a document
 
-abbrev pub premises_for : Claim → Premises
-premises_for claim = record { schema = claim.schema; observed = claim.rows; constraints = claim.constraints }
-
 -- the bytes are the text of a document that breaks no rule
 pub record SpellsUnbroken (claim : Claim) : Type 0 where
   pub document : Document
   pub spelled : IsDocumentText claim.schema claim.bytes document
-  pub unbroken : AreUnbroken (premises_for claim) None document.blocks
+  pub unbroken : AreUnbroken (premises_of claim.schema claim.rows claim.constraints) None document.blocks
 
 -- the bytes are the text of a document that breaks no rule, and each of its blocks is right
 pub record IsUnbrokenText (claim : Claim) : Type 0 where
   pub document : Document
   pub spelled : IsDocumentText claim.schema claim.bytes document
-  pub unbroken : AreUnbroken (premises_for claim) None document.blocks
-  pub right : AreRight (premises_for claim) document.blocks
+  pub unbroken : AreUnbroken (premises_of claim.schema claim.rows claim.constraints) None document.blocks
+  pub right : AreRight (premises_of claim.schema claim.rows claim.constraints) document.blocks
 
 -- this line of the document that the bytes spell is the first that breaks a rule, which this is
 pub record BreaksRule (claim : Claim) (line rule : ℕ) : Type 0 where
   pub document : Document
   pub spelled : IsDocumentText claim.schema claim.bytes document
-  pub first : IsFirstBrokenIn (premises_for claim) None 2 line rule document.blocks
+  pub first : IsFirstBrokenIn (premises_of claim.schema claim.rows claim.constraints) None 2 line rule document.blocks
 
 -- the bytes are the text of no document, and this is the line of the first fault
 pub record IsNoDocument (claim : Claim) (line rule : ℕ) : Type 0 where
