@@ -162,7 +162,7 @@ module _ (schema : Schema) (constraints : List Constraint) (query : Query) (seen
         by_test true e = crosses observed refl e
         by_test false e =
             owes_both schema constraints query seen nodes formed limited tree budget asking found lawful is.low_end is.high_end low_done high_done (relation_from low.picks found) is.lack
-            (relation_may low.picks found) (relation_is u budget low.picks found rows totals) lack_is
+            (relation_may low.picks found) (relation_is u budget low.picks found rows totals) lack_is e
             (λ disjoint.
             let all = sure disjoint in (
               relation_decided low.picks found (listed disjoint),

@@ -16,6 +16,7 @@ use Rattle.pc_model.specs.WellFormed.{IsWellFormed}
 use Rattle.pc_agg_search.specs.Easy.{IsEasy}
 use Rattle.pc_model.specs.Cells.{IsSettledTree, AreSettled}
 use Rattle.pc_model.specs.Right.{ArePossible, always_has_value}
+use Rattle.pc_model.specs.Runs.{rows_of}
 use Rattle.pc_model.specs.Right as plain
 use Rattle.pc_proof.specs.declared.answer.Why.{Why}
 use Rattle.pc_proof.specs.declared.answer.Why.TheVariants as whys
@@ -50,10 +51,13 @@ use Rattle.pc_agg.specs.Marks.{IsAim, IsAmong}
 use Rattle.pc_agg.specs.Owed.{Owes, OwesSettled, answer_of, HasEnds, CanGive, IsGiving, MayGiveOne, LeavesLack}
 use Rattle.pc_agg_search.specs.Settings.{unseen}
 use Rattle.pc_agg.specs.Settling.{IsListed, IsUnlisted, IsOfCells, IsRelation, IsSettled}
+use Rattle.pc_proof.proofs.Lacks.{always_some}
+use Rattle.pc_proof.proofs.Seen.{all_numbers}
+use Rattle.pc_proof.proofs.Shown.{given_ends}
 use Rattle.pc_agg_search.proofs.FormedAnswers.{formed_relation, formed_lack, formed_answer}
 use Rattle.pc_agg.proofs.Attained.{lawful_runs, counted_runs}
 use Rattle.pc_agg.proofs.Ending.{IsEndDone, IsDone, end_done, end_exact}
-use Rattle.pc_agg.proofs.Questions.{tree_for}
+use Rattle.pc_agg.proofs.Questions.{posed, tree_for}
 
 -- nothing shown has counts in an empty list
 none_among : (s : Setting) (answer : Answer) (found : List (List ℕ)) → found ≡ [] → ShownFrom s found answer → (P : List Run → Type 0) → All P (shown_runs answer)
@@ -264,6 +268,7 @@ module _ (schema : Schema) (constraints : List Constraint) (query : Query) (seen
     searched = record { relation = searched; lack = tt; low = tt; high = tt };
     formed = λ seen_rows. formed_answer s formed limited tree_at (impossible_by why) (impossible_form why) (impossible_unbroken why shows) (record { relation = fits seen_rows; lack = tt; ends = tt });
     sharp = λ disjoint. (record { decided = tt; ends = tt }, tt);
+    ordered = tt;
   }
 
   -- ---- both ends
@@ -294,6 +299,7 @@ module _ (schema : Schema) (constraints : List Constraint) (query : Query) (seen
     searched = record { relation = relation_searched found relation is; lack = searched; low = tt; high = tt };
     formed = λ seen_rows. formed_answer s formed limited tree_at (always_as relation by') form unbroken (record { relation = relation_fits found relation is; lack = fits seen_rows; ends = tt });
     sharp = λ disjoint. (record { decided = decided disjoint; ends = tt }, tt);
+    ordered = tt;
   }
     where
       form : HasForm s (always_as relation by')
@@ -333,11 +339,12 @@ module _ (schema : Schema) (constraints : List Constraint) (query : Query) (seen
             let there = subst (λ l. Contains l (counts_of_runs s runs)) (is.undecided refl) (All-head (IsThere found) runs [] from) in
             absurd (omega (arith, there.1))
 
-    -- the answer with these ends, of which nothing shown attains an outer one
+    -- the answer with these ends, which do not cross, and of which nothing shown attains an outer one
     pub owes_ends : (relation : Relation) (lack : Lack) → plain.is_impossible (plain_relation relation) ≡ false → IsRelationDone s budget found relation → IsLackDone s budget found lack →
+        IsAtMost (ratio_of low.value) (ratio_of high.value) →
         IfOuter low.mark (IsShown s (with_ends relation lack) (ratio_of low.value) → ⊥) → IfOuter high.mark (IsShown s (with_ends relation lack) (ratio_of high.value) → ⊥) →
         (IsEasy schema constraints → IsDecided relation × IsExact low.mark × IsExact high.mark × IsSettledLack lack) → Owes s budget (with_ends relation lack)
-    owes_ends relation lack may is done low_unshown high_unshown decided =
+    owes_ends relation lack may is done ordered low_unshown high_unshown decided =
         let shown = shown_from relation lack is done in
         record {
           form = form;
@@ -353,6 +360,7 @@ module _ (schema : Schema) (constraints : List Constraint) (query : Query) (seen
           searched = record { relation = is.searched; lack = done.searched; low = low_end.searched; high = high_end.searched };
           formed = λ seen_rows. formed_answer s formed limited tree_at (with_ends relation lack) form unbroken (record { relation = is.fits; lack = done.fits; ends = (low_end.fits seen_rows, high_end.fits seen_rows) });
           sharp = λ disjoint. let all = decided disjoint in (record { decided = all.0; ends = (all.1, all.2) }, all.3);
+          ordered = ordered;
         }
       where
         form : HasForm s (with_ends relation lack)
@@ -380,12 +388,16 @@ module _ (schema : Schema) (constraints : List Constraint) (query : Query) (seen
     abbrev both_ends : Relation → Lack → Answer
     both_ends relation lack = record { relation = relation; lack = lack; ends = Some (low, high) }
 
+    -- ends that do not cross
+    in_order : int_lt high.value.num low.value.num ≡ false → IsAtMost (ratio_of low.value) (ratio_of high.value)
+    in_order apart = rw (low_done.is_whole, high_done.is_whole) (omega (arith, ints, apart))
+
     pub owes_both : (relation : Relation) (lack : Lack) → plain.is_impossible (plain_relation relation) ≡ false → IsRelation u budget found relation → IsLackDone s budget found lack →
-        (IsEasy schema constraints → IsDecided relation × IsExact low.mark × IsExact high.mark × IsSettledLack lack) → Owes s budget (both_ends relation lack)
-    owes_both relation lack may is done decided =
+        int_lt high.value.num low.value.num ≡ false → (IsEasy schema constraints → IsDecided relation × IsExact low.mark × IsExact high.mark × IsSettledLack lack) → Owes s budget (both_ends relation lack)
+    owes_both relation lack may is done apart decided =
         let related = relation_done found relation lawful is in
         let shown = shown_from found low high low_done.base high_done.base relation lack related done in
-        owes_ends found low high low_done.base high_done.base relation lack may related done (low_done.unshown (both_ends relation lack) shown) (high_done.unshown (both_ends relation lack) shown) decided
+        owes_ends found low high low_done.base high_done.base relation lack may related done (in_order apart) (low_done.unshown (both_ends relation lack) shown) (high_done.unshown (both_ends relation lack) shown) decided
 
     -- ends that cross
     pub do_cross : int_lt high.value.num low.value.num ≡ true → EndsCross s (bounded_by low) (bounded_by high)
@@ -404,6 +416,19 @@ module _ (schema : Schema) (constraints : List Constraint) (query : Query) (seen
     pub crossing : HasValue s.question → int_lt high.value.num low.value.num ≡ true → Owes s budget (impossible_by (whys.Ends (bounded_by low) (bounded_by high)))
     crossing valued crossed = owes_impossible (whys.Ends (bounded_by low) (bounded_by high)) (do_cross crossed, valued) (low_done.base.searched, high_done.base.searched) both_fit
 
+    -- where a list is there its value lies between the ends
+    never_crossed : always_has_value query.agg ≡ true → (runs : List Run) → ArePossible s.question runs → (test : Bool) → int_lt high.value.num low.value.num ≡ test → int_lt high.value.num low.value.num ≡ false
+    never_crossed always runs possible false apart = apart
+    never_crossed always runs possible true crossed =
+        absurd (given_ends s (rows_of runs) (bounded_by low) (bounded_by high) (posed schema constraints query seen nodes formed asking) tree_at possible.are_possible
+        (always_some query.agg (all_numbers s.question (rows_of runs)) always) (do_cross crossed))
+
+    are_apart : (relation : Relation) → always_has_value query.agg ≡ true → plain.is_impossible (plain_relation relation) ≡ false → IsRelation u budget found relation →
+        (is_open relation && int_lt high.value.num low.value.num) ≡ false → int_lt high.value.num low.value.num ≡ false
+    are_apart (relations.Possible runs) always may is e = never_crossed always runs (listed_runs found runs lawful is).0 (int_lt high.value.num low.value.num) refl
+    are_apart (relations.Impossible why) always may is e = absurd (true≢false may)
+    are_apart relations.Undecided always may is e = e
+
     pub owes_between : (relation : Relation) → always_has_value query.agg ≡ true → plain.is_impossible (plain_relation relation) ≡ false → IsRelation u budget found relation →
         (IsEasy schema constraints → IsDecided relation × IsExact low.mark × IsExact high.mark) → Owes s budget (answer_between relation low high)
     owes_between relation always may is decided = by_test (is_open relation && int_lt high.value.num low.value.num) refl
@@ -411,7 +436,7 @@ module _ (schema : Schema) (constraints : List Constraint) (query : Query) (seen
         by_test : (test : Bool) → (is_open relation && int_lt high.value.num low.value.num) ≡ test →
             Owes s budget (cond test (impossible_by (whys.Ends (bounded_by low) (bounded_by high))) (both_ends relation lacks.Silent))
         by_test true e = crossing (inl always) (and_parts (is_open relation) (int_lt high.value.num low.value.num) e).1
-        by_test false e = owes_both relation lacks.Silent may is (silent_done found always) (λ disjoint. let all = decided disjoint in (all.0, all.1, all.2, tt))
+        by_test false e = owes_both relation lacks.Silent may is (silent_done found always) (are_apart relation always may is e) (λ disjoint. let all = decided disjoint in (all.0, all.1, all.2, tt))
 
   -- ---- an answer of a count or a sum
 

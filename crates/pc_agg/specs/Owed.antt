@@ -1,6 +1,7 @@
 -- What the answers of the calls owe.
-use Rattle.std.specs.Prelude.{◌≡◌, ℕ, ◌||◌, ◌⊎◌, true, false, ℤ, pos, ◌+ℤ◌, ◌≤ℤ◌, ◌<ℤ◌, List, [], All, Any, None}
+use Rattle.std.specs.Prelude.{◌≡◌, ℕ, ◌||◌, ◌⊎◌, true, false, ℤ, pos, ◌+ℤ◌, ◌≤ℤ◌, ◌<ℤ◌, List, [], All, Any, None, IfSome}
 use Rattle.pc_agg_search.specs.Easy.{IsEasy}
+use Rattle.pc_model.specs.Aggregate.{IsAtMost}
 use Rattle.pc_model.specs.Right.{always_has_value}
 use Rattle.pc_model.specs.Right as plain
 use Rattle.pc_model.specs.Cells.{Class}
@@ -11,6 +12,7 @@ use Rattle.pc_proof.specs.declared.answer.Lack.{Lack}
 use Rattle.pc_proof.specs.declared.answer.Lack.TheVariants as lacks
 use Rattle.pc_proof.specs.declared.answer.Answer.{Answer}
 use Rattle.pc_proof.specs.Setting.{Setting, cells, seen_count}
+use Rattle.pc_proof.specs.Table.{ratio_of}
 use Rattle.pc_proof.specs.Unbroken.{HoldsRelation, HoldsLack, HasForm, IsUnbroken, IsSharp, IsDecided, plain_relation, plain_lack}
 use Rattle.pc_proof.specs.Form.{IsFormedRelation, IsFormedLack, IsFormedAnswer}
 use Rattle.pc_branch_licences.specs.Licensed.{IsLicensed, IsSettledLack}
@@ -24,8 +26,12 @@ use Rattle.pc_agg_search.specs.Wants.{most_chosen, fewest_chosen}
 abbrev pub EasyIsSharp : Setting → Answer → Type 0
 EasyIsSharp s answer = IsEasy s.question.schema s.question.constraints → IsSharp answer × IsSettledLack answer.lack
 
+-- the low end is not above the high one
+abbrev pub AreOrdered : Answer → Type 0
+AreOrdered answer = IfSome answer.ends (λ ends. IsAtMost (ratio_of ends.0.value) (ratio_of ends.1.value))
+
 -- an answer that breaks no rule, in form where the observed rows are of the schema; what it leaves open is licensed at the budget,
--- and its ends' trees are of a search
+-- its ends' trees are of a search, and its ends do not cross
 pub record Owes (s : Setting) (budget : ℕ) (answer : Answer) : Type 0 where
   pub form : HasForm s answer
   pub unbroken : IsUnbroken s answer
@@ -33,6 +39,7 @@ pub record Owes (s : Setting) (budget : ℕ) (answer : Answer) : Type 0 where
   pub searched : AreSearched s budget answer
   pub formed : AreObserved s → IsFormedAnswer s.question.schema s.question.query.agg answer
   pub sharp : EasyIsSharp s answer
+  pub ordered : AreOrdered answer
 
 -- the relation and the lack as an answer without ends
 abbrev pub answer_of : Relation → Lack → Answer
