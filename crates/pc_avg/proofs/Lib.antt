@@ -5,6 +5,7 @@ pub mod ChosenFractions
 pub mod FewRows
 pub mod GreatestKeys
 pub mod Grown
+pub mod OutermostOrder
 pub mod OwesAverages
 pub mod SearchedEnds
 pub mod SideCounts

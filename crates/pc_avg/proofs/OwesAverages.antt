@@ -1,5 +1,5 @@
 -- An average's answer over a settled relation and the ends of both sides owes what it must.
-use Rattle.std.proofs.Common.{◌≡◌, ℕ, ℤ, Bool, true, false, not, ◌&&◌, ◌⊎◌, inl, inr, List, [], ◌∷◌, ◌++◌, get_or, All, Contains, Some, None, refl, sym, ap, subst, arith}
+use Rattle.std.proofs.Common.{◌≡◌, ℕ, ℤ, pos, neg_ℤ, ◌<ℤ◌, Bool, true, false, not, ◌&&◌, ◌⊎◌, inl, inr, List, [], ◌∷◌, ◌++◌, get_or, All, Contains, Some, None, refl, sym, ap, subst, arith}
 use Rattle.std.specs.Prelude.{◌||◌, slice_index_or}
 use Rattle.std.proofs.lemmas.Int.{ints}
 use Rattle.std.proofs.lemmas.List.Elements.{All-append, All-cons, All-head, All-nil, Contains-get_or, Contains-append_left, Contains-append_right}
@@ -13,10 +13,11 @@ use Rattle.pc_model.specs.declared.query.Folded.{Folded}
 use Rattle.pc_model.specs.Accepted.{AreConstraints}
 use Rattle.pc_model.specs.WellFormed.{IsWellFormed}
 use Rattle.pc_agg_search.specs.Easy.{IsEasy}
-use Rattle.pc_model.specs.Aggregate.{whole}
+use Rattle.pc_model.specs.Aggregate.{Ratio, whole, IsAtMost}
 use Rattle.pc_model.specs.Cells.{IsSettledTree}
-use Rattle.pc_model.specs.Right.{always_has_value}
+use Rattle.pc_model.specs.Right.{IsAttained, always_has_value}
 use Rattle.pc_model.specs.Right as plain
+use Rattle.pc_model.specs.Runs.{runs_from}
 use Rattle.pc_proof.specs.declared.answer.Answer.{Answer}
 use Rattle.pc_proof.specs.declared.answer.End.{End}
 use Rattle.pc_proof.specs.declared.answer.Mark.{Mark}
@@ -47,9 +48,11 @@ use Rattle.pc_avg.specs.Averages.{has_ends}
 use Rattle.pc_avg.specs.Ends.{end_of, IsUnvalued, IsSought, IsEndOver, IsEndIfAny, IsEndSurely}
 use Rattle.pc_avg.specs.Sides.{IsSide}
 use Rattle.pc_avg.proofs.Grown.{ends_of, relation_found, lack_found, may_give, relation_done, lack_done}
-use Rattle.pc_avg.proofs.SideEnds.{reached_done, above_done, values_done}
+use Rattle.pc_avg.proofs.OutermostOrder.{outermost_order}
+use Rattle.pc_avg.proofs.SideEnds.{reached_attained, reached_done, above_attained, above_done, values_done}
 use Rattle.pc_avg.proofs.SideNumbers.{side_some}
-use Rattle.pc_avg.proofs.SideShown.{opposite, NotAt, none_low, none_high, rows_give, none_give, not_unvalued, not_found, not_opposite, exact_of}
+use Rattle.pc_avg.proofs.SidePrograms.{turned_ratio}
+use Rattle.pc_avg.proofs.SideShown.{opposite, NotAt, none_low, none_high, around, rows_give, none_give, not_unvalued, not_found, not_opposite, exact_of}
 
 -- the counts that an end shows beside what was found
 abbrev pub counts_of_highest : Highest → List (List ℕ)
@@ -101,6 +104,7 @@ module _ (schema : Schema) (constraints : List Constraint) (query : Query) (seen
     searched = settled.searched;
     formed = λ seen_rows. record { relation = settled.formed.0; lack = settled.formed.1; ends = tt; silent = settled.silent; absent = no_ends relation lack none };
     sharp = λ disjoint. let all = settled.sharp disjoint in (record { decided = all.0; ends = tt }, all.1);
+    ordered = tt;
   }
 
   -- ---- an end is there
@@ -132,6 +136,20 @@ module _ (schema : Schema) (constraints : List Constraint) (query : Query) (seen
       highest_giving (Reached ratio counts t) reached =
           All-cons (IsGiving s) counts [] (rows_give schema constraints query seen nodes formed tree asking agg_is extreme side is counts reached.ratio_is.has.some) (All-nil (IsGiving s))
       highest_giving (Above ratio counts t value) above = All-nil (IsGiving s)
+
+      highest_attained : (h : Highest) → IsHighest f key budget (ratio_with f best) h → (v : Ratio) × (runs : List Run) × (pos 0 <ℤ v.den) × IsAttained s.question v runs
+      highest_attained (Reached ratio counts t) reached = (
+        turned_ratio extreme (ratio_of ratio),
+        runs_from side.picks counts,
+        reached.ratio_is.positive,
+        reached_attained schema constraints query seen nodes formed tree asking agg_is budget extreme side is key key_is [] (ratio_with f best) ratio counts t reached,
+      )
+      highest_attained (Above ratio counts t value) above = (
+        turned_ratio extreme (ratio_of ratio),
+        runs_from side.picks counts,
+        above.ratio_is.positive,
+        above_attained schema constraints query seen nodes formed tree asking agg_is budget extreme side is key key_is [] (ratio_with f best) ratio counts t value above,
+      )
 
       highest_away : (h : Highest) → IsHighest f key budget (ratio_with f best) h → (runs : List Run) → Contains found (counts_of_runs s runs) → IsAway (end_of extreme side.picks h) runs
       highest_away (Reached ratio counts t) reached runs there = tt
@@ -208,7 +226,7 @@ module _ (schema : Schema) (constraints : List Constraint) (query : Query) (seen
     module _ (more : List (List ℕ)) (giving : All (IsGiving s) more) (none_more : All (λ counts. IsGiving s counts → ⊥) found → more ≡ [])
         (low_done : IsEndDone Low s budget query.agg (found ++ more) low) (high_done : IsEndDone High s budget query.agg (found ++ more) high)
         (low_away : (runs : List Run) → Contains found (counts_of_runs s runs) → IsAway low runs) (high_away : (runs : List Run) → Contains found (counts_of_runs s runs) → IsAway high runs)
-        (low_apart : All (IsAway low) (runs_of_mark high.mark)) (high_apart : All (IsAway high) (runs_of_mark low.mark)) where
+        (low_apart : All (IsAway low) (runs_of_mark high.mark)) (high_apart : All (IsAway high) (runs_of_mark low.mark)) (ordered : IsAtMost (ratio_of low.value) (ratio_of high.value)) where
       abbrev front : List (List Run)
       front = runs_of_relation relation ++ runs_of_lack lack
 
@@ -221,7 +239,7 @@ module _ (schema : Schema) (constraints : List Constraint) (query : Query) (seen
       owes_over : Owes s budget (with_ends low high)
       owes_over =
           owes_ends schema constraints query seen nodes formed limited tree budget asking (found ++ more) low high low_done high_done relation lack ends.0
-          (relation_done s budget relation lack found settled agg_is ends more giving none_more) (lack_done s budget relation lack found settled agg_is ends more giving none_more)
+          (relation_done s budget relation lack found settled agg_is ends more giving none_more) (lack_done s budget relation lack found settled agg_is ends more giving none_more) ordered
           (none_low s.question (ratio_of low.value) low.mark front (runs_of_mark high.mark) (front_away low low_away) low_apart)
           (none_high s.question (ratio_of high.value) high.mark front (runs_of_mark low.mark) (front_away high high_away) high_apart) decided
 
@@ -236,6 +254,7 @@ module _ (schema : Schema) (constraints : List Constraint) (query : Query) (seen
         λ place d inside. Contains-append_right found more (get_or others place d) (Contains-append_right own others (get_or others place d) (Contains-get_or others place d inside)) in
         let low_done = sought_done Low low_over.side low_over.side_is low_over.outermost low_over.outermost_is low first (found ++ more) low_there in
         let high_done = sought_done High high_over.side high_over.side_is high_over.outermost high_over.outermost_is high second (found ++ more) high_there in
+        let given = highest_attained Low low_over.side low_over.side_is low_over.outermost low_over.outermost_is low first first.highest first.highest_is in
         owes_over more
         (All-append (IsGiving s) own others (sought_giving Low low_over.side low_over.side_is low_over.outermost low_over.outermost_is low first)
         (sought_giving High high_over.side high_over.side_is high_over.outermost high_over.outermost_is high second))
@@ -244,6 +263,15 @@ module _ (schema : Schema) (constraints : List Constraint) (query : Query) (seen
         (sought_away High high_over.side high_over.side_is high_over.outermost high_over.outermost_is high second)
         (sought_apart Low low_over.side low_over.side_is low_over.outermost low_over.outermost_is low first (found ++ more) high high_done)
         (sought_apart High high_over.side high_over.side_is high_over.outermost high_over.outermost_is high second (found ++ more) low low_done)
+        (around schema constraints query seen nodes formed tree asking agg_is budget (found ++ more) low high low_done high_done given.0 given.1 given.2 given.3)
+
+    values_ordered : IsUnvalued low_over.side Low low_over.outermost found low → IsUnvalued high_over.side High high_over.outermost found high → IsAtMost (ratio_of low.value) (ratio_of high.value)
+    values_ordered first second =
+        let order =
+        outermost_order schema constraints query seen nodes formed tree asking agg_is low_over.side high_over.side low_over.side_is high_over.side_is low_over.outermost high_over.outermost low_over.outermost_is
+        high_over.outermost_is in
+        subst (λ (e : End). IsAtMost (ratio_of e.value) (ratio_of high.value)) (sym first.end_is)
+        (subst (λ (e : End). IsAtMost (whole (neg_ℤ low_over.outermost)) (ratio_of e.value)) (sym second.end_is) (omega (arith, ints, order)))
 
     both_unvalued : IsUnvalued low_over.side Low low_over.outermost found low → IsUnvalued high_over.side High high_over.outermost found high → Owes s budget (with_ends low high)
     both_unvalued first second =
@@ -252,7 +280,7 @@ module _ (schema : Schema) (constraints : List Constraint) (query : Query) (seen
         (unvalued_away Low low_over.side low_over.side_is low_over.outermost low_over.outermost_is low first)
         (unvalued_away High high_over.side high_over.side_is high_over.outermost high_over.outermost_is high second)
         (unvalued_unshown High high_over.side high_over.side_is high_over.outermost high_over.outermost_is high second (IsAway low))
-        (unvalued_unshown Low low_over.side low_over.side_is low_over.outermost low_over.outermost_is low first (IsAway high))
+        (unvalued_unshown Low low_over.side low_over.side_is low_over.outermost low_over.outermost_is low first (IsAway high)) (values_ordered first second)
 
     pub owes_average : Owes s budget (with_ends low high)
     owes_average = by_both low_over.by high_over.by

@@ -128,6 +128,13 @@ module _ (schema : Schema) (constraints : List Constraint) (query : Query) (seen
       (subst (λ (agg : Agg). IfSome (value_of agg (all_numbers s.question lost)) (λ x. IsAtMost x (ratio_of end.value))) agg_is holds) in
       at_most_trans v (average runs) (ratio_of end.value) above own.0 done.formed.positive (omega (arith, ints, own.1)) greatest
 
+  -- ends of both sides of an attained value do not cross
+  pub around : (budget : ℕ) (all : List (List ℕ)) (low high : End) → IsEndDone Low s budget query.agg all low → IsEndDone High s budget query.agg all high → (v : Ratio) (runs : List Run) → pos 0 <ℤ v.den →
+      IsAttained s.question v runs → IsAtMost (ratio_of low.value) (ratio_of high.value)
+  around budget all low high low_done high_done v runs above attains =
+      at_most_trans (ratio_of low.value) v (ratio_of high.value) low_done.formed.positive above high_done.formed.positive (low_beside budget all low low_done v runs above attains)
+      (high_beside budget all high high_done v runs above attains)
+
   -- what attains the opposite end attains no value beyond an attained ratio
   pub not_beyond : (budget : ℕ) (all : List (List ℕ)) (extreme : Extreme) (end : End) → IsEndDone (opposite extreme) s budget query.agg all end → (r v : Ratio) → pos 0 <ℤ r.den → pos 0 <ℤ v.den → IsBelow r v →
       (own : List Run) → IsAttained s.question (turned_ratio extreme r) own → (runs : List Run) → IsAttained s.question (ratio_of end.value) runs → NotAt s.question (turned_ratio extreme v) runs
