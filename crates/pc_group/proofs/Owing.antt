@@ -65,6 +65,7 @@ module _ (budget : ℕ) (schema : Schema) (observed : List Row) (constraints : L
     licensed = owes.licensed;
     searched = owes.searched;
     sharp = owes.sharp;
+    ordered = owes.ordered;
     short = short;
     formed = λ seen own. block_formed schema observed constraints query name nodes answer formed limited well owes.form owes.unbroken (owes.formed seen) own before tree says;
   }

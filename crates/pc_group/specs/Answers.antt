@@ -16,6 +16,7 @@ use Rattle.pc_proof.specs.Form.{IsFormedBlock}
 use Rattle.pc_branch_licences.specs.Licensed.{IsLicensed, IsSettledLack}
 use Rattle.pc_branch_licences.specs.Searched.{AreSearched}
 use Rattle.pc_agg_search.specs.Settings.{question_in, setting_in}
+use Rattle.pc_agg.specs.Owed.{AreOrdered}
 use Rattle.pc_avg.specs.Averages.{HasShortEnds}
 use Rattle.pc_group.specs.Trees.{Told, HasOwnShape}
 use Rattle.pc_group.specs.Wanted.{Wanted}
@@ -28,8 +29,8 @@ setting_for schema observed constraints w nodes = setting_in schema observed con
 
 -- The block is of this query and name. Its answer is right, has the form of an answer and breaks no rule with the tree that
 -- it says. What it leaves open is licensed by searches that spent so many nodes each, and the trees of its ends are ones that
--- such a search could have made. Where no two predicates speak of one row, it leaves nothing open. It is in form where the
--- observed rows are of the schema and the bits of the tree's cuts are of names.
+-- such a search could have made. Where no two predicates speak of one row, it leaves nothing open. Its low end is not above its
+-- high one. It is in form where the observed rows are of the schema and the bits of the tree's cuts are of names.
 pub record AnswersWanted (budget : ℕ) (schema : Schema) (observed : List Row) (constraints : List Constraint) (w : Wanted) (t : Told) : Type 0 where
   pub query_is : t.block.query ≡ w.query
   pub name_is : t.block.name ≡ w.name
@@ -39,5 +40,6 @@ pub record AnswersWanted (budget : ℕ) (schema : Schema) (observed : List Row) 
   pub licensed : IsLicensed (setting_for schema observed constraints w t.nodes) budget t.block.answer
   pub searched : AreSearched (setting_for schema observed constraints w t.nodes) budget t.block.answer
   pub sharp : IsEasy schema constraints → IsSharp t.block.answer × IsSettledLack t.block.answer.lack
+  pub ordered : AreOrdered t.block.answer
   pub short : w.query.agg ≡ Avg → HasShortEnds t.block.answer
   pub formed : AllPass (in_domain schema) observed → HasOwnShape schema (shape_of t.nodes) → IsFormedBlock schema t.block
