@@ -94,3 +94,29 @@ fn overlapping_constraints_that_no_list_meets(rt: HostRuntime) -> Result<(), Fai
     assert!(rt; ends(rt.alloc(), &WORDS, shelf, ending)?);
     Ok(())
 }
+
+// Two triangles of pairs, of which each constraint wants a row: no list is possible.
+const TRIANGLES: &str =
+    "a: k in {ab, ac} => true, 1..1\nb: k in {ab, bc} => true, 1..1\nc: k in {bc, ac} => true, 1..1\nd: k in {de, df} => true, 1..1\ne: k in {de, ef} => true, 1..1\nf: k in {ef, df} => true, 1..1\n";
+
+// In one node neither is seen of all rows, at most 3 and at least 3. Of the first triangle there would be 2 rows at least and
+// 1 at most.
+const CROSSED: &str =
+    "query count where k in {ab, bc, ac}\nrelation impossible\nquery count\nrelation undecided\nlow 3 outer\nhigh 3 outer\n";
+
+#[test]
+fn ends_of_a_count_that_cross(rt: HostRuntime) -> Result<(), Fail> {
+    let shelf = shelf_of(rt.alloc(), "k,cat,ab,bc,ac,de,ef,df\n", "k\n", TRIANGLES)?;
+    let words = [
+        "bound",
+        "--nodes",
+        "1",
+        "s",
+        "r",
+        "c",
+        "count where k in {ab, bc, ac}",
+        "count",
+    ];
+    assert!(rt; ends(rt.alloc(), &words, shelf, (CROSSED, Status::Done))?);
+    Ok(())
+}
