@@ -1,6 +1,6 @@
 -- What is found of a document by its blocks: what is left decides.
-use Rattle.std.proofs.Common.{◌≡◌, ℕ, ◌+◌, ◌<◌, ◌≤◌, ◌^◌, List, [], ◌∷◌, length, drop, get_or, Option, Some, None, IfSome, Result, Ok, Err, inl, inr, refl, sym, ap, ◌∙◌, subst, arith}
-use Rattle.std.proofs.lemmas.List.{drop_all, drop_more}
+use Rattle.std.proofs.Common.{◌≡◌, ℕ, ◌+◌, ◌<◌, ◌^◌, List, [], ◌∷◌, length, drop, get_or, Option, Some, None, IfSome, Result, Ok, Err, inl, inr, refl, sym, ap, ◌∙◌, subst, arith}
+use Rattle.std.proofs.lemmas.List.{drop_more}
 use Rattle.pc_model.specs.declared.schema.Schema.{Schema}
 use Rattle.pc_model.specs.declared.tree.CutNode.{CutNode}
 use Rattle.pc_model.specs.CutTrees.{IsInPreorder}
@@ -82,12 +82,6 @@ module _ (case : Premises) (blocks : List Block) where
     pub few : line + blocks_count (drop place blocks) < 2 ^ 64
     pub ordered : IfSome before IsInPreorder
     pub decides : (result : Result (Unit {0}) Halt) → IsFoundFrom case before line (drop place blocks) result → IsFound case blocks result
-
-  pub at_start : 2 + blocks_count blocks < 2 ^ 64 → IsAt 0 2 None
-  at_start few = record { few = few; ordered = tt; decides = λ result found. found }
-
-  pub at_end : (place line : ℕ) (before : Option (List CutNode)) → length blocks ≤ place → IsAt place line before → AreUnbroken case None blocks
-  at_end place line before past at_place = at_place.decides (Ok tt) (subst (λ (left : List Block). AreUnbroken case before left) (sym (drop_all place blocks past)) tt)
 
   module _ (place line : ℕ) (before : Option (List CutNode)) (block other : Block) (there : place < length blocks) (is : block ≡ get_or blocks place other) (at_place : IsAt place line before) where
     abbrev left : List Block

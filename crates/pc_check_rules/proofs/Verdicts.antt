@@ -63,12 +63,6 @@ module _ (s : Setting) (ds es : List Placed) where
       (λ line rule. Judges s (ds ++ es) (Some (line, rule))) (λ shown given. (judges-back s ds es None held given.0, given.1))
       (λ line rule broken. judges-back s ds es (Some (line, rule)) held broken) result found
 
--- what is found is so in other words
-pub found_as : {X : Type 0} (s : Setting) (ds : List Placed) (P O : X → Type 0) → ((shown : X) → P shown → O shown) → (result : Result X Halt) → Finds s ds P result → Finds s ds O result
-found_as s ds P O shows result found =
-    gives_as (λ shown. Judges s ds None × P shown) (λ shown. Judges s ds None × O shown) (λ line rule. Judges s ds (Some (line, rule)))
-    (λ line rule. Judges s ds (Some (line, rule))) (λ shown given. (given.0, shows shown given.1)) (λ line rule broken. broken) result found
-
 -- ---- a search tree
 
 -- lines that hold make a tree that proves its bound
