@@ -2,6 +2,7 @@
 use Rattle.std.specs.Prelude.{◌≡◌, ◌≤◌, ◌^◌, ◌+ℤ◌, ℕ, int_lt, nat_abs, Bool, true, false, ◌&&◌, cond, length, List, All, Some, None}
 use Rattle.pc_model.specs.declared.query.Agg.{Agg}
 use Rattle.pc_model.specs.declared.query.Folded.{Folded}
+use Rattle.pc_program_bound.specs.declared.program.Program.{Program}
 use Rattle.pc_program_bound.specs.Allocation.{IsProgram, IsAllocation, cells_of}
 use Rattle.pc_branch.specs.Ends.{HasSmallGains}
 use Rattle.pc_proof.specs.declared.answer.Bounded.{Bounded}

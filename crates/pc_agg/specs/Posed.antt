@@ -69,10 +69,10 @@ abbrev pub IsStoodOf : Problem → Extreme → Test → Option ℤ → List (Lis
 IsStoodOf p extreme test seen found stood = IsStood (setting_of p) p.nodes extreme test seen found stood
 
 abbrev pub IsGroundedAt : Problem → Bool → Grounded → Type 0
-IsGroundedAt p observed ground = IsGrounded (setting_of p) observed p.nodes ground
+IsGroundedAt p observed grounded = IsGrounded (setting_of p) observed p.nodes grounded
 
 abbrev pub IsGroundedSurelyAt : Problem → Bool → Grounded → Type 0
-IsGroundedSurelyAt p observed ground = IsGroundedSurely (setting_of p) observed ground
+IsGroundedSurelyAt p observed grounded = IsGroundedSurely (setting_of p) observed grounded
 
 -- ---- the rungs of such an end
 

@@ -91,7 +91,6 @@ abbrev pub IsTotalDecided : Total → Type 0
 IsTotalDecided (totals.Settled settled) = IsDecided settled.relation
 IsTotalDecided (totals.Open limit) = ⊥
 
--- of two limits under which nothing was found: the most rows are fewer than the fewest, or neither is known
 -- a list with the first of these counts, by a row of each cell
 abbrev pub listed : List Row → List (List ℕ) → Settled
 listed picks found = record { relation = relations.Possible (runs_from picks (slice_index_or found 0 [])); lack = lacks.Silent; found = found }
@@ -99,6 +98,7 @@ listed picks found = record { relation = relations.Possible (runs_from picks (sl
 abbrev pub impossible : Why → Settled
 impossible why = record { relation = relations.Impossible why; lack = lacks.Silent; found = [] }
 
+-- of two limits under which nothing was found: the most rows are fewer than the fewest, or neither is known
 abbrev pub left_open : Limit → Limit → Settled
 left_open most fewest =
     cond (int_lt most.most (neg_ℤ fewest.most))

@@ -7,7 +7,7 @@ ghost use Rattle.pc_branch_licences.specs.Pools.{AreLawful};
 ghost use Rattle.pc_agg_search.specs.Problem.{IsEasyFor, IsPosed, setting_of};
 ghost use Rattle.pc_agg_search.specs.declared.limit.Limit.{Limit};
 ghost use Rattle.pc_agg.specs.declared.settling.Total.TheVariants as totals;
-ghost use Rattle.pc_agg.specs.Settling.{AreOpenTotals, IsLimitOfGain, IsSettled, IsTotalDecided, IsTotalOf, left_open, settled_after};
+ghost use Rattle.pc_agg.specs.Settling.{AreOpenTotals, IsLimitOfGain, IsSettled, IsTotalDecided, IsTotalOf, impossible, left_open, listed, settled_after};
 ghost use Rattle.pc_agg.specs.Posed.{IsTotalAt};
 ghost use Rattle.pc_agg_search.specs.Targets.{AreRowsIn};
 
