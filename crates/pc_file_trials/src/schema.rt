@@ -139,6 +139,7 @@ fn column(alloc: Global, name: &str, kind: Kind) -> Result<Column, AllocError> {
 }
 
 #[test]
+#[tactic(auto, using(pc_model::proofs::FewNames::have_few_names))]
 fn the_value_and_its_domain(rt: HostRuntime) -> Result<(), Fail> {
     let alloc = rt.alloc();
     let text = "item,int,-1,9\nprice,dec,2,0,1.5\nplace,cat,north,\"a,b\"\n";
