@@ -1,5 +1,4 @@
 ghost use Rattle.std.specs.Prelude.{◌≡◌, ◌*◌, ◌≤◌, nat_abs, pos, ◌≤ℤ◌};
-ghost use Rattle.pc_model.specs.Aggregate.{Ratio};
 ghost use Rattle.pc_proof.specs.Table.{ratio_of};
 ghost use Rattle.pc_avg_ratio.specs.Fractional.{excess, over_before, rows_with, sum_with, most_rows, most_sum, IsFractional, IsLawful};
 

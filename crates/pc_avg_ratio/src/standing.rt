@@ -2,7 +2,7 @@ ghost use Rattle.std.specs.Prelude.{◌≡◌, pos, ◌<ℤ◌};
 ghost use Rattle.pc_num.specs.Fractions.{IsFrac};
 ghost use Rattle.pc_proof.specs.Table.{ratio_of};
 ghost use Rattle.pc_avg_ratio.specs.Fractional.{rows_with, IsFractional, IsLawful};
-ghost use Rattle.pc_avg_ratio.specs.Steps.{HasLimit, IsRatioOf, IsStanding};
+ghost use Rattle.pc_avg_ratio.specs.Steps.{IsRatioOf};
 
 use crate::fractional::{Fractional, rows_with, sum_with};
 use pc_list::Seq;

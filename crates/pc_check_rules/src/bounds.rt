@@ -1,4 +1,4 @@
-ghost use Rattle.std.specs.Prelude.{◌≡◌, ◌≤◌, ◌*◌, ◌^◌, ◌↔◌, ◌+ℤ◌, ◌-ℤ◌, ◌≤ℤ◌, nat_abs, pos, neg_ℤ, IfSome, IsTrue};
+ghost use Rattle.std.specs.Prelude.{◌≡◌, ◌≤◌, ◌*◌, ◌^◌, ◌↔◌, ◌+ℤ◌, ◌-ℤ◌, ◌≤ℤ◌, nat_abs, pos, IfSome, IsTrue};
 ghost use Rattle.pc_model.specs.Aggregate.{whole, IsAtMost};
 ghost use Rattle.pc_proof.specs.Table.{ratio_of};
 ghost use Rattle.pc_check_rules.specs.Fractions.{IsMeasured};

@@ -1,4 +1,4 @@
-ghost use Rattle.std.specs.Prelude.{◌≡◌, ◌≤◌, ◌^◌, ◌&&◌, cond, nat_abs, pos, neg_ℤ, ◌*ℤ◌, ◌-ℤ◌};
+ghost use Rattle.std.specs.Prelude.{◌≡◌, ◌≤◌, ◌^◌, ◌&&◌, nat_abs, neg_ℤ, ◌*ℤ◌, ◌-ℤ◌};
 ghost use Rattle.pc_proof.specs.Table.{ratio_of, is_under, is_over, is_within, is_from};
 ghost use Rattle.pc_check_rules.specs.Fractions.{IsMeasured};
 ghost use Rattle.pc_check_rules.specs.Programs.{chosen_gain, counted_gain, high_gain, low_gain, gain_towards, is_closed, open_cap};

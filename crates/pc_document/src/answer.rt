@@ -1,8 +1,8 @@
-ghost use Rattle.std.specs.Prelude.{◌≡◌, true, false};
+ghost use Rattle.std.specs.Prelude.{◌≡◌, false};
 ghost use Rattle.pc_model.specs.WellFormed.{IsWellFormed};
 ghost use Rattle.pc_model.specs.Accepted.{IsQuery};
 ghost use Rattle.pc_model.specs.Right as plain;
-ghost use Rattle.pc_document.specs.Parts.{ends_block, has_no_ends};
+ghost use Rattle.pc_document.specs.Parts.{ends_block};
 ghost use Rattle.pc_document.specs.Places.{IsLineStart, Reads, lines_at};
 ghost use Rattle.pc_document.specs.Reading.{read_after, read_answer, read_ends_unless, read_lack_unless};
 

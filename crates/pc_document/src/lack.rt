@@ -2,7 +2,7 @@ ghost use Rattle.pc_model.specs.WellFormed.{IsWellFormed};
 ghost use Rattle.pc_model.specs.Accepted.{IsQuery};
 ghost use Rattle.pc_document_format.specs.Formats.{read_line};
 ghost use Rattle.pc_document.specs.Places.{IsLineStart, Reads, lines_at};
-ghost use Rattle.pc_document.specs.Reading.{read_never, read_always, read_some, read_lack, read_never_line, read_always_line, read_lack_line, read_word, tagged_never, tagged_always, tagged_lack};
+ghost use Rattle.pc_document.specs.Reading.{read_never, read_always, read_some, read_lack, read_never_line, read_always_line, read_lack_line, tagged_never, tagged_always, tagged_lack};
 
 use crate::halt::Halt;
 use crate::places::first_line_at;

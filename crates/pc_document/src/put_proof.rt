@@ -1,10 +1,10 @@
-ghost use Rattle.std.specs.Prelude.{◌≡◌, ◌++◌, ◌∷◌, [], codes, OnOk};
+ghost use Rattle.std.specs.Prelude.{◌≡◌, ◌++◌, ◌∷◌, [], OnOk};
 ghost use Rattle.pc_model.specs.WellFormed.{IsWellFormed};
 ghost use Rattle.pc_model.specs.declared.tree.TreeNode.{TreeNode};
 ghost use Rattle.pc_document_format.specs.Lines.{lines_text};
 ghost use Rattle.pc_document_format.specs.Formats.{nodes_text};
 ghost use Rattle.pc_document_lines.specs.NodeLines.{bare, node_text};
-ghost use Rattle.pc_proof.specs.Form.{IsFormedBounded, IsFormedProof, IsFormedRatio, IsFormedValue};
+ghost use Rattle.pc_proof.specs.Form.{IsFormedBounded, IsFormedProof, IsFormedValue};
 ghost use Rattle.pc_document.specs.DocumentLines.{bounded_lines, crossing_lines, proof_lines, tree_lines};
 ghost use Rattle.pc_document_lines.specs.ValueLines.{IsProofLine, end_text, proof_text};
 

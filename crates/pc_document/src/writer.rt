@@ -5,7 +5,7 @@ ghost use Rattle.pc_model.specs.declared.tree.CutNode.{CutNode};
 ghost use Rattle.pc_document_format.specs.Lines.{lines_text};
 ghost use Rattle.pc_document_format.specs.Formats.{items_text, nodes_text};
 ghost use Rattle.pc_proof.specs.Form.{IsFormedBlock, IsInForm};
-ghost use Rattle.pc_document.specs.DocumentLines.{block_lines, block_tree_lines, document_lines, document_text, name_lines};
+ghost use Rattle.pc_document.specs.DocumentLines.{block_lines, block_tree_lines, document_text, name_lines};
 ghost use Rattle.pc_document_lines.specs.TokenLines.{bare_cut, cut_node_text, group_text, query_line_text};
 
 use crate::put_answer::{put_answer, put_nothing};

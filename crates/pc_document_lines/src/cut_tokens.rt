@@ -1,4 +1,4 @@
-ghost use Rattle.std.specs.Prelude.{◌≡◌, ◌≤◌, ◌<◌, ◌++◌, ◌∷◌, [], codes, length, pos, slice_get, IfOk, OnOk, Some, if◌then◌else◌};
+ghost use Rattle.std.specs.Prelude.{◌≡◌, ◌≤◌, ◌<◌, ◌++◌, ◌∷◌, [], codes, length, pos, IfOk, OnOk, Some, if◌then◌else◌};
 ghost use Rattle.pc_num.specs.Put.{scaled_text};
 ghost use Rattle.pc_model.specs.CutTrees.{column_of};
 ghost use Rattle.pc_model.specs.Places.{is_place_of};

@@ -1,6 +1,5 @@
-ghost use Rattle.std.specs.Prelude.{◌≡◌, ◌≤◌, ℕ, List, All, AllPairs, IfOk, OnOk};
+ghost use Rattle.std.specs.Prelude.{◌≡◌, ◌≤◌, All, AllPairs, IfOk, OnOk};
 ghost use Rattle.std.specs.List.{AllPass, AllZip};
-ghost use Rattle.pc_model.specs.declared.tree.CutNode.{CutNode};
 ghost use Rattle.pc_model.specs.Accepted.{AreConstraints, IsQuery};
 ghost use Rattle.pc_model.specs.CutTrees.{shape_of};
 ghost use Rattle.pc_model.specs.Membership.{in_domain};

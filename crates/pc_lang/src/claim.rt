@@ -1,4 +1,4 @@
-ghost use Rattle.std.specs.Prelude.{◌≡◌, ◌+◌, ◌≤◌, ℤ, ◌∷◌, length, unsigned_abs};
+ghost use Rattle.std.specs.Prelude.{◌≡◌, ◌+◌, ◌≤◌, ◌∷◌, length};
 ghost use Rattle.std.specs.List.{list_all};
 ghost use Rattle.pc_model.specs.WellFormed.{HasFewNames};
 ghost use Rattle.pc_lang.specs.Claims.{bit_if, bits_of, is_among, set_of, stated, stated_names, stated_numbers};

@@ -1,6 +1,5 @@
 ghost use Rattle.std.specs.Prelude.{◌≡◌, ◌++◌, OnOk};
 ghost use Rattle.pc_model.specs.Right.{is_always, is_impossible};
-ghost use Rattle.pc_proof.specs.Unbroken.{plain_lack, plain_relation};
 ghost use Rattle.pc_report.specs.Report.{answer_text, end_text, ends_text, lack_text, line_break, mark_text, relation_text, titled_text, values_text, with_text, without_text};
 ghost use Rattle.pc_report.specs.RunLines.{HaveScales};
 ghost use Rattle.pc_report.specs.Units.{ArePrintable, IsPrintable};

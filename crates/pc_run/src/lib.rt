@@ -3,7 +3,7 @@
 
 ghost use Rattle.std.specs.Prelude.{◌≡◌, ◌≤◌, ◌+◌, ℕ, map, string_bytes};
 ghost use Rattle.pc_run_words.specs.Words.{command_of, file_count};
-ghost use Rattle.pc_run.specs.Meaning.{Call, ChecksClaim, IsProved, Means, IsAnswerUnlessMemory, IsAnswerable, IsDoneUnlessMemory, SaysNoUnlessMemory, call_of, after_failed_put};
+ghost use Rattle.pc_run.specs.Meaning.{ChecksClaim, IsProved, Means, IsAnswerUnlessMemory, IsAnswerable, IsDoneUnlessMemory, SaysNoUnlessMemory, call_of, after_failed_put};
 ghost use Rattle.pc_run.specs.Replies.{BreaksFirst, SpellsUnbroken};
 
 mod case;

@@ -1,4 +1,4 @@
-ghost use Rattle.std.specs.Prelude.{◌≡◌, ◌≤◌, List, IfOk};
+ghost use Rattle.std.specs.Prelude.{◌≡◌, ◌≤◌, IfOk};
 ghost use Rattle.std.specs.List.{AllPass};
 ghost use Rattle.pc_model.specs.declared.fault.FileKind.TheVariants as kinds;
 ghost use Rattle.pc_model.specs.declared.fault.Reason.TheVariants as reasons;
