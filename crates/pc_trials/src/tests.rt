@@ -5,8 +5,10 @@ use std::test::Fail;
 
 mod averages;
 mod blocks;
+mod cut_files;
 mod documents;
 mod extremes;
+mod failing;
 mod groups;
 mod overlaps;
 mod refused;

@@ -1,26 +1,26 @@
 use super::*;
 use pc_list::Seq;
 
-const CAPPED: &str = "c1: branch = Chicago => price in 0.00..149.99, 0..5\n";
+pub(crate) const CAPPED: &str = "c1: branch = Chicago => price in 0.00..149.99, 0..5\n";
 
-const CHECK: [&str; 5] = ["check", "s", "r", "c", "d"];
+pub(crate) const CHECK: [&str; 5] = ["check", "s", "r", "c", "d"];
 
 /// The document of the shop's sum: its text up to the line of the high end, and from the proof of that end on.
-const FRONT: &str =
+pub(crate) const FRONT: &str =
     "pc 1\nquery sum(price)\ntree own\ncut branch {Chicago}\ncut price 149.99\nleaf 1 in\nleaf barren\nleaf barren\nrelation possible\nlow 150.00 exact\nby tree\nbound 1 0\n";
 
 /// A front without the second cut.
 const SHORTER: &str =
     "pc 1\nquery sum(price)\ntree own\ncut branch {Chicago}\nleaf 1 in\nleaf barren\nrelation possible\nlow 150.00 exact\nby tree\nbound 1 0\n";
 
-const BACK: &str = "by tree\nbound 1 14999\n";
+pub(crate) const BACK: &str = "by tree\nbound 1 14999\n";
 
-const HIGH: &str = "high 899.95 exact\n";
+pub(crate) const HIGH: &str = "high 899.95 exact\n";
 
-const RUN: &str = "run 5: Chicago, 1, 149.99\n";
+pub(crate) const RUN: &str = "run 5: Chicago, 1, 149.99\n";
 
 /// A shelf that holds the shop and a document of these parts.
-fn shelf_with(alloc: Global, parts: &[&str]) -> Result<MemShelf, Fail> {
+pub(crate) fn shelf_with(alloc: Global, parts: &[&str]) -> Result<MemShelf, Fail> {
     let mut shelf = shelf_of(alloc, SHOP, SALES, CAPPED)?;
     let mut document = String::new(alloc);
     for part in parts {
@@ -128,52 +128,6 @@ fn one_tree_for_two_questions(rt: HostRuntime) -> Result<(), Fail> {
         }
     }
     assert_eq!(rt; same, 1);
-    Ok(())
-}
-
-/// Whether a check ends so where the load of this number fails, and the put keeps so many bytes or all.
-fn fails_so(
-    alloc: Global,
-    load: Option<u64>,
-    put: Option<u64>,
-    ending: Ending<'_>,
-) -> Result<bool, Fail> {
-    let mut shelf = shelf_with(alloc, &[FRONT, HIGH, RUN, BACK])?;
-    if let Some(number) = load {
-        shelf.fail(number)?;
-    }
-    let mut sink = MemSink::new(alloc, put.unwrap_or(0));
-    if put.is_some() {
-        sink.fail(0)?;
-    }
-    ends_in(alloc, &CHECK, shelf, sink, ending)
-}
-
-static CHECKS_THAT_FAIL_CASES: [(Option<u64>, Option<u64>, &str, Status); 8] = [
-    (Some(0), None, "read fault: schema\n", Status::ReadFault),
-    (Some(1), None, "read fault: rows\n", Status::ReadFault),
-    (
-        Some(2),
-        None,
-        "read fault: constraints\n",
-        Status::ReadFault,
-    ),
-    (Some(3), None, "read fault: document\n", Status::ReadFault),
-    (Some(3), Some(7), "read fa", Status::ReadFault),
-    (None, Some(0), "", Status::WriteFault),
-    (None, Some(7), "no line", Status::WriteFault),
-    (None, None, "no line 17 rule 1\n", Status::SaidNo),
-];
-
-#[test]
-fn checks_that_fail(rt: HostRuntime) -> Result<(), Fail> {
-    for case in &CHECKS_THAT_FAIL_CASES {
-        let (load, put, want, status) = *case;
-        assert!(rt;
-            fails_so(rt.alloc(), load, put, (want, status))?,
-            "at {want}"
-        );
-    }
     Ok(())
 }
 
