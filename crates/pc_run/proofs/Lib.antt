@@ -8,5 +8,6 @@ pub mod Files
 pub mod Listings
 pub mod MadeCases
 pub mod Meanings
+pub mod Reported
 pub mod StopReplies
 pub mod Unbroken

@@ -8,6 +8,7 @@ ghost use Rattle.pc_run.specs.Replies.{BreaksFirst, SpellsUnbroken};
 
 mod case;
 mod claim;
+mod laws;
 mod line;
 mod listing;
 mod loading;
@@ -17,6 +18,7 @@ mod show;
 mod stop;
 mod verdict;
 
+pub use laws::reports_tell_their_answers;
 use pc_base::{Put, Shelf, Sink, Status};
 use reply::respond;
 use std::alloc::Global;
