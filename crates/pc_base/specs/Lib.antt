@@ -2,4 +2,5 @@ pub mod Codes
 pub mod Counts
 pub mod Files
 pub mod Loads
+pub mod MemoryLoads
 pub mod Puts

@@ -1,4 +1,4 @@
-ghost use Rattle.std.specs.Prelude.{◌≡◌, ◌≢◌, ◌<◌, ◌≤◌, ◌^◌, ◌↔◌, ◌∷◌, ◌++◌, ℕ, List, [], Option, Some, None, Contains, MatchOption, OnOk, OnErr};
+ghost use Rattle.std.specs.Prelude.{◌≡◌, ◌≢◌, ◌<◌, ◌≤◌, ◌^◌, ◌∷◌, ◌++◌, ℕ, List, [], Option, Some, None, Contains, MatchOption, OnOk, OnErr};
 ghost use Rattle.pc_base.specs.Counts.{RoseByOne, next_count};
 ghost use Rattle.pc_base.specs.Files.{Files, file_of};
 ghost use Rattle.pc_base.specs.Loads.{Gives, HasLoadCause, Copies};
@@ -70,6 +70,7 @@ impl MemShelf {
 
 impl Shelf for MemShelf {
     ghost use Rattle.std.specs.Prelude.{Some};
+    ghost use Rattle.pc_base.specs.MemoryLoads.{IsMemoryLoad};
 
     ghost files = { λ s. Some s.files };
 
@@ -77,23 +78,15 @@ impl Shelf for MemShelf {
 
     ghost calls = { λ s. s.calls };
 
+    ghost leads = { λ old name loaded new. IsMemoryLoad old name loaded new };
+
     fn load(&mut self, _alloc: Global, name: &str, into: &mut Vec<u8>, limit: usize) -> Loaded
         ensures gives { Gives (Some self.old.files) name.now limit result into.new.items }
         ensures cause { HasLoadCause (Some self.old.files) name.now self.old.faults self.new.faults result }
         ensures files_stay { self.new.files ≡ self.old.files }
         ensures faults_stay { self.old.faults ≤ self.new.faults }
         ensures one_call { RoseByOne self.old.calls self.new.calls }
-
-        // A load that is to fail fails and is counted, and no other is.
-        ensures fails_at { Contains self.old.fails self.old.calls → result ≡ Loaded.Failed }
-        ensures fault_counted { Contains self.old.fails self.old.calls → self.new.faults ≡ next_count self.old.faults }
-        ensures else_stays { ¬ Contains self.old.fails self.old.calls → self.new.faults ≡ self.old.faults }
-
-        // Any other fails exactly where the name is not held.
-        ensures absent { ¬ Contains self.old.fails self.old.calls → (result ≡ Loaded.Failed) ↔ (file_of self.old.files name.now ≡ None) }
-
-        ensures fails_stay { self.new.fails ≡ self.old.fails }
-        ensures call_counted { self.new.calls ≡ next_count self.old.calls }
+        ensures leads { IsMemoryLoad self.old name.now result self.new }
     {
         let call = self.calls;
         self.calls = call.saturating_add(1);

@@ -3,6 +3,7 @@ ghost use Rattle.pc_base.specs.Counts.{RoseByOne};
 ghost use Rattle.pc_base.specs.Files.{Files};
 ghost use Rattle.pc_base.specs.Loads.{Gives, HasLoadCause};
 ghost use Rattle.pc_base.specs.Puts.{Leaves, HasPutCause};
+ghost use Rattle.pc_base.specs.declared.outside.Loaded.{Loaded};
 
 use std::alloc::Global;
 
@@ -38,6 +39,8 @@ pub trait Shelf {
     ghost faults: { Self → ℕ };
     /// How many loads there were. At the end of its type the count stays.
     ghost calls: { Self → ℕ };
+    /// A load of this name that did this may lead from the first shelf to the second.
+    ghost leads: { Self → List ℕ → Loaded → Self → Type 0 };
 
     /// Puts the bytes of the file into `into`, or one more than `limit` of a longer one. What `into` held before is
     /// dropped; after `Failed` and `Memory` it may hold any bytes.
@@ -47,7 +50,8 @@ pub trait Shelf {
         ensures cause { HasLoadCause (files self.old) name.now (faults self.old) (faults self.new) result }
         ensures files_stay { files self.new ≡ files self.old }
         ensures faults_stay { faults self.old ≤ faults self.new }
-        ensures one_call { RoseByOne (calls self.old) (calls self.new) };
+        ensures one_call { RoseByOne (calls self.old) (calls self.new) }
+        ensures leads { leads self.old name.now result self.new };
 }
 
 /// Where text goes.

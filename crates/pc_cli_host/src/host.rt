@@ -1,4 +1,5 @@
 ghost use Rattle.std.specs.Prelude.{◌≡◌, ◌+◌, ◌<◌, ◌≤◌, ◌^◌, length, None};
+ghost use Rattle.pc_base.specs.Loads.{CountsFault};
 
 use pc_base::{Loaded, Put, Shelf, Sink};
 use std::alloc::Global;
@@ -28,6 +29,8 @@ impl<R: Files> Shelf for HostShelf<'_, R> {
     ghost faults = { λ shelf. shelf.faults };
 
     ghost calls = { λ shelf. 0 };
+
+    ghost leads = { λ old name loaded new. CountsFault old.faults loaded new.faults };
 
     fn load(&mut self, _alloc: Global, name: &str, into: &mut Vec<u8>, limit: usize) -> Loaded {
         let loaded = match fs::open(self.rt, name) {
