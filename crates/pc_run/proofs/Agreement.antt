@@ -15,11 +15,10 @@ use Rattle.pc_document.specs.Told.{IsDocumentText}
 use Rattle.pc_document.proofs.DocumentFormat.{only_document}
 use Rattle.pc_check.specs.declared.verdict.Verdict.{Verdict}
 use Rattle.pc_check.specs.declared.verdict.Verdict.TheVariants as verdicts
-use Rattle.pc_run_words.specs.Words.{Asked, CheckNames, check, command_of}
+use Rattle.pc_run_words.specs.Words.{Asked, CheckNames, check}
 use Rattle.pc_run.specs.declared.claim.Claim.{Claim}
 use Rattle.pc_run.specs.Outcome.{Obstacle, Input, claims, as_input, refused, absent, claim_under, ComesTo, AreAccepted}
-use Rattle.pc_run.specs.Reports.{usage_line}
-use Rattle.pc_run.specs.Replies.{BreaksFirst, BreaksRule, HasVerdict, IsCheckable, IsNoDocument, IsSoundInput, RepliesTo, RepliesToCommand, Responds, Says, SaysFault, SaysInput, SaysOutcome, SaysProof, SaysVerdict, SpellsUnbroken, status_of}
+use Rattle.pc_run.specs.Replies.{BreaksFirst, BreaksRule, HasVerdict, IsCheckable, IsNoDocument, IsSoundInput, RepliesTo, RepliesToCommand, RepliesToNone, Responds, Says, SaysFault, SaysInput, SaysOutcome, SaysProof, SaysVerdict, SpellsUnbroken, status_of}
 use Rattle.pc_run.specs.Meaning.{Call, ChecksClaim, IsAnswerable, IsDoneUnlessMemory, IsProved, Means, SaysNoUnlessMemory}
 use Rattle.pc_run.proofs.Answering.{answers, same_names}
 
@@ -74,26 +73,26 @@ module _ (call : Call) (checks : ChecksClaim call) where
   claim_is (Some files) said held comes = let same : as_input claims (Ok checks.claim) ≡ Ok said = rw held at comes in cc
 
   module _ (status : Status) (answered : (status ≡ ended.Done) ⊎ (status ≡ ended.SaidNo)) (text : List ℕ) where
-    by_outcome : (outcome : Result Input Obstacle) → IfOk outcome IsSoundInput → Says outcome status text → ComesTo call.files (check checks.names) outcome → SaysOf checks.claim status
+    by_outcome : (outcome : Result Input Obstacle) → IfOk outcome IsSoundInput → Says outcome status text → ComesTo call.reading.files (check checks.names) outcome → SaysOf checks.claim status
     by_outcome (Ok said) sound says comes =
-        let same = claim_is call.files said checks.held comes in
+        let same = claim_is call.reading.files said checks.held comes in
         let verdict : SaysVerdict checks.claim status text = subst (λ (input : Input). SaysInput input status text) (sym same) says in
         record { verdict = verdict.verdict; holds = verdict.holds; ended = verdict.ended; sound = subst IsSoundInput (sym same) sound }
     by_outcome (Err (refused fault)) sound says comes = absurd (not_malformed status answered says.0)
     by_outcome (Err (absent file)) sound says comes = absurd says
 
-    by_reply : (asked : Asked) → check checks.names ≡ asked → RepliesTo call.files asked call.loads_before call.loads_after status text → SaysOf checks.claim status
+    by_reply : (asked : Asked) → check checks.names ≡ asked → RepliesTo call.reading asked status text → SaysOf checks.claim status
     by_reply asked same replies =
         ⊎_elim
-        (λ (fault : SaysFault call.files asked call.loads_before call.loads_after status text). absurd (not_unread status answered fault.ended))
-        (λ (says : SaysOutcome call.files asked status text). by_outcome says.outcome says.sound says.says (subst (λ (a : Asked). ComesTo call.files a says.outcome) (sym same) says.agrees))
+        (λ (fault : SaysFault call.reading asked status text). absurd (not_unread status answered fault.ended))
+        (λ (says : SaysOutcome call.reading asked status text). by_outcome says.outcome says.sound says.says (subst (λ (a : Asked). ComesTo call.reading.files a says.outcome) (sym same) says.agrees))
         replies
 
-    said_of : Responds call.files call.words call.loads_before call.loads_after status text → SaysOf checks.claim status
+    said_of : Responds call.reading call.words status text → SaysOf checks.claim status
     said_of responds =
         ⊎_elim
-        (λ (none : (command_of call.words ≡ None) × (status ≡ ended.Usage) × (text ≡ usage_line)). let both = sym checks.command ∙ none.0 in let no : ⊥ = cc in absurd no)
-        (λ (replies : RepliesToCommand call.files call.words call.loads_before call.loads_after status text).
+        (λ (none : RepliesToNone call.reading call.words status text). let both = sym checks.command ∙ none.none in let no : ⊥ = cc in absurd no)
+        (λ (replies : RepliesToCommand call.reading call.words status text).
         by_reply replies.asked (same_names call.words (check checks.names) replies.asked checks.command replies.command) replies.replies)
         responds
 
@@ -117,12 +116,12 @@ abbrev can_answer : (call : Call) → ChecksClaim call → IsAnswerable call
 can_answer call checks = record {
   asked = check checks.names;
   command = checks.command;
-  accepted = accepted call.files checks.names checks.claim checks.held;
+  accepted = accepted call.reading.files checks.names checks.claim checks.held;
   loads = checks.loads;
   puts = checks.puts;
 }
 
-module _ (call : Call) (status : Status) (text : List ℕ) (responds : Responds call.files call.words call.loads_before call.loads_after status text) (means : Means call status) (checks : ChecksClaim call) where
+module _ (call : Call) (status : Status) (text : List ℕ) (responds : Responds call.reading call.words status text) (means : Means call status) (checks : ChecksClaim call) where
   not_no : SpellsUnbroken checks.claim → status ≡ ended.SaidNo → ⊥
   not_no spells is =
       let says = said_of call checks status (inr is) text responds in

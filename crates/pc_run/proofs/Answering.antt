@@ -175,14 +175,14 @@ refused_no (gen numbers) told fault accepted comes = let no : ⊥ = cc in absurd
 no_refusal : (call : Call) → IsAnswerable call → IsRefused call → ⊥
 no_refusal call can refused' =
     let names = same_names call.words refused'.asked can.asked refused'.command can.command in
-    refused_no can.asked call.files refused'.fault can.accepted (rw names at refused'.agrees)
+    refused_no can.asked call.reading.files refused'.fault can.accepted (rw names at refused'.agrees)
 
 no_read_fault : (call : Call) → IsAnswerable call → HasReadFault call → ⊥
 no_read_fault call can fault =
     ⊎_elim (λ rose. can.loads rose)
     (λ is_absent.
     let names = same_names call.words fault.asked can.asked fault.command can.command in
-    held_file can.asked call.files can.accepted fault.file (rw names at fault.unread.reached) (rw names at is_absent))
+    held_file can.asked call.reading.files can.accepted fault.file (rw names at fault.unread.reached) (rw names at is_absent))
     fault.unread.cause
 
 -- ---- how such a run ends
@@ -217,7 +217,7 @@ said_no (gen numbers) told said text accepted comes says = absurd (not_said make
 no_is_answer : (call : Call) (can : IsAnswerable call) → HasEnded call ended.SaidNo → IsAnswer can.asked ended.SaidNo
 no_is_answer call can has =
     let names = same_names call.words has.answered.asked can.asked has.answered.command can.command in
-    said_no can.asked call.files has.answered.input has.text can.accepted (rw names at has.answered.agrees) has.answered.says
+    said_no can.asked call.reading.files has.answered.input has.text can.accepted (rw names at has.answered.agrees) has.answered.says
 
 pub answers : (call : Call) (status : Status) → Means call status → (can : IsAnswerable call) → IsAnswerUnlessMemory can.asked status
 answers call ended.Done means can = inl (is_done can.asked)

@@ -2,8 +2,10 @@ pub mod Agreement
 pub mod Answering
 pub mod Asked
 pub mod Cases
+pub mod Chains
 pub mod Claims
 pub mod Documents
+pub mod FaultFiles
 pub mod Files
 pub mod Listings
 pub mod MadeCases

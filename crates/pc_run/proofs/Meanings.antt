@@ -9,8 +9,9 @@ use Rattle.pc_check.specs.declared.verdict.Verdict.{Verdict}
 use Rattle.pc_check.specs.declared.verdict.Verdict.TheVariants as verdicts
 use Rattle.pc_run.specs.Outcome.{Obstacle, Input, asks, proves, claims, shows, makes, refused, absent, ComesTo}
 use Rattle.pc_model.specs.declared.fault.Fault.{Fault}
-use Rattle.pc_run.specs.Reports.{usage_line, malformed_line}
-use Rattle.pc_run.specs.Replies.{SaysInput, Says, status_of, SaysOutcome, SaysFault, RepliesToCommand, Responds}
+use Rattle.pc_run.specs.Reports.{malformed_line}
+use Rattle.pc_run.specs.Replies.{SaysInput, Says, status_of, SaysOutcome, SaysFault, RepliesToCommand, RepliesToNone, LoadsOutcome, Responds}
+use Rattle.pc_run.specs.Loading.{LoadsAll, EndsAt}
 use Rattle.pc_run.specs.Meaning.{Call, IsWritten, IsCutOff, IsTold, IsAnswered, HasEnded, HasWriteFault, IsNoCommand, IsRefused, HasReadFault, Means, after_failed_put}
 
 -- what the sink holds after its put
@@ -27,23 +28,24 @@ front_from (Some old) None text leaves = absurd leaves
 front_from (Some old) (Some new) text leaves = (leaves.0, ap Some leaves.1)
 
 abbrev RespondsIn : Call → Status → List ℕ → Type 0
-RespondsIn call status text = Responds call.files call.words call.loads_before call.loads_after status text
+RespondsIn call status text = Responds call.reading call.words status text
 
 -- the reply to no command, to files that are not read, and to an outcome
-told_usage : (call : Call) (text : List ℕ) → command_of call.words ≡ None → text ≡ usage_line → IsTold call text → IsNoCommand call
-told_usage call text none is told = record { no_command = none; told = subst (λ (t : List ℕ). IsTold call t) is told }
+told_usage : (call : Call) (status : Status) (text : List ℕ) → RepliesToNone call.reading call.words status text → IsTold call text → IsNoCommand call
+told_usage call status text none told = record { no_command = none.none; loads = none.loads; told = subst (λ (t : List ℕ). IsTold call t) none.line told }
 
-told_fault : (call : Call) (asked : Asked) (status : Status) (text : List ℕ) → command_of call.words ≡ Some asked → SaysFault call.files asked call.loads_before call.loads_after status text → IsTold call text → HasReadFault call
+told_fault : (call : Call) (asked : Asked) (status : Status) (text : List ℕ) → command_of call.words ≡ Some asked → SaysFault call.reading asked status text → IsTold call text → HasReadFault call
 told_fault call asked status text command says told = record {
   asked = asked;
   command = command;
   file = says.file;
   unread = says.unread;
+  loads = says.loads;
   told = subst (λ (t : List ℕ). IsTold call t) says.line told;
 }
 
-answered : (call : Call) (asked : Asked) (status : Status) (text : List ℕ) (input : Input) → command_of call.words ≡ Some asked → ComesTo call.files asked (Ok input) → SaysInput input status text → IsAnswered call status text
-answered call asked status text input command agrees says = record { asked = asked; command = command; input = input; agrees = agrees; says = says }
+answered : (call : Call) (asked : Asked) (status : Status) (text : List ℕ) (input : Input) → command_of call.words ≡ Some asked → ComesTo call.reading.files asked (Ok input) → LoadsAll call.reading.did asked → SaysInput input status text → IsAnswered call status text
+answered call asked status text input command agrees loads says = record { asked = asked; command = command; input = input; agrees = agrees; loads = loads; says = says }
 
 -- what is said of an input is done, or no
 abbrev IsEnd : Status → Type 0
@@ -66,55 +68,56 @@ ended_whole call status has end = ⊎_elim (λ done. rw done (rw done at has)) (
 ended_cut_off : (call : Call) (status : Status) → HasWriteFault call → IsEnd status → Means call (after_failed_put status)
 ended_cut_off call status fault end = ⊎_elim (λ done. rw done fault) (λ no. rw no fault) end
 
-told_refusal : (call : Call) (asked : Asked) (text : List ℕ) (fault : Fault) → command_of call.words ≡ Some asked → ComesTo call.files asked (Err (refused fault)) → text ≡ malformed_line fault → IsTold call text → IsRefused call
-told_refusal call asked text fault command agrees is told = record {
+told_refusal : (call : Call) (asked : Asked) (text : List ℕ) (fault : Fault) → command_of call.words ≡ Some asked → ComesTo call.reading.files asked (Err (refused fault)) → EndsAt call.reading.did asked fault.file → text ≡ malformed_line fault → IsTold call text → IsRefused call
+told_refusal call asked text fault command agrees loads is told = record {
   asked = asked;
   command = command;
   fault = fault;
   agrees = agrees;
+  loads = loads;
   told = subst (λ (t : List ℕ). IsTold call t) is told;
 }
 
 -- the whole text was put
-outcome_whole : (call : Call) (asked : Asked) (status : Status) (text : List ℕ) → command_of call.words ≡ Some asked → (outcome : Result Input Obstacle) → Says outcome status text → ComesTo call.files asked outcome → IsWritten call text → Means call status
-outcome_whole call asked status text command (Ok input) says agrees written =
-    ended_whole call status (record { text = text; answered = answered call asked status text input command agrees says; written = written }) (ends input status text says)
-outcome_whole call asked status text command (Err (refused fault)) says agrees written =
-    rw says.0 (told_refusal call asked text fault command agrees says.1 (inl written))
-outcome_whole call asked status text command (Err (absent file)) says agrees written = absurd says
+outcome_whole : (call : Call) (asked : Asked) (status : Status) (text : List ℕ) → command_of call.words ≡ Some asked → (outcome : Result Input Obstacle) → Says outcome status text → ComesTo call.reading.files asked outcome → LoadsOutcome call.reading.did asked outcome → IsWritten call text → Means call status
+outcome_whole call asked status text command (Ok input) says agrees loads written =
+    ended_whole call status (record { text = text; answered = answered call asked status text input command agrees loads says; written = written }) (ends input status text says)
+outcome_whole call asked status text command (Err (refused fault)) says agrees loads written =
+    rw says.0 (told_refusal call asked text fault command agrees loads says.1 (inl written))
+outcome_whole call asked status text command (Err (absent file)) says agrees loads written = absurd says
 
-command_whole : (call : Call) (status : Status) (text : List ℕ) → RepliesToCommand call.files call.words call.loads_before call.loads_after status text → IsWritten call text → Means call status
+command_whole : (call : Call) (status : Status) (text : List ℕ) → RepliesToCommand call.reading call.words status text → IsWritten call text → Means call status
 command_whole call status text replies written =
     ⊎_elim
-    (λ (says : SaysFault call.files replies.asked call.loads_before call.loads_after status text). rw says.ended (told_fault call replies.asked status text replies.command says (inl written)))
-    (λ (says : SaysOutcome call.files replies.asked status text). outcome_whole call replies.asked status text replies.command says.outcome says.says says.agrees written)
+    (λ (says : SaysFault call.reading replies.asked status text). rw says.ended (told_fault call replies.asked status text replies.command says (inl written)))
+    (λ (says : SaysOutcome call.reading replies.asked status text). outcome_whole call replies.asked status text replies.command says.outcome says.says says.agrees says.loads written)
     replies.replies
 
 pub means_whole : (call : Call) (status : Status) (text : List ℕ) → RespondsIn call status text → IsWritten call text → Means call status
 means_whole call status text responds written =
     ⊎_elim
-    (λ (none : (command_of call.words ≡ None) × (status ≡ ended.Usage) × (text ≡ usage_line)). rw none.1 (told_usage call text none.0 none.2 (inl written)))
-    (λ (replies : RepliesToCommand call.files call.words call.loads_before call.loads_after status text). command_whole call status text replies written)
+    (λ (none : RepliesToNone call.reading call.words status text). rw none.ended (told_usage call status text none (inl written)))
+    (λ (replies : RepliesToCommand call.reading call.words status text). command_whole call status text replies written)
     responds
 
 -- a front of it was put
-outcome_cut_off : (call : Call) (asked : Asked) (status : Status) (text : List ℕ) → command_of call.words ≡ Some asked → (outcome : Result Input Obstacle) → Says outcome status text → ComesTo call.files asked outcome → IsCutOff call text → Means call (after_failed_put status)
-outcome_cut_off call asked status text command (Ok input) says agrees cut =
-    ended_cut_off call status (record { status = status; text = text; answered = answered call asked status text input command agrees says; cut_off = cut }) (ends input status text says)
-outcome_cut_off call asked status text command (Err (refused fault)) says agrees cut =
-    rw says.0 (told_refusal call asked text fault command agrees says.1 (inr cut))
-outcome_cut_off call asked status text command (Err (absent file)) says agrees cut = absurd says
+outcome_cut_off : (call : Call) (asked : Asked) (status : Status) (text : List ℕ) → command_of call.words ≡ Some asked → (outcome : Result Input Obstacle) → Says outcome status text → ComesTo call.reading.files asked outcome → LoadsOutcome call.reading.did asked outcome → IsCutOff call text → Means call (after_failed_put status)
+outcome_cut_off call asked status text command (Ok input) says agrees loads cut =
+    ended_cut_off call status (record { status = status; text = text; answered = answered call asked status text input command agrees loads says; cut_off = cut }) (ends input status text says)
+outcome_cut_off call asked status text command (Err (refused fault)) says agrees loads cut =
+    rw says.0 (told_refusal call asked text fault command agrees loads says.1 (inr cut))
+outcome_cut_off call asked status text command (Err (absent file)) says agrees loads cut = absurd says
 
-command_cut_off : (call : Call) (status : Status) (text : List ℕ) → RepliesToCommand call.files call.words call.loads_before call.loads_after status text → IsCutOff call text → Means call (after_failed_put status)
+command_cut_off : (call : Call) (status : Status) (text : List ℕ) → RepliesToCommand call.reading call.words status text → IsCutOff call text → Means call (after_failed_put status)
 command_cut_off call status text replies cut =
     ⊎_elim
-    (λ (says : SaysFault call.files replies.asked call.loads_before call.loads_after status text). rw says.ended (told_fault call replies.asked status text replies.command says (inr cut)))
-    (λ (says : SaysOutcome call.files replies.asked status text). outcome_cut_off call replies.asked status text replies.command says.outcome says.says says.agrees cut)
+    (λ (says : SaysFault call.reading replies.asked status text). rw says.ended (told_fault call replies.asked status text replies.command says (inr cut)))
+    (λ (says : SaysOutcome call.reading replies.asked status text). outcome_cut_off call replies.asked status text replies.command says.outcome says.says says.agrees says.loads cut)
     replies.replies
 
 pub means_cut_off : (call : Call) (status : Status) (text : List ℕ) → RespondsIn call status text → IsCutOff call text → Means call (after_failed_put status)
 means_cut_off call status text responds cut =
     ⊎_elim
-    (λ (none : (command_of call.words ≡ None) × (status ≡ ended.Usage) × (text ≡ usage_line)). rw none.1 (told_usage call text none.0 none.2 (inr cut)))
-    (λ (replies : RepliesToCommand call.files call.words call.loads_before call.loads_after status text). command_cut_off call status text replies cut)
+    (λ (none : RepliesToNone call.reading call.words status text). rw none.ended (told_usage call status text none (inr cut)))
+    (λ (replies : RepliesToCommand call.reading call.words status text). command_cut_off call status text replies cut)
     responds

@@ -1,50 +1,46 @@
 -- What the status of a run means for the files, the words and what was written.
-use Rattle.std.specs.Prelude.{◌≡◌, ℕ, ◌⊎◌, ◌++◌, take, List, Option, Some, None, Ok, Err, IfSome, IsSomeAnd}
+use Rattle.std.specs.Prelude.{◌≡◌, ℕ, ◌⊎◌, ◌++◌, take, List, [], Option, Some, None, Ok, Err, IfSome, IsSomeAnd}
 use Rattle.pc_model.specs.declared.fault.FileKind.{FileKind}
 use Rattle.pc_model.specs.declared.fault.Fault.{Fault}
 use Rattle.pc_base.specs.declared.status.Status.{Status}
 use Rattle.pc_base.specs.declared.status.Status.TheVariants as ended
 use Rattle.pc_base.specs.Counts.{Rose}
-use Rattle.pc_base.specs.Files.{Files}
+use Rattle.pc_base.specs.declared.outside.Loaded.TheVariants as loadeds
 use Rattle.pc_run_words.specs.Words.{Asked, CheckNames, bound, prove, check, show, gen, command_of}
 use Rattle.pc_rows.specs.declared.case.Case.{Case}
 use Rattle.pc_run.specs.declared.claim.Claim.{Claim}
 use Rattle.pc_run.specs.Outcome.{Input, refused, claim_under, ComesTo, AreAccepted}
+use Rattle.pc_run.specs.Loading.{Reading, LoadsAll, StopsAt, EndsAt, AreInOrder}
 use Rattle.pc_run.specs.Replies.{SaysInput, SaysProof, IsUnread}
 use Rattle.pc_run.specs.Reports.{usage_line, fault_line, malformed_line}
 
--- what a run is given and what it leaves: the files, where the shelf tells them, and the bytes that the sink holds before
--- and after the run, where it tells them; the words; the counts of failed loads and puts before and after the run
-pub record Call : Type 0 where
-  pub files : Option Files
+-- what a sink tells before and after: its bytes, where it tells them, and how often a put had failed
+pub record Writing : Type 0 where
   pub kept : Option (List ℕ)
   pub left : Option (List ℕ)
-  pub words : List (List ℕ)
-  pub loads_before : ℕ
-  pub loads_after : ℕ
-  pub puts_before : ℕ
-  pub puts_after : ℕ
+  pub before : ℕ
+  pub after : ℕ
 
-abbrev pub call_of : Option Files → Option (List ℕ) → Option (List ℕ) → List (List ℕ) → ℕ → ℕ → ℕ → ℕ → Call
-call_of files kept left words loads_before loads_after puts_before puts_after = record {
-  files = files;
-  kept = kept;
-  left = left;
-  words = words;
-  loads_before = loads_before;
-  loads_after = loads_after;
-  puts_before = puts_before;
-  puts_after = puts_after;
-}
+abbrev pub writing_of : {S : Type 0} → (S → Option (List ℕ)) → (S → ℕ) → S → S → Writing
+writing_of kept faults old new = record { kept = kept old; left = kept new; before = faults old; after = faults new }
+
+-- what a run is given and what it leaves: the words, the shelf and the sink
+pub record Call : Type 1 where
+  pub words : List (List ℕ)
+  pub reading : Reading
+  pub writing : Writing
+
+abbrev pub call_of : List (List ℕ) → Reading → Writing → Call
+call_of words reading writing = record { words = words; reading = reading; writing = writing }
 
 -- the whole text was written
 abbrev pub IsWritten : Call → List ℕ → Type 0
-IsWritten call text = IfSome call.kept (λ kept. call.left ≡ Some (kept ++ text))
+IsWritten call text = IfSome call.writing.kept (λ kept. call.writing.left ≡ Some (kept ++ text))
 
 -- a front of the text was written, and a put failed in this call
 pub record IsCutOff (call : Call) (text : List ℕ) : Type 0 where
-  pub rose : Rose call.puts_before call.puts_after
-  pub front : IfSome call.kept (λ kept. (n : ℕ) × (call.left ≡ Some (kept ++ take n text)))
+  pub rose : Rose call.writing.before call.writing.after
+  pub front : IfSome call.writing.kept (λ kept. (n : ℕ) × (call.writing.left ≡ Some (kept ++ take n text)))
 
 -- a line of a refusal stays what it says where the put of it fails
 abbrev pub IsTold : Call → List ℕ → Type 0
@@ -55,7 +51,8 @@ pub record IsAnswered (call : Call) (status : Status) (text : List ℕ) : Type 0
   pub asked : Asked
   pub command : command_of call.words ≡ Some asked
   pub input : Input
-  pub agrees : ComesTo call.files asked (Ok input)
+  pub agrees : ComesTo call.reading.files asked (Ok input)
+  pub loads : LoadsAll call.reading.did asked
   pub says : SaysInput input status text
 
 -- what is said was written
@@ -72,23 +69,31 @@ pub record HasWriteFault (call : Call) : Type 0 where
 
 pub record IsNoCommand (call : Call) : Type 0 where
   pub no_command : command_of call.words ≡ None
+  pub loads : call.reading.did []
   pub told : IsTold call usage_line
 
--- a file or the query has a first fault
+-- a file or the query has a first fault, and nothing was loaded after that file
 pub record IsRefused (call : Call) : Type 0 where
   pub asked : Asked
   pub command : command_of call.words ≡ Some asked
   pub fault : Fault
-  pub agrees : ComesTo call.files asked (Err (refused fault))
+  pub agrees : ComesTo call.reading.files asked (Err (refused fault))
+  pub loads : EndsAt call.reading.did asked fault.file
   pub told : IsTold call (malformed_line fault)
 
--- a load failed
+-- the last load failed, and no other
 pub record HasReadFault (call : Call) : Type 0 where
   pub asked : Asked
   pub command : command_of call.words ≡ Some asked
   pub file : FileKind
-  pub unread : IsUnread call.files asked call.loads_before call.loads_after file
+  pub unread : IsUnread call.reading.files asked call.reading.before call.reading.after file
+  pub loads : StopsAt call.reading.did asked file loadeds.Failed
   pub told : IsTold call (fault_line file)
+
+-- nothing was written
+pub record HasNoMemory (call : Call) : Type 0 where
+  pub nothing_put : call.writing.left ≡ call.writing.kept
+  pub in_order : AreInOrder call.reading.did (command_of call.words)
 
 abbrev pub Means : Call → Status → Type 0
 Means call ended.Done = HasEnded call ended.Done
@@ -97,15 +102,15 @@ Means call ended.Usage = IsNoCommand call
 Means call ended.Malformed = IsRefused call
 Means call ended.ReadFault = HasReadFault call
 Means call ended.WriteFault = HasWriteFault call
-Means call ended.Memory = call.left ≡ call.kept
+Means call ended.Memory = HasNoMemory call
 
 -- the words are a command whose files are held and accepted, and no load and no put failed
 pub record IsAnswerable (call : Call) : Type 0 where
   pub asked : Asked
   pub command : command_of call.words ≡ Some asked
-  pub accepted : AreAccepted call.files asked
-  pub loads : ¬ Rose call.loads_before call.loads_after
-  pub puts : ¬ Rose call.puts_before call.puts_after
+  pub accepted : AreAccepted call.reading.files asked
+  pub loads : ¬ Rose call.reading.before call.reading.after
+  pub puts : ¬ Rose call.writing.before call.writing.after
 
 -- such a run is done, or says no where a document is checked, or there was no memory for it
 abbrev pub IsAnswer : Asked → Status → Type 0
@@ -126,9 +131,9 @@ pub record ChecksClaim (call : Call) : Type 0 where
   pub names : CheckNames
   pub command : command_of call.words ≡ Some (check names)
   pub claim : Claim
-  pub held : IsSomeAnd call.files (λ files. claim_under names files ≡ Ok claim)
-  pub loads : ¬ Rose call.loads_before call.loads_after
-  pub puts : ¬ Rose call.puts_before call.puts_after
+  pub held : IsSomeAnd call.reading.files (λ files. claim_under names files ≡ Ok claim)
+  pub loads : ¬ Rose call.reading.before call.reading.after
+  pub puts : ¬ Rose call.writing.before call.writing.after
 
 -- the bytes are a document that `prove` wrote for the same schema, observed rows and constraints, whatever the queries and the
 -- budget were

@@ -1,5 +1,5 @@
 -- With which status and text a run replies to the files of a command.
-use Rattle.std.specs.Prelude.{◌≡◌, ◌↔◌, ℕ, ◌⊎◌, ⊤, Bool, false, IsTrue, List, length, All, Option, Some, None, Result, Ok, Err, IsOk, IsOkAnd, IfOk, IfSome}
+use Rattle.std.specs.Prelude.{◌≡◌, ◌↔◌, ℕ, ◌⊎◌, ⊤, Bool, false, IsTrue, List, [], length, All, Option, Some, None, Result, Ok, Err, IsOk, IsOkAnd, IfOk, IfSome}
 use Rattle.std.specs.List.{AllPass}
 use Rattle.pc_model.specs.declared.fault.FileKind.{FileKind}
 use Rattle.pc_model.specs.declared.fault.FileKind.TheVariants as kinds
@@ -25,7 +25,9 @@ use Rattle.pc_run.specs.declared.stop.Stop.{Stop}
 use Rattle.pc_run.specs.declared.stop.Stop.TheVariants as stops
 use Rattle.pc_run_words.specs.Words.{Asked, bound, prove, check, show, gen, command_of, usual_nodes}
 use Rattle.pc_run.specs.Outcome.{Obstacle, refused, absent, Input, asks, proves, claims, shows, makes, schema_under, rows_under, constraints_under, ComesTo}
-use Rattle.pc_run.specs.Loading.{name_of}
+use Rattle.pc_base.specs.Loads.{Load}
+use Rattle.pc_base.specs.declared.outside.Loaded.TheVariants as loadeds
+use Rattle.pc_run.specs.Loading.{name_of, Reading, LoadsAll, StopsAt, EndsAt}
 use Rattle.pc_run.specs.Reports.{usage_line, fault_line, malformed_line, listing_of, yes_line, no_line}
 use Rattle.pc_run.specs.Answers.{AnswersCase}
 use Rattle.pc_check.specs.declared.verdict.Verdict.{Verdict}
@@ -189,29 +191,43 @@ IsSoundInput (claims claim) = IsCheckable claim
 IsSoundInput (shows listing) = IsShowable listing
 IsSoundInput (makes numbers) = ⊤
 
+-- which loads there were before this outcome
+abbrev pub LoadsOutcome : (List Load → Type 0) → Asked → Result Input Obstacle → Type 0
+LoadsOutcome did asked (Ok input) = LoadsAll did asked
+LoadsOutcome did asked (Err (refused fault)) = EndsAt did asked fault.file
+LoadsOutcome did asked (Err (absent file)) = ⊤
+
 -- the reply to an outcome, which is that of the files where the shelf tells them
-pub record SaysOutcome (told : Option Files) (asked : Asked) (status : Status) (text : List ℕ) : Type 0 where
+pub record SaysOutcome (reading : Reading) (asked : Asked) (status : Status) (text : List ℕ) : Type 0 where
   pub outcome : Result Input Obstacle
   pub sound : IfOk outcome IsSoundInput
   pub says : Says outcome status text
-  pub agrees : ComesTo told asked outcome
+  pub agrees : ComesTo reading.files asked outcome
+  pub loads : LoadsOutcome reading.did asked outcome
 
--- the reply to a load that failed
-pub record SaysFault (told : Option Files) (asked : Asked) (before now : ℕ) (status : Status) (text : List ℕ) : Type 0 where
+-- the reply to a load that failed, which was the last one
+pub record SaysFault (reading : Reading) (asked : Asked) (status : Status) (text : List ℕ) : Type 0 where
   pub file : FileKind
-  pub unread : IsUnread told asked before now file
+  pub unread : IsUnread reading.files asked reading.before reading.after file
+  pub loads : StopsAt reading.did asked file loadeds.Failed
   pub ended : status ≡ ended.ReadFault
   pub line : text ≡ fault_line file
 
-abbrev pub RepliesTo : Option Files → Asked → ℕ → ℕ → Status → List ℕ → Type 0
-RepliesTo told asked before now status text = SaysFault told asked before now status text ⊎ SaysOutcome told asked status text
+abbrev pub RepliesTo : Reading → Asked → Status → List ℕ → Type 0
+RepliesTo reading asked status text = SaysFault reading asked status text ⊎ SaysOutcome reading asked status text
 
-pub record RepliesToCommand (told : Option Files) (words : List (List ℕ)) (before now : ℕ) (status : Status) (text : List ℕ) : Type 0 where
+pub record RepliesToCommand (reading : Reading) (words : List (List ℕ)) (status : Status) (text : List ℕ) : Type 0 where
   pub asked : Asked
   pub command : command_of words ≡ Some asked
-  pub replies : RepliesTo told asked before now status text
+  pub replies : RepliesTo reading asked status text
+
+-- the words are no command, and nothing is loaded
+pub record RepliesToNone (reading : Reading) (words : List (List ℕ)) (status : Status) (text : List ℕ) : Type 0 where
+  pub none : command_of words ≡ None
+  pub ended : status ≡ ended.Usage
+  pub line : text ≡ usage_line
+  pub loads : reading.did []
 
 -- the reply to any words
-abbrev pub Responds : Option Files → List (List ℕ) → ℕ → ℕ → Status → List ℕ → Type 0
-Responds told words before now status text =
-    ((command_of words ≡ None) × (status ≡ ended.Usage) × (text ≡ usage_line)) ⊎ RepliesToCommand told words before now status text
+abbrev pub Responds : Reading → List (List ℕ) → Status → List ℕ → Type 0
+Responds reading words status text = RepliesToNone reading words status text ⊎ RepliesToCommand reading words status text

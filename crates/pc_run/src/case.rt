@@ -6,6 +6,8 @@ ghost use Rattle.pc_run_words.specs.Commands.{bound_names};
 ghost use Rattle.pc_run_words.specs.Words.{bound, prove};
 ghost use Rattle.pc_run.specs.Outcome.{asks, proves, queries_of};
 ghost use Rattle.pc_run.specs.Replies.{InputAgrees, IsSound};
+ghost use Rattle.pc_base.specs.Loads.{Chain};
+ghost use Rattle.pc_run.specs.Loading.{IsInOrder, LoadsFiles};
 
 use crate::loading::{load_constraints, load_rows, load_schema};
 use crate::stop::Stop;
@@ -18,7 +20,7 @@ use pc_run_words::Bound;
 use std::alloc::Global;
 
 /// Reads the files of `bound` or `prove` in their order, and then its queries.
-#[tactic(auto, using(crate::proofs::Cases::proves_too))]
+#[tactic(auto, using(crate::proofs::Cases::proves_too, crate::proofs::Chains::in_order, crate::proofs::Chains::loads_too))]
 pub(crate) fn read_case<F: Shelf>(
     alloc: Global,
     files: &mut F,
@@ -26,6 +28,10 @@ pub(crate) fn read_case<F: Shelf>(
 ) -> Result<Case, Stop>
     ensures agrees { InputAgrees (asks command.now.nodes) (F.files files.old) (bound (bound_names command.now)) (F.faults files.old) (F.faults files.new) result }
     ensures proves { InputAgrees (proves command.now.nodes) (F.files files.old) (prove (bound_names command.now)) (F.faults files.old) (F.faults files.new) result }
+    ensures loads { LoadsFiles (Chain F.leads files.old files.new) (bound (bound_names command.now)) result }
+    ensures proves_loads { LoadsFiles (Chain F.leads files.old files.new) (prove (bound_names command.now)) result }
+    ensures in_order { IsInOrder (Chain F.leads files.old files.new) (bound (bound_names command.now)) }
+    ensures proves_in_order { IsInOrder (Chain F.leads files.old files.new) (prove (bound_names command.now)) }
     ensures sound { IfOk result IsSound }
     ensures files_stay { F.files files.new ≡ F.files files.old }
     ensures faults_stay { F.faults files.old ≤ F.faults files.new }
@@ -38,6 +44,7 @@ pub(crate) fn read_case<F: Shelf>(
 #[tactic(auto, using(pc_model::proofs::FewNames::have_few_names))]
 fn case_under<F: Shelf>(alloc: Global, files: &mut F, command: &Bound) -> Result<Case, Stop>
     ensures agrees { InputAgrees (asks command.now.nodes) (F.files files.old) (bound (bound_names command.now)) (F.faults files.old) (F.faults files.new) result }
+    ensures loads { LoadsFiles (Chain F.leads files.old files.new) (bound (bound_names command.now)) result }
     ensures sound { IfOk result IsSound }
     ensures files_stay { F.files files.new ≡ F.files files.old }
     ensures faults_stay { F.faults files.old ≤ F.faults files.new }

@@ -3,6 +3,8 @@ ghost use Rattle.pc_run_words.specs.Commands.{check_names};
 ghost use Rattle.pc_run_words.specs.Words.{check};
 ghost use Rattle.pc_run.specs.Outcome.{claims};
 ghost use Rattle.pc_run.specs.Replies.{InputAgrees, IsCheckable};
+ghost use Rattle.pc_base.specs.Loads.{Chain};
+ghost use Rattle.pc_run.specs.Loading.{IsInOrder, LoadsFiles};
 
 use crate::loading::{load_constraints, load_document, load_rows, load_schema};
 use crate::stop::Stop;
@@ -23,13 +25,28 @@ pub(crate) struct Claim {
 }
 
 /// Reads the files of `check` in their order, and loads the document.
-#[tactic(auto, using(pc_model::proofs::FewNames::have_few_names))]
+#[tactic(auto, using(crate::proofs::Chains::in_order))]
 pub(crate) fn read_claim<F: Shelf>(
     alloc: Global,
     files: &mut F,
     command: &Check,
 ) -> Result<Claim, Stop>
     ensures agrees { InputAgrees claims (F.files files.old) (check (check_names command.now)) (F.faults files.old) (F.faults files.new) result }
+    ensures loads { LoadsFiles (Chain F.leads files.old files.new) (check (check_names command.now)) result }
+    ensures in_order { IsInOrder (Chain F.leads files.old files.new) (check (check_names command.now)) }
+    ensures checkable { IfOk result IsCheckable }
+    ensures files_stay { F.files files.new ≡ F.files files.old }
+    ensures faults_stay { F.faults files.old ≤ F.faults files.new }
+    ensures calls { F.calls files.new ≤ F.calls files.old + 4 }
+{
+    claim_under(alloc, files, command)
+}
+
+// The files in their order; that none is loaded twice follows.
+#[tactic(auto, using(pc_model::proofs::FewNames::have_few_names))]
+fn claim_under<F: Shelf>(alloc: Global, files: &mut F, command: &Check) -> Result<Claim, Stop>
+    ensures agrees { InputAgrees claims (F.files files.old) (check (check_names command.now)) (F.faults files.old) (F.faults files.new) result }
+    ensures loads { LoadsFiles (Chain F.leads files.old files.new) (check (check_names command.now)) result }
     ensures checkable { IfOk result IsCheckable }
     ensures files_stay { F.files files.new ≡ F.files files.old }
     ensures faults_stay { F.faults files.old ≤ F.faults files.new }

@@ -3,6 +3,8 @@ ghost use Rattle.pc_run_words.specs.Commands.{show_names};
 ghost use Rattle.pc_run.specs.Outcome.{shows};
 ghost use Rattle.pc_run.specs.Replies.{InputAgrees, IsShowable};
 ghost use Rattle.pc_run_words.specs.Words.{show};
+ghost use Rattle.pc_base.specs.Loads.{Chain};
+ghost use Rattle.pc_run.specs.Loading.{IsInOrder, LoadsFiles};
 
 use crate::loading::{load_constraints, load_schema};
 use crate::stop::Stop;
@@ -20,12 +22,27 @@ pub(crate) struct Listing {
 }
 
 /// Reads the files of `show` in their order.
+#[tactic(auto, using(crate::proofs::Chains::in_order))]
 pub(crate) fn read_listing<F: Shelf>(
     alloc: Global,
     files: &mut F,
     command: &Show,
 ) -> Result<Listing, Stop>
     ensures agrees { InputAgrees shows (F.files files.old) (show (show_names command.now)) (F.faults files.old) (F.faults files.new) result }
+    ensures loads { LoadsFiles (Chain F.leads files.old files.new) (show (show_names command.now)) result }
+    ensures in_order { IsInOrder (Chain F.leads files.old files.new) (show (show_names command.now)) }
+    ensures showable { IfOk result IsShowable }
+    ensures files_stay { F.files files.new ≡ F.files files.old }
+    ensures faults_stay { F.faults files.old ≤ F.faults files.new }
+    ensures calls { F.calls files.new ≤ F.calls files.old + 2 }
+{
+    listing_under(alloc, files, command)
+}
+
+// The files in their order; that none is loaded twice follows.
+fn listing_under<F: Shelf>(alloc: Global, files: &mut F, command: &Show) -> Result<Listing, Stop>
+    ensures agrees { InputAgrees shows (F.files files.old) (show (show_names command.now)) (F.faults files.old) (F.faults files.new) result }
+    ensures loads { LoadsFiles (Chain F.leads files.old files.new) (show (show_names command.now)) result }
     ensures showable { IfOk result IsShowable }
     ensures files_stay { F.files files.new ≡ F.files files.old }
     ensures faults_stay { F.faults files.old ≤ F.faults files.new }

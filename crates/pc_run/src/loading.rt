@@ -8,7 +8,8 @@ ghost use Rattle.pc_model.specs.Refusals.{fault_at};
 ghost use Rattle.pc_model.specs.WellFormed.{IsWellFormed, HaveFewNames};
 ghost use Rattle.pc_base.specs.Counts.{RoseByOne};
 ghost use Rattle.pc_run.specs.Outcome.{bytes_under, limit_of, schema_under, rows_under, constraints_under};
-ghost use Rattle.pc_run.specs.Loading.{Agrees, HasCause};
+ghost use Rattle.pc_base.specs.Loads.{Chain};
+ghost use Rattle.pc_run.specs.Loading.{Agrees, HasCause, LoadsFile};
 
 use crate::stop::Stop;
 use pc_base::{Loaded, Shelf};
@@ -30,6 +31,7 @@ fn load_bytes<F: Shelf>(
     name: &str,
 ) -> Result<Seq<u8>, Stop>
     ensures agrees { Agrees file (F.files files.old) (bytes_under file name.now) result }
+    ensures loads { LoadsFile (Chain F.leads files.old files.new) file name.now result }
     ensures cause { HasCause (F.files files.old) name.now (F.faults files.old) (F.faults files.new) result }
     ensures files_stay { F.files files.new ≡ F.files files.old }
     ensures faults_stay { F.faults files.old ≤ F.faults files.new }
@@ -71,6 +73,7 @@ pub(crate) fn load_schema<F: Shelf>(
     name: &str,
 ) -> Result<Schema, Stop>
     ensures agrees { Agrees kinds.Schema (F.files files.old) (schema_under name.now) result }
+    ensures loads { LoadsFile (Chain F.leads files.old files.new) kinds.Schema name.now result }
     ensures cause { HasCause (F.files files.old) name.now (F.faults files.old) (F.faults files.new) result }
     ensures files_stay { F.files files.new ≡ F.files files.old }
     ensures faults_stay { F.faults files.old ≤ F.faults files.new }
@@ -90,6 +93,7 @@ pub(crate) fn load_rows<F: Shelf>(
 ) -> Result<Rows, Stop>
     requires { HaveFewNames schema.now.columns }
     ensures agrees { Agrees kinds.Rows (F.files files.old) (rows_under schema.now name.now) result }
+    ensures loads { LoadsFile (Chain F.leads files.old files.new) kinds.Rows name.now result }
     ensures cause { HasCause (F.files files.old) name.now (F.faults files.old) (F.faults files.new) result }
     ensures files_stay { F.files files.new ≡ F.files files.old }
     ensures faults_stay { F.faults files.old ≤ F.faults files.new }
@@ -109,6 +113,7 @@ pub(crate) fn load_constraints<F: Shelf>(
 ) -> Result<Seq<Constraint>, Stop>
     requires well_formed { IsWellFormed schema.now }
     ensures agrees { Agrees kinds.Constraints (F.files files.old) (constraints_under schema.now name.now) result }
+    ensures loads { LoadsFile (Chain F.leads files.old files.new) kinds.Constraints name.now result }
     ensures cause { HasCause (F.files files.old) name.now (F.faults files.old) (F.faults files.new) result }
     ensures files_stay { F.files files.new ≡ F.files files.old }
     ensures faults_stay { F.faults files.old ≤ F.faults files.new }
@@ -126,6 +131,7 @@ pub(crate) fn load_document<F: Shelf>(
     name: &str,
 ) -> Result<Seq<u8>, Stop>
     ensures agrees { Agrees kinds.Document (F.files files.old) (bytes_under kinds.Document name.now) result }
+    ensures loads { LoadsFile (Chain F.leads files.old files.new) kinds.Document name.now result }
     ensures cause { HasCause (F.files files.old) name.now (F.faults files.old) (F.faults files.new) result }
     ensures files_stay { F.files files.new ≡ F.files files.old }
     ensures faults_stay { F.faults files.old ≤ F.faults files.new }

@@ -1,7 +1,9 @@
-ghost use Rattle.std.specs.Prelude.{◌≡◌, ◌≤◌, ◌+◌, ℕ, map, Option, IfOk, string_bytes};
-ghost use Rattle.pc_base.specs.Files.{Files};
+ghost use Rattle.std.specs.Prelude.{◌≡◌, ◌≤◌, ◌+◌, map, IfOk, string_bytes};
+ghost use Rattle.pc_base.specs.Loads.{Chain};
 ghost use Rattle.pc_run_words.specs.Commands.{bound_names, check_names, gen_numbers, show_names};
-ghost use Rattle.pc_run.specs.Replies.{IsSound, RepliesTo, RepliesToStop, Responds, SaysProof, SaysReport};
+ghost use Rattle.pc_run.specs.Replies.{IsSound, RepliesTo, RepliesToStop, Responds, SaysInput, SaysProof, SaysReport};
+ghost use Rattle.pc_run.specs.Loading.{reading_of, AreInOrder, IsInOrder};
+ghost use Rattle.pc_run.specs.Outcome.{makes};
 ghost use Rattle.pc_run_words.specs.Words.{bound, check, gen, prove, show, command_of, file_count, IsBudget, IsSize};
 
 use crate::case::read_case;
@@ -29,12 +31,14 @@ pub(crate) struct Reply {
 }
 
 /// The reply to any words.
+#[tactic(auto, using(crate::proofs::Chains::order_of_command, crate::proofs::Chains::nothing_loaded, crate::proofs::StopReplies::made_replies))]
 pub(crate) fn respond<F: Shelf>(
     alloc: Global,
     words: &[String],
     files: &mut F,
 ) -> Result<Reply, Memory>
-    ensures responds { IfOk result (λ reply. Responds (F.files files.old) (map string_bytes words.now) (F.faults files.old) (F.faults files.new) reply.status reply.text.items) }
+    ensures responds { IfOk result (λ reply. Responds (reading_of F.files F.faults F.leads files.old files.new) (map string_bytes words.now) reply.status reply.text.items) }
+    ensures in_order { AreInOrder (Chain F.leads files.old files.new) (command_of (map string_bytes words.now)) }
     ensures files_stay { F.files files.new ≡ F.files files.old }
     ensures faults_stay { F.faults files.old ≤ F.faults files.new }
     ensures calls { F.calls files.new ≤ F.calls files.old + file_count (command_of (map string_bytes words.now)) }
@@ -55,7 +59,8 @@ pub(crate) fn respond<F: Shelf>(
 /// The reply to `bound`.
 fn reply_to_bound<F: Shelf>(alloc: Global, files: &mut F, command: &Bound) -> Result<Reply, Memory>
     requires { IsBudget command.now.nodes }
-    ensures replies { IfOk result (λ reply. RepliesTo (F.files files.old) (bound (bound_names command.now)) (F.faults files.old) (F.faults files.new) reply.status reply.text.items) }
+    ensures replies { IfOk result (λ reply. RepliesTo (reading_of F.files F.faults F.leads files.old files.new) (bound (bound_names command.now)) reply.status reply.text.items) }
+    ensures in_order { IsInOrder (Chain F.leads files.old files.new) (bound (bound_names command.now)) }
     ensures files_stay { F.files files.new ≡ F.files files.old }
     ensures faults_stay { F.faults files.old ≤ F.faults files.new }
     ensures calls { F.calls files.new ≤ F.calls files.old + 3 }
@@ -72,7 +77,8 @@ fn reply_to_bound<F: Shelf>(alloc: Global, files: &mut F, command: &Bound) -> Re
 /// The reply to `prove`.
 fn reply_to_prove<F: Shelf>(alloc: Global, files: &mut F, command: &Bound) -> Result<Reply, Memory>
     requires { IsBudget command.now.nodes }
-    ensures replies { IfOk result (λ reply. RepliesTo (F.files files.old) (prove (bound_names command.now)) (F.faults files.old) (F.faults files.new) reply.status reply.text.items) }
+    ensures replies { IfOk result (λ reply. RepliesTo (reading_of F.files F.faults F.leads files.old files.new) (prove (bound_names command.now)) reply.status reply.text.items) }
+    ensures in_order { IsInOrder (Chain F.leads files.old files.new) (prove (bound_names command.now)) }
     ensures files_stay { F.files files.new ≡ F.files files.old }
     ensures faults_stay { F.faults files.old ≤ F.faults files.new }
     ensures calls { F.calls files.new ≤ F.calls files.old + 3 }
@@ -88,7 +94,8 @@ fn reply_to_prove<F: Shelf>(alloc: Global, files: &mut F, command: &Bound) -> Re
 
 /// The reply to `check`.
 fn reply_to_check<F: Shelf>(alloc: Global, files: &mut F, command: &Check) -> Result<Reply, Memory>
-    ensures replies { IfOk result (λ reply. RepliesTo (F.files files.old) (check (check_names command.now)) (F.faults files.old) (F.faults files.new) reply.status reply.text.items) }
+    ensures replies { IfOk result (λ reply. RepliesTo (reading_of F.files F.faults F.leads files.old files.new) (check (check_names command.now)) reply.status reply.text.items) }
+    ensures in_order { IsInOrder (Chain F.leads files.old files.new) (check (check_names command.now)) }
     ensures files_stay { F.files files.new ≡ F.files files.old }
     ensures faults_stay { F.faults files.old ≤ F.faults files.new }
     ensures calls { F.calls files.new ≤ F.calls files.old + 4 }
@@ -101,7 +108,8 @@ fn reply_to_check<F: Shelf>(alloc: Global, files: &mut F, command: &Check) -> Re
 
 /// The reply to `show`.
 fn reply_to_show<F: Shelf>(alloc: Global, files: &mut F, command: &Show) -> Result<Reply, Memory>
-    ensures replies { IfOk result (λ reply. RepliesTo (F.files files.old) (show (show_names command.now)) (F.faults files.old) (F.faults files.new) reply.status reply.text.items) }
+    ensures replies { IfOk result (λ reply. RepliesTo (reading_of F.files F.faults F.leads files.old files.new) (show (show_names command.now)) reply.status reply.text.items) }
+    ensures in_order { IsInOrder (Chain F.leads files.old files.new) (show (show_names command.now)) }
     ensures files_stay { F.files files.new ≡ F.files files.old }
     ensures faults_stay { F.faults files.old ≤ F.faults files.new }
     ensures calls { F.calls files.new ≤ F.calls files.old + 2 }
@@ -118,7 +126,7 @@ fn reply_to_show<F: Shelf>(alloc: Global, files: &mut F, command: &Show) -> Resu
 /// The reply to `gen`, which has no files.
 fn reply_to_gen(alloc: Global, command: &Gen) -> Result<Reply, Memory>
     requires { IsSize command.now.size }
-    ensures { IfOk result (λ reply. (told : Option Files) (before now : ℕ) → RepliesTo told (gen (gen_numbers command.now)) before now reply.status reply.text.items) }
+    ensures { IfOk result (λ reply. SaysInput (makes (gen_numbers command.now)) reply.status reply.text.items) }
 {
     Ok(Reply {
         status: Status::Done,

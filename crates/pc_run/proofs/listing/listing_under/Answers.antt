@@ -6,7 +6,10 @@ use Rattle.pc_run_words.specs.Words.{show}
 use Rattle.pc_run.specs.Outcome.{schema_under, constraints_under}
 use Rattle.pc_run.proofs.Cases.{at_file, schema_read}
 use Rattle.pc_run.proofs.Listings.{schema_refused, constraints_refused, at_end}
-use Rattle.pc_run.proofs.listing.read_listing.Goals as goal
+use Rattle.pc_run.specs.Loading.{wholes}
+use Rattle.pc_run.proofs.Chains.{more, stops_here}
+use Rattle.std.proofs.Common.{◌∷◌, []}
+use Rattle.pc_run.proofs.listing.listing_under.Goals as goal
 
 pub returns-in_err-schema-clause-agrees : goal.returns-in_err-schema-clause-agrees
 returns-in_err-schema-clause-agrees g c =
@@ -26,3 +29,16 @@ pub returns-clause-agrees : goal.returns-clause-agrees
 returns-clause-agrees g c =
     let agrees = rw c.in_ok-schema.ensures.files_stay at c.in_ok-constraints.ensures.agrees in
     at_end (g.F.Shelf.files c.args.files.now) (show_names c.args.command.now) (record { schema = c.in_ok-schema.schema; constraints = c.in_ok-constraints.constraints }) c.in_ok-schema.ensures.agrees agrees
+
+pub returns-in_err-schema-clause-loads : goal.returns-in_err-schema-clause-loads
+returns-in_err-schema-clause-loads g c =
+    let p = err_from_is_err_and c.from_residual.result c.from_residual.ensures.1 in
+    rw (p.1, p.2) (stops_here g.F.Shelf.leads c.args.files.now c.args.files.now c.load_schema.new.files (show (show_names c.args.command.now)) kinds.Schema ([]) (kinds.Constraints ∷ []) refl refl c.in_err-schema.field-0.0 c.in_err-schema.ensures.loads)
+
+pub returns-in_err-constraints-clause-loads : goal.returns-in_err-constraints-clause-loads
+returns-in_err-constraints-clause-loads g c =
+    let p = err_from_is_err_and c.from_residual-in_err-constraints.result c.from_residual-in_err-constraints.ensures.1 in
+    rw (p.1, p.2) (stops_here g.F.Shelf.leads c.args.files.now c.load_schema.new.files c.load_constraints.new.files (show (show_names c.args.command.now)) kinds.Constraints (kinds.Schema ∷ []) ([]) refl c.in_ok-schema.ensures.loads c.in_err-constraints.field-0.0 c.in_err-constraints.ensures.loads)
+
+pub returns-clause-loads : goal.returns-clause-loads
+returns-clause-loads g c = (more g.F.Shelf.leads c.args.files.now c.load_schema.new.files c.load_constraints.new.files (wholes (show (show_names c.args.command.now)) (kinds.Schema ∷ [])) (wholes (show (show_names c.args.command.now)) (kinds.Constraints ∷ [])) c.in_ok-schema.ensures.loads c.in_ok-constraints.ensures.loads)
