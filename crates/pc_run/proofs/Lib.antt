@@ -10,6 +10,7 @@ pub mod Files
 pub mod Listings
 pub mod MadeCases
 pub mod Meanings
+pub mod Promises
 pub mod Reported
 pub mod StopReplies
 pub mod Unbroken

@@ -11,7 +11,7 @@ use Rattle.pc_rows.specs.declared.case.Case.{Case}
 use Rattle.pc_run.specs.declared.claim.Claim.{Claim}
 use Rattle.pc_run.specs.Outcome.{Input, refused, claim_under, ComesTo, AreAccepted}
 use Rattle.pc_run.specs.Loading.{Reading, LoadsAll, StopsAt, EndsAt, AreInOrder}
-use Rattle.pc_run.specs.Replies.{SaysInput, SaysProof, IsUnread}
+use Rattle.pc_run.specs.Replies.{BreaksFirst, IsUnread, SaysInput, SaysProof, SpellsUnbroken}
 use Rattle.pc_run.specs.Reports.{usage_line, fault_line, malformed_line}
 
 -- what a sink tells before and after: its bytes, where it tells them, and how often a put had failed
@@ -150,6 +150,15 @@ IsDoneUnlessMemory status = (status ≡ ended.Done) ⊎ (status ≡ ended.Memory
 
 abbrev pub SaysNoUnlessMemory : Status → Type 0
 SaysNoUnlessMemory status = (status ≡ ended.SaidNo) ⊎ (status ≡ ended.Memory)
+
+-- What is promised of a call that ends with this status: what the status means; that input which can be answered is; what is
+-- said of each document that is checked; and that what `prove` wrote gets a yes.
+pub record KeepsPromise (call : Call) (status : Status) : Type 0 where
+  pub means : Means call status
+  pub answers : (can : IsAnswerable call) → IsAnswerUnlessMemory can.asked status
+  pub says_yes : (checks : ChecksClaim call) → SpellsUnbroken checks.claim → IsDoneUnlessMemory status
+  pub says_no : (checks : ChecksClaim call) (line rule : ℕ) → BreaksFirst checks.claim line rule → SaysNoUnlessMemory status
+  pub agrees : (checks : ChecksClaim call) → IsProved checks.claim → IsDoneUnlessMemory status
 
 -- the status of a run whose text could not be put: a report that is cut off is a write fault, the line of a refusal stays
 abbrev pub after_failed_put : Status → Status

@@ -3,9 +3,8 @@
 
 ghost use Rattle.std.specs.Prelude.{◌≡◌, ◌≤◌, ◌+◌, ℕ, map, string_bytes};
 ghost use Rattle.pc_run_words.specs.Words.{command_of, file_count};
-ghost use Rattle.pc_run.specs.Meaning.{ChecksClaim, IsProved, Means, IsAnswerUnlessMemory, IsAnswerable, IsDoneUnlessMemory, SaysNoUnlessMemory, call_of, writing_of, after_failed_put};
+ghost use Rattle.pc_run.specs.Meaning.{KeepsPromise, call_of, writing_of, after_failed_put};
 ghost use Rattle.pc_run.specs.Loading.{reading_of};
-ghost use Rattle.pc_run.specs.Replies.{BreaksFirst, SpellsUnbroken};
 
 mod case;
 mod claim;
@@ -27,11 +26,7 @@ use std::alloc::Global;
 /// Runs the command that the words are: loads its files, each at most once, and writes its report or the line of a
 /// refusal by at most one put.
 pub fn run<F: Shelf, K: Sink>(alloc: Global, words: &[String], files: &mut F, out: &mut K) -> Status
-    ensures means { Means (call_of (map string_bytes words.now) (reading_of F.files F.faults F.leads files.old files.new) (writing_of K.kept K.faults out.old out.new)) result }
-    ensures answers { (can : IsAnswerable (call_of (map string_bytes words.now) (reading_of F.files F.faults F.leads files.old files.new) (writing_of K.kept K.faults out.old out.new))) → IsAnswerUnlessMemory can.asked result }
-    ensures says_yes { (checks : ChecksClaim (call_of (map string_bytes words.now) (reading_of F.files F.faults F.leads files.old files.new) (writing_of K.kept K.faults out.old out.new))) → SpellsUnbroken checks.claim → IsDoneUnlessMemory result }
-    ensures says_no { (checks : ChecksClaim (call_of (map string_bytes words.now) (reading_of F.files F.faults F.leads files.old files.new) (writing_of K.kept K.faults out.old out.new))) (line rule : ℕ) → BreaksFirst checks.claim line rule → SaysNoUnlessMemory result }
-    ensures agrees { (checks : ChecksClaim (call_of (map string_bytes words.now) (reading_of F.files F.faults F.leads files.old files.new) (writing_of K.kept K.faults out.old out.new))) → IsProved checks.claim → IsDoneUnlessMemory result }
+    ensures promise { KeepsPromise (call_of (map string_bytes words.now) (reading_of F.files F.faults F.leads files.old files.new) (writing_of K.kept K.faults out.old out.new)) result }
     ensures files_stay { F.files files.new ≡ F.files files.old }
     ensures loads { F.calls files.new ≤ F.calls files.old + file_count (command_of (map string_bytes words.now)) }
     ensures puts { K.calls out.new ≤ K.calls out.old + 1 }
