@@ -23,7 +23,7 @@ fold_asks schema constraints query name observed seen nodes well named allowed f
       wide = query.chosen;
       group = query.group;
       name = name;
-      region = refl;
+      area = refl;
       named = named;
       allowed = allowed;
       well = well;

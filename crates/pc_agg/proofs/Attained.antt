@@ -6,7 +6,7 @@ use Rattle.std.proofs.lemmas.List.{length-map}
 use Rattle.std.proofs.lemmas.List.Elements.{All-head, All-tail}
 use Rattle.pc_model.specs.declared.schema.Schema.{Schema}
 use Rattle.pc_model.specs.declared.row.Row.{Row}
-use Rattle.pc_model.specs.declared.region.Region.{Region}
+use Rattle.pc_model.specs.declared.area.Area.{Area}
 use Rattle.pc_model.specs.declared.constraint.Constraint.{Constraint}
 use Rattle.pc_model.specs.declared.tree.CutNode.{CutNode}
 use Rattle.pc_model.specs.declared.query.Agg.{Agg}
@@ -71,7 +71,7 @@ module _ (schema : Schema) (constraints : List Constraint) (query : Query) (seen
   counted_runs asking picks counts rows lawful =
       let s = setting_for schema constraints query seen nodes asking in
       runs-counted s picks counts
-      (subst (λ (region : Region). AllZip (IsRowOf schema constraints region) (cells u) picks) (sym asking.region) rows)
+      (subst (λ (area : Area). AllZip (IsRowOf schema constraints area) (cells u) picks) (sym asking.area) rows)
       (lawful.sized ∙ length-map (cells u) (λ (class : Class). class.mask))
 
   -- ---- the rows of picks

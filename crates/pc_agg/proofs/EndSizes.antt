@@ -16,7 +16,7 @@ use Rattle.pc_model.specs.declared.query.Folded.{Folded}
 use Rattle.pc_model.specs.Accepted.{AreConstraints}
 use Rattle.pc_model.specs.Aggregate.{asked}
 use Rattle.pc_model.specs.Cells.{Class, IsSettledTree, leaves_in}
-use Rattle.pc_model.specs.Membership.{in_domain, has}
+use Rattle.pc_model.specs.Membership.{in_domain, is_in}
 use Rattle.pc_model.specs.Right.{always_has_value}
 use Rattle.pc_model.specs.WellFormed.{IsWellFormed}
 use Rattle.pc_cells_laws.proofs.Cells.{classes_of-differ}
@@ -40,8 +40,8 @@ if_small true n small = small
 if_small false n small = omega arith
 
 adds_small : (schema : Schema) (agg : Agg) (query : Query) (row : Row) → IsWellFormed schema → in_domain schema row ≡ true → nat_abs (adds agg query row) ≤ 10 ^ 15
-adds_small schema Count query row formed allowed = if_small (has query.chosen row) (pos 1) (omega arith)
-adds_small schema Sum query row formed allowed = if_small (has query.chosen row) (asked query row) (asked_small schema query row formed allowed)
+adds_small schema Count query row formed allowed = if_small (is_in query.chosen row) (pos 1) (omega arith)
+adds_small schema Sum query row formed allowed = if_small (is_in query.chosen row) (asked query row) (asked_small schema query row formed allowed)
 adds_small schema Min query row formed allowed = omega arith
 adds_small schema Max query row formed allowed = omega arith
 adds_small schema Avg query row formed allowed = omega arith

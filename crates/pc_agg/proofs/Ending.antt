@@ -28,7 +28,7 @@ use Rattle.pc_proof.specs.declared.answer.Proof.{Proof}
 use Rattle.pc_proof.specs.declared.answer.Proof.TheVariants as proofs
 use Rattle.pc_proof.specs.declared.answer.End.{End}
 use Rattle.pc_proof.specs.declared.answer.Answer.{Answer}
-use Rattle.pc_proof.specs.Setting.{Setting, cells, region_of}
+use Rattle.pc_proof.specs.Setting.{Setting, cells, area_of}
 use Rattle.pc_proof.specs.Table.{limit, ratio_of, bound_for, IsFormed, Shows, ShowsHigh, ShowsLow, high_program, low_program}
 use Rattle.pc_proof.specs.Unbroken.{HoldsMark, MayShow, IsExact, IsWellPosed}
 use Rattle.pc_branch.specs.Outcome.{IsMost}
@@ -177,7 +177,7 @@ module _ (s : Setting) (budget : ℕ) (found : Limit) (number : ℤ) where
   end_searched Low agg is = record { preorder = is.preorder; search = is.search }
 
 -- shown runs that attain an end are worth the limit
-end_attained : (extreme : Extreme) (s : Setting) (most number : ℤ) (runs : List Run) → IsWellPosed s.question → IsSettledTree s.question.schema s.question.constraints (region_of s.question) s.nodes → always_has_value s.question.query.agg ≡ true →
+end_attained : (extreme : Extreme) (s : Setting) (most number : ℤ) (runs : List Run) → IsWellPosed s.question → IsSettledTree s.question.schema s.question.constraints (area_of s.question) s.nodes → always_has_value s.question.query.agg ≡ true →
     IsMost (program_at extreme s s.question.query.agg (whole number)) most → number ≡ seen_value s.question.query.agg s +ℤ signed extreme most → IsAttained s.question (whole number) runs →
     worth (program_at extreme s s.question.query.agg (whole number)) (counts_of_runs s runs) ≡ most
 end_attained High s most number runs posed tree valued greatest is attains =

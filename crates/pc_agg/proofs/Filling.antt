@@ -6,6 +6,7 @@ use Rattle.std.proofs.lemmas.Slice.Zip.{all_zipped_more}
 use Rattle.pc_model.specs.declared.schema.Schema.{Schema}
 use Rattle.pc_model.specs.declared.row.Row.{Row}
 use Rattle.pc_model.specs.declared.region.Region.{Region}
+use Rattle.pc_model.specs.declared.area.Area.{Area}
 use Rattle.pc_model.specs.declared.constraint.Constraint.{Constraint}
 use Rattle.pc_model.specs.declared.tree.CutNode.{CutNode}
 use Rattle.pc_model.specs.Membership.{has}
@@ -40,7 +41,7 @@ more_rows cells picks place row there filled paired held =
 
 -- ---- the rows of cells
 
-module _ (schema : Schema) (constraints : List Constraint) (chosen : Region) (nodes : List CutNode) (formed : IsWellFormed schema) (tree : IsSettledTree schema constraints chosen nodes) where
+module _ (schema : Schema) (constraints : List Constraint) (chosen : Area) (nodes : List CutNode) (formed : IsWellFormed schema) (tree : IsSettledTree schema constraints chosen nodes) where
   rows_of_classes : (classes : List Class) (picks : List Row) → AllZip IsIn (map (cell_of (leaves_in schema nodes)) classes) picks →
       AllZip (IsRowOf schema constraints chosen) (map class_of_cell (map (cell_of (leaves_in schema nodes)) classes)) picks
   rows_of_classes [] [] paired = tt

@@ -13,7 +13,7 @@ use Rattle.pc_model.specs.Cells.{IsRowOf, IsSettledTree}
 use Rattle.pc_model.specs.Right.{always_has_value}
 use Rattle.pc_model.specs.Right as plain
 use Rattle.pc_model.specs.Runs.{runs_from}
-use Rattle.pc_model.specs.declared.region.Region.{Region}
+use Rattle.pc_model.specs.declared.area.Area.{Area}
 use Rattle.pc_program_bound.specs.declared.program.Program.{Program}
 use Rattle.pc_witness.proofs.Zipped.{AllZip-weaker}
 use Rattle.pc_proof.specs.declared.answer.NeverBy.{NeverBy}
@@ -104,7 +104,7 @@ module _ (schema : Schema) (constraints : List Constraint) (query : Query) (seen
   module _ (observing : IsObserving s observed) (picks : List Row) (rows : AreRowsOfCells u picks) (found : List (List ℕ)) (lawful : All (AreLawful u) found) where
     of_cells : AreOfCells s picks
     of_cells =
-        AllZip-weaker (IsRowOf schema constraints query.chosen) (IsOfCell s) (λ class row of. subst (λ (region : Region). IsRowOf schema constraints region class row) (sym asking.region) of) (cells u) picks rows
+        AllZip-weaker (IsRowOf schema constraints query.chosen) (IsOfCell s) (λ class row of. subst (λ (area : Area). IsRowOf schema constraints area class row) (sym asking.area) of) (cells u) picks rows
 
     abbrev IsThere : List Run → Type 0
     IsThere runs = Contains found (counts_of_runs s runs)

@@ -31,7 +31,7 @@ use Rattle.pc_proof.specs.declared.answer.End.{End}
 use Rattle.pc_proof.specs.declared.answer.Answer.{Answer}
 use Rattle.pc_program_bound.specs.declared.program.Program.{Program}
 use Rattle.pc_program_bound.specs.Allocation.{IsAllocation}
-use Rattle.pc_proof.specs.Setting.{Setting, region_of, leaves, program_for}
+use Rattle.pc_proof.specs.Setting.{Setting, area_of, leaves, program_for}
 use Rattle.pc_proof.specs.Table.{ratio_of, one, minus_one, EndsCross, HasValue, ShowsAlways, ShowsImpossible}
 use Rattle.pc_proof.specs.Unbroken.{HoldsRelation, HoldsLack, HasForm, IsUnbroken, IsDecided, IsExact, MayStand, plain_relation, plain_lack}
 use Rattle.pc_branch_licences.specs.Licensed.{LicensedRelation, LicensedLack, IfOuter, IsSettledLack}
@@ -100,7 +100,7 @@ module _ (schema : Schema) (constraints : List Constraint) (query : Query) (seen
   abbrev s : Setting
   s = setting_for schema constraints query seen nodes asking
 
-  tree_at : IsSettledTree schema constraints (region_of s.question) nodes
+  tree_at : IsSettledTree schema constraints (area_of s.question) nodes
   tree_at = tree_for schema constraints query seen nodes formed asking tree
 
   -- ---- what is settled
@@ -244,7 +244,7 @@ module _ (schema : Schema) (constraints : List Constraint) (query : Query) (seen
 
   -- ---- no list
 
-  settled_here : AreSettled constraints (region_of s.question) (leaves s)
+  settled_here : AreSettled constraints (area_of s.question) (leaves s)
   settled_here = tree_at.settled
 
   impossible_form : (why : Why) → HasForm s (impossible_by why)

@@ -2,23 +2,23 @@
 use Rattle.std.proofs.Common.{◌≡◌, ℕ, pos, ◌+ℤ◌, true, cond, List, map, Option, Some, IfSome, refl, sym, ap, subst, ◌∙◌, true≢false}
 use Rattle.pc_model.specs.declared.schema.Schema.{Schema}
 use Rattle.pc_model.specs.declared.row.Row.{Row}
-use Rattle.pc_model.specs.declared.region.Region.{Region}
+use Rattle.pc_model.specs.declared.area.Area.{Area}
 use Rattle.pc_model.specs.declared.constraint.Constraint.{Constraint}
 use Rattle.pc_model.specs.declared.tree.CutNode.{CutNode}
 use Rattle.pc_model.specs.declared.query.Agg.{Agg}
 use Rattle.pc_model.specs.declared.query.Agg.TheVariants.{Count, Sum, Min, Max, Avg}
 use Rattle.pc_model.specs.declared.query.Query.{Query}
 use Rattle.pc_model.specs.declared.query.Folded.{Folded}
-use Rattle.pc_model.specs.Membership.{has}
+use Rattle.pc_model.specs.Membership.{is_in}
 use Rattle.pc_model.specs.WellFormed.{IsWellFormed}
 use Rattle.pc_model.specs.Aggregate.{whole, asked, int_sum}
 use Rattle.pc_model.specs.Right.{value_for, always_has_value}
 use Rattle.pc_model.specs.Cells.{IsSettledTree}
 use Rattle.pc_proof.proofs.RowSums.{int_sum-same}
-use Rattle.pc_proof.specs.Setting.{Setting, region_of, seen_count, seen_sum}
+use Rattle.pc_proof.specs.Setting.{Setting, area_of, seen_count, seen_sum}
 use Rattle.pc_proof.specs.Unbroken.{IsWellPosed}
 use Rattle.pc_proof.proofs.Ends.{sum_asks_numbers}
-use Rattle.pc_proof.proofs.Groups.{keeps_region}
+use Rattle.pc_proof.proofs.Groups.{keeps_area}
 use Rattle.pc_proof.proofs.Seen.{keeps, value-count, value-sum}
 use Rattle.pc_branch_licences.specs.Totals.{seen_value}
 use Rattle.pc_agg_search.specs.Asked.{Asking, asked_as, setting_for}
@@ -32,14 +32,14 @@ module _ (schema : Schema) (constraints : List Constraint) (query : Query) (seen
   abbrev s : Setting
   s = setting_for schema constraints query seen nodes asking
 
-  pub tree_for : IsSettledTree schema constraints query.chosen nodes → IsSettledTree schema constraints (region_of s.question) nodes
-  tree_for tree = subst (λ (region : Region). IsSettledTree schema constraints region nodes) (sym asking.region) tree
+  pub tree_for : IsSettledTree schema constraints query.chosen nodes → IsSettledTree schema constraints (area_of s.question) nodes
+  tree_for tree = subst (λ (area : Area). IsSettledTree schema constraints area nodes) (sym asking.area) tree
 
   pub posed : IsWellPosed s.question
   posed = record { formed = formed; query = asking.well }
 
-  keeps_chosen : (row : Row) → keeps s.question row ≡ has query.chosen row
-  keeps_chosen row = keeps_region s.question posed row ∙ ap (λ (region : Region). has region row) asking.region
+  keeps_chosen : (row : Row) → keeps s.question row ≡ is_in query.chosen row
+  keeps_chosen row = keeps_area s.question posed row ∙ ap (λ (area : Area). is_in area row) asking.area
 
   -- the aggregate
   pub value_is : (agg : Agg) (lost : List Row) → query.agg ≡ agg → always_has_value agg ≡ true →

@@ -5,7 +5,7 @@ use Rattle.std.specs.List.{AllZip}
 use Rattle.std.proofs.lemmas.Int.{ints}
 use Rattle.pc_model.specs.declared.schema.Schema.{Schema}
 use Rattle.pc_model.specs.declared.row.Row.{Row}
-use Rattle.pc_model.specs.declared.region.Region.{Region}
+use Rattle.pc_model.specs.declared.area.Area.{Area}
 use Rattle.pc_model.specs.declared.row.Run.{Run}
 use Rattle.pc_model.specs.declared.constraint.Constraint.{Constraint}
 use Rattle.pc_model.specs.declared.query.Query.{Query}
@@ -19,7 +19,7 @@ use Rattle.pc_model.specs.Runs.{runs_from}
 use Rattle.pc_program_bound.specs.Allocation.{worth}
 use Rattle.pc_witness.proofs.Zipped.{AllZip-weaker}
 use Rattle.pc_proof.specs.declared.answer.Proof.{Proof}
-use Rattle.pc_proof.specs.Setting.{Setting, region_of, cells, seen_count, seen_least, seen_greatest}
+use Rattle.pc_proof.specs.Setting.{Setting, area_of, cells, seen_count, seen_least, seen_greatest}
 use Rattle.pc_proof.specs.Table.{HasRatio}
 use Rattle.pc_branch_licences.specs.Picked.{AreOfCells, AreLowest, AreHighest, IsLowest, IsHighest, IsOfCell}
 use Rattle.pc_branch_licences.specs.Pools.{AreLawful}
@@ -78,7 +78,7 @@ module _ (schema : Schema) (constraints : List Constraint) (query : Query) (seen
   abbrev s : Setting
   s = setting_for schema constraints query seen nodes asking
 
-  tree_at : IsSettledTree schema constraints (region_of s.question) nodes
+  tree_at : IsSettledTree schema constraints (area_of s.question) nodes
   tree_at = tree_for schema constraints query seen nodes formed asking tree
 
   least : seen_least s.question ≡ seen.least
@@ -90,7 +90,7 @@ module _ (schema : Schema) (constraints : List Constraint) (query : Query) (seen
   -- ---- rows of the cells
 
   cell_here : (class : Class) (row : Row) → IsRowOf schema constraints query.chosen class row → IsOfCell s class row
-  cell_here class row of = subst (λ (region : Region). IsRowOf schema constraints region class row) (sym asking.region) of
+  cell_here class row of = subst (λ (area : Area). IsRowOf schema constraints area class row) (sym asking.area) of
 
   lowest_of : (picks : List Row) → AllZip (IsAtEnd u Low) (cells u) picks → AreLowest s picks
   lowest_of picks picked =

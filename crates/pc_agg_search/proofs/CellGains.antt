@@ -9,7 +9,7 @@ use Rattle.pc_model.specs.declared.query.Agg.TheVariants.{Count, Sum, Min, Max, 
 use Rattle.pc_model.specs.declared.query.Query.{Query}
 use Rattle.pc_model.specs.Accepted.{Measures}
 use Rattle.pc_model.specs.Aggregate.{asked}
-use Rattle.pc_model.specs.Membership.{has}
+use Rattle.pc_model.specs.Membership.{is_in}
 use Rattle.pc_model.specs.Right.{always_has_value}
 use Rattle.pc_model.specs.WellFormed.{IsWellFormed}
 use Rattle.pc_model.specs.Cells.{Class, IsSettledTree, classes_of, boxes_of}
@@ -54,16 +54,16 @@ module _ (s : Setting) (extreme : Extreme) (agg : Agg) (valued : always_has_valu
   gains_are cells gains cells_are gained = gained ∙ ap (map (gain_in s.question.query.column extreme)) cells_are ∙ each_gain (classes_of (leaves s))
 
   module _ (row : Row) (boxes : List Region) (there : IfSome s.question.query.column (λ (named : ℕ). slice_get row.cells named ≡ Some (number_in s.question.query.column extreme boxes))) where
-    added : adds agg s.question.query row ≡ cond (has s.question.query.chosen row) (number_in s.question.query.column extreme boxes) (pos 0)
+    added : adds agg s.question.query row ≡ cond (is_in s.question.query.chosen row) (number_in s.question.query.column extreme boxes) (pos 0)
     added = by_column agg s.question.query.column refl valued measured there
       where
         by_column : (agg : Agg) (column : Option ℕ) → s.question.query.column ≡ column → always_has_value agg ≡ true → Measures s.question.schema agg column → IfSome column (λ (named : ℕ). slice_get row.cells named ≡ Some (number_in column extreme boxes)) →
-            adds agg s.question.query row ≡ cond (has s.question.query.chosen row) (number_in column extreme boxes) (pos 0)
+            adds agg s.question.query row ≡ cond (is_in s.question.query.chosen row) (number_in column extreme boxes) (pos 0)
         by_column Count None is valued measured there = refl
         by_column Count (Some column) is valued measured there = absurd (none-some column (sym measured))
         by_column Sum None is valued measured there = absurd measured
         by_column Sum (Some column) is valued measured there =
-            ap (λ (number : ℤ). cond (has s.question.query.chosen row) number (pos 0)) (asked_is s.question.query column row (number_in (Some column) extreme boxes) is there)
+            ap (λ (number : ℤ). cond (is_in s.question.query.chosen row) number (pos 0)) (asked_is s.question.query column row (number_in (Some column) extreme boxes) is there)
         by_column Min column is valued measured there = absurd (true≢false (sym valued))
         by_column Max column is valued measured there = absurd (true≢false (sym valued))
         by_column Avg column is valued measured there = absurd (true≢false (sym valued))
@@ -73,12 +73,12 @@ module _ (s : Setting) (extreme : Extreme) (agg : Agg) (valued : always_has_valu
     pick_is class row pick =
         let of_cell = (rows_of_tree s.question.schema s.question.constraints s.question.query.chosen s.nodes formed tree class row).1 pick.inside in
         let number = number_in s.question.query.column extreme (boxes_of (leaves s) class) in
-        let chosen_is : has s.question.query.chosen row ≡ class.chosen = ap (λ (c : Class). c.chosen) of_cell.of_class in
+        let chosen_is : is_in s.question.query.chosen row ≡ class.chosen = ap (λ (c : Class). c.chosen) of_cell.of_class in
         record {
           of_cell = of_cell;
           adds =
               ap (signed extreme) (added row (boxes_of (leaves s) class) pick.number)
-              ∙ signed_cond extreme (has s.question.query.chosen row) number
+              ∙ signed_cond extreme (is_in s.question.query.chosen row) number
               ∙ ap (λ (test : Bool). cond test (signed extreme number) (pos 0)) chosen_is
               ∙ gain_is class;
         }

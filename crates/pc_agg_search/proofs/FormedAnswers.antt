@@ -29,7 +29,7 @@ use Rattle.pc_proof.specs.declared.answer.Mark.{Mark}
 use Rattle.pc_proof.specs.declared.answer.Mark.TheVariants as marks
 use Rattle.pc_proof.specs.declared.answer.End.{End}
 use Rattle.pc_proof.specs.declared.answer.Answer.{Answer}
-use Rattle.pc_proof.specs.Setting.{Setting, region_of, cells, program_for, program_without}
+use Rattle.pc_proof.specs.Setting.{Setting, area_of, cells, program_for, program_without}
 use Rattle.pc_proof.specs.Table.{ratio_of, IsSound, EndsCross, ShowsHigh, ShowsLow, ShowsImpossible, ShowsNever, ShowsAlways}
 use Rattle.pc_proof.specs.Unbroken.{HoldsRelation, HoldsLack, HoldsMark, HoldsLow, HoldsHigh, MayStand, HasForm, IsUnbroken}
 use Rattle.pc_proof.specs.Form.{IsFormedTree, IsFormedProof, IsFormedBounded, IsFormedWhy, IsFormedNever, IsFormedAlways, IsFormedRelation, IsFormedLack, IsFormedMark, IsFormedEnd, AreFormedEnds, IsFormedAnswer}
@@ -42,7 +42,7 @@ use Rattle.pc_agg_search.proofs.SettledPrograms.{have_rows}
 use Rattle.pc_agg_search.proofs.UnseenPrograms.{for_program, without_program}
 
 module _ (s : Setting) (formed : IsWellFormed s.question.schema) (are : AreConstraints s.question.schema s.question.constraints)
-    (tree : IsSettledTree s.question.schema s.question.constraints (region_of s.question) s.nodes) where
+    (tree : IsSettledTree s.question.schema s.question.constraints (area_of s.question) s.nodes) where
   abbrev schema : Schema
   schema = s.question.schema
 
@@ -50,8 +50,8 @@ module _ (s : Setting) (formed : IsWellFormed s.question.schema) (are : AreConst
 
   few_cells : length (cells s) ≤ 2_097_152
   few_cells =
-      let rows = have_rows schema s.question.constraints (region_of s.question) s.nodes formed tree in
-      let many = many_cells schema s.question.constraints (region_of s.question) (cells s) rows (classes_of-differ (leaves_in schema s.nodes)) in
+      let rows = have_rows schema s.question.constraints (area_of s.question) s.nodes formed tree in
+      let many = many_cells schema s.question.constraints (area_of s.question) (cells s) rows (classes_of-differ (leaves_in schema s.nodes)) in
       let most : 2 ^ length s.question.constraints ≤ 2 ^ 20 = pow_mono are.few in
       omega (arith, many, most)
 

@@ -53,12 +53,12 @@ unfolding rows_of
 from_rows_of P runs stand each = All-from_repeats (λ (run : Run). run.times) (λ (run : Run). run.row) P runs stand each
 
 -- a run has no more rows than a constraint allows that speaks of its row
-run_few : (c : Constraint) (runs : List Run) (place : ℕ) (d : Run) → place < length runs → is_under c (get_or runs place d).row ≡ true → Meets c (rows_of runs) → (get_or runs place d).times ≤ c.most
-run_few c runs place d inside under meets =
+run_few : (constraints : List Constraint) (c : Constraint) (runs : List Run) (place : ℕ) (d : Run) → place < length runs → is_under constraints c (get_or runs place d).row ≡ true → Meets constraints c (rows_of runs) → (get_or runs place d).times ≤ c.most
+run_few constraints c runs place d inside under meets =
     let run = get_or runs place d in
-    let own : cond (is_under c run.row) run.times 0 ≤ rows_under c runs = get_or-le-sum_by (λ (run : Run). cond (is_under c run.row) run.times 0) runs place d inside in
-    let times : cond (is_under c run.row) run.times 0 ≡ run.times = ap (λ test. cond test run.times 0) under in
-    let count = count-rows_of c runs in
+    let own : cond (is_under constraints c run.row) run.times 0 ≤ rows_under constraints c runs = get_or-le-sum_by (λ (run : Run). cond (is_under constraints c run.row) run.times 0) runs place d inside in
+    let times : cond (is_under constraints c run.row) run.times 0 ≡ run.times = ap (λ test. cond test run.times 0) under in
+    let count = count-rows_of constraints c runs in
     let most = meets.not_more in
     omega (arith, own, times, count, most)
 
@@ -66,10 +66,10 @@ module _ (q : Question) (formed : IsWellFormed q.schema) (are : AreConstraints q
   times_few : (place : ℕ) (d : Run) → place < length runs → (get_or runs place d).times ≤ frequency_limit
   times_few place d inside =
       let covered = from_rows_of (λ row. is_covered q.constraints row ≡ true) runs possible.each_stands possible.are_possible.covered place d inside in
-      let found = Any-from_list_any (λ (c : Constraint). is_under c (get_or runs place d).row) q.constraints covered in
-      let meets = subst (λ (c : Constraint). Meets c (rows_of runs)) found.3 (possible.are_possible.meets found.0 found.1 found.2) in
+      let found = Any-from_list_any (λ (c : Constraint). is_under q.constraints c (get_or runs place d).row) q.constraints covered in
+      let meets = subst (λ (c : Constraint). Meets q.constraints c (rows_of runs)) found.3 (possible.are_possible.meets found.0 found.1 found.2) in
       let small = subst (λ (c : Constraint). c.most ≤ frequency_limit) found.3 (are.small found.0 found.1 found.2) in
-      let few = run_few found.1 runs place d inside found.4 meets in
+      let few = run_few q.constraints found.1 runs place d inside found.4 meets in
       omega (arith, few, small)
 
   pub formed_runs : AreFormedRuns q.schema runs

@@ -11,7 +11,7 @@ use Rattle.std.proofs.lemmas.Map.Keys.{IsDistinct-from_apart}
 use Rattle.std.proofs.lemmas.Map.Steps.{length-le_from_distinct_below}
 use lib.Dec.{eqb}
 use Rattle.pc_model.specs.declared.schema.Schema.{Schema}
-use Rattle.pc_model.specs.declared.region.Region.{Region}
+use Rattle.pc_model.specs.declared.area.Area.{Area}
 use Rattle.pc_model.specs.declared.constraint.Constraint.{Constraint}
 use Rattle.pc_model.specs.Accepted.{AreConstraints, frequency_limit}
 use Rattle.pc_model.specs.Cells.{Class, HasRowOf}
@@ -42,7 +42,7 @@ same_parts a b same = (omega (arith, same, bit_small a.chosen, bit_small b.chose
     sides false true e = absurd (omega (arith, e))
     sides false false e = refl
 
-module _ (schema : Schema) (constraints : List Constraint) (chosen : Region) (classes : List Class)
+module _ (schema : Schema) (constraints : List Constraint) (chosen : Area) (classes : List Class)
     (rows : All (HasRowOf schema constraints chosen) classes) (differ : AllPairs Differ classes) where
   abbrev class_at : ℕ → Class
   class_at place = get_or classes place no_class

@@ -9,7 +9,7 @@ use Rattle.std.proofs.lemmas.Nat.Bits.{bit_at_above}
 use lib.Dec.{eqb}
 use Rattle.pc_model.specs.declared.schema.Schema.{Schema}
 use Rattle.pc_model.specs.declared.row.Row.{Row}
-use Rattle.pc_model.specs.declared.region.Region.{Region}
+use Rattle.pc_model.specs.declared.area.Area.{Area}
 use Rattle.pc_model.specs.declared.constraint.Constraint.{Constraint}
 use Rattle.pc_model.specs.Membership.{is_under, AreDisjoint}
 use Rattle.pc_model.specs.Places.{has_bit}
@@ -26,8 +26,8 @@ use Rattle.pc_program_bound.proofs.CellPlaces.{no_class, no_constraint}
 module _ (cs : List Constraint) (row : Row) where
   bit_of_covered : is_covered cs row ≡ true → (k : ℕ) × (k < length cs) × (has_bit (mask_of cs row) k ≡ true)
   bit_of_covered covered =
-      let found = Any-from_list_any (λ (c : Constraint). is_under c row) cs covered in
-      (found.0, found.2, mask_of-bit cs row found.0 found.1 found.2 ∙ ap (λ (c : Constraint). is_under c row) found.3 ∙ found.4)
+      let found = Any-from_list_any (λ (c : Constraint). is_under cs c row) cs covered in
+      (found.0, found.2, mask_of-bit cs row found.0 found.1 found.2 ∙ ap (λ (c : Constraint). is_under cs c row) found.3 ∙ found.4)
 
   bit_inside : (k : ℕ) → has_bit (mask_of cs row) k ≡ true → k < length cs
   bit_inside k set = elim (cases_lt k (length cs)) [
@@ -35,13 +35,13 @@ module _ (cs : List Constraint) (row : Row) where
     | inr above ↦ absurd (true≢false (sym set ∙ ap (λ x. x == 1) (bit_at_above (mask_of cs row) (length cs) k (mask_of-small cs row) above)))
   ]
 
-  under_at : (k : ℕ) → has_bit (mask_of cs row) k ≡ true → is_under (get_or cs k no_constraint) row ≡ true
+  under_at : (k : ℕ) → has_bit (mask_of cs row) k ≡ true → is_under cs (get_or cs k no_constraint) row ≡ true
   under_at k set = sym (mask_of-bit cs row k no_constraint (bit_inside k set)) ∙ set
 
-  module _ (once : count_by (λ (c : Constraint). is_under c row) cs ≤ 1) where
+  module _ (once : count_by (λ (c : Constraint). is_under cs c row) cs ≤ 1) where
     not_two : (j k : ℕ) → j < k → has_bit (mask_of cs row) j ≡ true → has_bit (mask_of cs row) k ≡ true → ⊥
     not_two j k before first second =
-        let twice = two_pass (λ (c : Constraint). is_under c row) cs j k no_constraint before (bit_inside k second) (under_at j first) (under_at k second) in
+        let twice = two_pass (λ (c : Constraint). is_under cs c row) cs j k no_constraint before (bit_inside k second) (under_at j first) (under_at k second) in
         omega (arith, twice, once)
 
     one_bit : is_covered cs row ≡ true → HasOneBit (mask_of cs row) (length cs)
@@ -123,7 +123,7 @@ module _ (n : ℕ) (a b : Class) (same : number_of n a ≡ number_of n b) where
 
 -- ---- the cells of disjoint constraints
 
-module _ (schema : Schema) (constraints : List Constraint) (chosen : Region) (classes : List Class) (disjoint : AreDisjoint schema constraints)
+module _ (schema : Schema) (constraints : List Constraint) (chosen : Area) (classes : List Class) (disjoint : AreDisjoint schema constraints)
     (rows : All (HasRowOf schema constraints chosen) classes) (differ : AllPairs Differ classes) where
   abbrev class_at : ℕ → Class
   class_at place = get_or classes place no_class

@@ -4,7 +4,7 @@ use Rattle.std.specs.Prelude.{ℤ, pos, nat_abs}
 use Rattle.std.proofs.lemmas.List.{length-map}
 use Rattle.std.proofs.lemmas.List.Elements.{All-weaker, All-contains_itself}
 use Rattle.pc_model.specs.declared.schema.Schema.{Schema}
-use Rattle.pc_model.specs.declared.region.Region.{Region}
+use Rattle.pc_model.specs.declared.area.Area.{Area}
 use Rattle.pc_model.specs.declared.constraint.Constraint.{Constraint}
 use Rattle.pc_model.specs.declared.tree.CutNode.{CutNode}
 use Rattle.pc_model.specs.Accepted.{AreConstraints}
@@ -34,7 +34,7 @@ use Rattle.pc_agg_search.proofs.ProgramEnds.{is_program}
 
 -- ---- of classes with rows that differ
 
-module _ (schema : Schema) (constraints : List Constraint) (chosen : Region) (classes : List Class) (gains : List ℤ) (disjoint : IsEasy schema constraints)
+module _ (schema : Schema) (constraints : List Constraint) (chosen : Area) (classes : List Class) (gains : List ℤ) (disjoint : IsEasy schema constraints)
     (rows : All (HasRowOf schema constraints chosen) classes) (differ : AllPairs Differ classes) where
   abbrev program : Program
   program = program_with constraints classes gains
@@ -65,14 +65,14 @@ module _ (schema : Schema) (constraints : List Constraint) (chosen : Region) (cl
 
 -- ---- of the cells of a settled tree
 
-pub have_rows : (schema : Schema) (constraints : List Constraint) (chosen : Region) (nodes : List CutNode) → IsWellFormed schema → IsSettledTree schema constraints chosen nodes →
+pub have_rows : (schema : Schema) (constraints : List Constraint) (chosen : Area) (nodes : List CutNode) → IsWellFormed schema → IsSettledTree schema constraints chosen nodes →
     All (HasRowOf schema constraints chosen) (classes_of (leaves_in schema nodes))
 have_rows schema constraints chosen nodes formed tree =
     All-weaker (Contains (classes_of (leaves_in schema nodes))) (HasRowOf schema constraints chosen)
     (λ class listed. (classes_of_tree schema constraints chosen nodes formed tree class).0 listed) (classes_of (leaves_in schema nodes))
     (All-contains_itself (classes_of (leaves_in schema nodes)))
 
-module _ (schema : Schema) (constraints : List Constraint) (chosen : Region) (nodes : List CutNode) (cells : List Cell) (gains : List ℤ) (formed : IsWellFormed schema)
+module _ (schema : Schema) (constraints : List Constraint) (chosen : Area) (nodes : List CutNode) (cells : List Cell) (gains : List ℤ) (formed : IsWellFormed schema)
     (tree : IsSettledTree schema constraints chosen nodes) (cells_are : cells ≡ cells_of (leaves_in schema nodes)) where
   pub classes_are : map class_of_cell cells ≡ classes_of (leaves_in schema nodes)
   classes_are = ap (map class_of_cell) cells_are ∙ classes_of_cells (leaves_in schema nodes) (classes_of (leaves_in schema nodes))

@@ -2,7 +2,7 @@
 use Rattle.std.specs.Prelude.{◌≡◌, ◌≤◌, ◌^◌, ℕ, nat_abs, List, All, Option, None, is_none}
 use Rattle.pc_model.specs.declared.schema.Schema.{Schema}
 use Rattle.pc_model.specs.declared.row.Row.{Row}
-use Rattle.pc_model.specs.declared.region.Region.{Region}
+use Rattle.pc_model.specs.declared.area.Area.{Area}
 use Rattle.pc_model.specs.declared.constraint.Constraint.{Constraint}
 use Rattle.pc_model.specs.declared.query.Query.{Query}
 use Rattle.pc_model.specs.declared.query.Folded.{Folded}
@@ -18,25 +18,25 @@ use Rattle.pc_proof.specs.Setting.{Setting, narrowed}
 use Rattle.pc_proof.specs.Unbroken.{AllowsName}
 
 -- the question that a query without a group stands for: that query over observed rows, or one name of a grouped query
--- whose region the name narrows
-abbrev pub asked_as : Query → Region → Option ℕ → Query
+-- whose area the name narrows
+abbrev pub asked_as : Query → Area → Option ℕ → Query
 asked_as query wide group = record { agg = query.agg; column = query.column; chosen = wide; group = group }
 
-abbrev pub question_as : Schema → List Constraint → Query → List Row → Region → Option ℕ → Option ℕ → Question
+abbrev pub question_as : Schema → List Constraint → Query → List Row → Area → Option ℕ → Option ℕ → Question
 question_as schema constraints query observed wide group name =
     record { schema = schema; observed = observed; constraints = constraints; query = asked_as query wide group; name = name }
 
--- a query of a name, where it is grouped, as one without a group over the region that the name narrows
+-- a query of a name, where it is grouped, as one without a group over the area that the name narrows
 abbrev pub query_for : Query → Option ℕ → Query
 query_for query name = record { agg = query.agg; column = query.column; chosen = narrowed query.chosen query.group name; group = None }
 
 -- a question that the call answers
 pub record Asking (schema : Schema) (constraints : List Constraint) (query : Query) (seen : Folded) : Type 0 where
   pub observed : List Row
-  pub wide : Region
+  pub wide : Area
   pub group : Option ℕ
   pub name : Option ℕ
-  pub region : narrowed wide group name ≡ query.chosen
+  pub area : narrowed wide group name ≡ query.chosen
   pub named : is_none name ≡ is_none group
   pub allowed : AllowsName wide group name
   pub well : IsQuery schema (asked_as query wide group)
@@ -46,7 +46,7 @@ abbrev pub setting_for : (schema : Schema) (constraints : List Constraint) (quer
 setting_for schema constraints query seen nodes asking =
     record { question = question_as schema constraints query asking.observed asking.wide asking.group asking.name; nodes = nodes }
 
--- the cells' tree and its cells are those of the query's region
+-- the cells' tree and its cells are those of the query's area
 pub record AreCells (schema : Schema) (constraints : List Constraint) (query : Query) (cells : Cells) : Type 0 where
   pub tree : IsSettledTree schema constraints query.chosen cells.tree.nodes
   pub listed : cells.cells ≡ cells_of (leaves_in schema cells.tree.nodes)

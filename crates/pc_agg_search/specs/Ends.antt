@@ -4,7 +4,7 @@ use Rattle.pc_model.specs.declared.row.Row.{Row}
 use Rattle.pc_model.specs.declared.query.Agg.{Agg}
 use Rattle.pc_model.specs.declared.query.Agg.TheVariants.{Count, Sum}
 use Rattle.pc_model.specs.declared.query.Query.{Query}
-use Rattle.pc_model.specs.Membership.{has}
+use Rattle.pc_model.specs.Membership.{is_in}
 use Rattle.pc_model.specs.Aggregate.{asked}
 use Rattle.pc_model.specs.Cells.{Class, IsRowOf}
 use Rattle.pc_program_bound.specs.declared.program.Program.{Program}
@@ -25,8 +25,8 @@ gain_towards s agg extreme class = pos 0
 
 -- what a row adds to the aggregate
 abbrev pub adds : Agg → Query → Row → ℤ
-adds Count query row = cond (has query.chosen row) (pos 1) (pos 0)
-adds Sum query row = cond (has query.chosen row) (asked query row) (pos 0)
+adds Count query row = cond (is_in query.chosen row) (pos 1) (pos 0)
+adds Sum query row = cond (is_in query.chosen row) (asked query row) (pos 0)
 adds agg query row = pos 0
 
 -- towards the low end a row gains what it does not add

@@ -19,7 +19,7 @@ use Rattle.pc_model.specs.declared.query.Query.{Query}
 use Rattle.pc_model.specs.declared.query.Folded.{Folded}
 use Rattle.pc_model.specs.Aggregate.{Ratio, whole, asked, is_in_group}
 use Rattle.pc_model.specs.Cells.{Class}
-use Rattle.pc_model.specs.Membership.{has}
+use Rattle.pc_model.specs.Membership.{is_in}
 use Rattle.pc_model.specs.WellFormed.{IsWellFormed}
 use Rattle.pc_program_bound.proofs.Ring.{mul_mono}
 use Rattle.pc_simplex_tableau.proofs.Products.{le_cancel, mul_swap, mul-zero}
@@ -149,7 +149,7 @@ module _ (schema : Schema) (constraints : List Constraint) (query : Query) (seen
   numbers_small : AreObserved s → All IsSmall (seen_numbers s.question)
   numbers_small inside =
       All-map IsSmall (asked s.question.query) (seen_rows s.question)
-      (All-filter (λ row. has s.question.query.chosen row && is_in_group s.question.query.group s.question.name row) (λ row. IsSmall (asked s.question.query row)) s.question.observed
+      (All-filter (λ row. is_in s.question.query.chosen row && is_in_group s.question.query.group s.question.name row) (λ row. IsSmall (asked s.question.query row)) s.question.observed
       (λ place d below. asked_small schema s.question.query (get_or s.question.observed place d) formed (inside place d below)))
 
   observed_small : (extreme : Extreme) (key : ℤ) → AreObserved s → observed_key seen extreme ≡ Some key → IsSmall key

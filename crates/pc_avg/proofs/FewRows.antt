@@ -7,7 +7,7 @@ use Rattle.std.proofs.Math.Pow.{pow_mono}
 use Rattle.std.proofs.lemmas.Int.{ints}
 use Rattle.std.proofs.lemmas.List.{length-map}
 use Rattle.pc_model.specs.declared.schema.Schema.{Schema}
-use Rattle.pc_model.specs.declared.region.Region.{Region}
+use Rattle.pc_model.specs.declared.area.Area.{Area}
 use Rattle.pc_model.specs.declared.constraint.Constraint.{Constraint}
 use Rattle.pc_model.specs.Accepted.{AreConstraints, frequency_limit}
 use Rattle.pc_model.specs.Cells.{Class, HasRowOf}
@@ -117,7 +117,7 @@ module _ (schema : Schema) (constraints : List Constraint) (are : AreConstraints
 
   -- ---- the caps of all cells
 
-  module _ (chosen : Region) (rows : All (HasRowOf schema constraints chosen) classes) (differ : AllPairs Differ classes) where
+  module _ (chosen : Area) (rows : All (HasRowOf schema constraints chosen) classes) (differ : AllPairs Differ classes) where
     small_cap : (i : ℕ) → i < cells_of p → pos (nat_at p.cap i) ≤ℤ pos 10_000_000
     small_cap i h =
         let at_most = cap_small frequency_limit (get_or classes i no_class) constraints are.small in

@@ -6,7 +6,7 @@ use Rattle.std.proofs.lemmas.List.Elements.{All-head, All-tail}
 use Rattle.pc_model.specs.declared.schema.Schema.{Schema}
 use Rattle.pc_model.specs.declared.row.Row.{Row}
 use Rattle.pc_model.specs.declared.row.Run.{Run}
-use Rattle.pc_model.specs.declared.region.Region.{Region}
+use Rattle.pc_model.specs.declared.area.Area.{Area}
 use Rattle.pc_model.specs.declared.constraint.Constraint.{Constraint}
 use Rattle.pc_model.specs.declared.tree.CutNode.{CutNode}
 use Rattle.pc_model.specs.declared.query.Agg.{Agg}
@@ -15,7 +15,7 @@ use Rattle.pc_model.specs.declared.query.Query.{Query}
 use Rattle.pc_model.specs.declared.query.Folded.{Folded}
 use Rattle.pc_model.specs.Accepted.{IsNumeric, IsColumnWhere}
 use Rattle.pc_model.specs.Aggregate.{Ratio, IsSame, asked, int_sum, value_of}
-use Rattle.pc_model.specs.Membership.{has}
+use Rattle.pc_model.specs.Membership.{is_in}
 use Rattle.pc_model.specs.WellFormed.{IsWellFormed}
 use Rattle.pc_model.specs.Cells.{Class, class_of, IsRowOf, IsSettledTree}
 use Rattle.pc_model.specs.Right.{IsAttained, ArePossible, IsPossibleFor, value_for}
@@ -26,12 +26,12 @@ use Rattle.pc_program_bound.proofs.Ring.{mul_mono}
 use Rattle.pc_proof.proofs.PossibleRows.{rows_are_allocation, rows_are_worth}
 use Rattle.pc_simplex_tableau.proofs.Products.{neg-mul}
 use Rattle.pc_witness.proofs.Zipped.{AllZip-weaker}
-use Rattle.pc_proof.specs.Setting.{Setting, region_of, cells, on_chosen, program_for, seen_count, seen_sum}
+use Rattle.pc_proof.specs.Setting.{Setting, area_of, cells, on_chosen, program_for, seen_count, seen_sum}
 use Rattle.pc_proof.specs.Table.{one}
 use Rattle.pc_proof.specs.Unbroken.{IsWellPosed}
 use Rattle.pc_proof.proofs.Ends.{AsksNumbers, asks_numbers}
 use Rattle.pc_proof.proofs.Gains.{gains_of}
-use Rattle.pc_proof.proofs.Groups.{keeps_region}
+use Rattle.pc_proof.proofs.Groups.{keeps_area}
 use Rattle.pc_proof.proofs.Kept.{kept_count, kept_sum, cell_of, count_is, between}
 use Rattle.pc_proof.proofs.Seen.{keeps, all_numbers, how_many, what_sum, int_sum-neg, int_sum_mono}
 use Rattle.pc_branch_licences.specs.Picked.{AreOfCells}
@@ -121,7 +121,7 @@ module _ (schema : Schema) (constraints : List Constraint) (query : Query) (seen
   posed : IsWellPosed s.question
   posed = questions.posed schema constraints query seen nodes formed asking
 
-  tree_at : IsSettledTree schema constraints (region_of s.question) nodes
+  tree_at : IsSettledTree schema constraints (area_of s.question) nodes
   tree_at = questions.tree_for schema constraints query seen nodes formed asking tree
 
   asks : AsksNumbers schema (asked_as query asking.wide asking.group)
@@ -148,7 +148,7 @@ module _ (schema : Schema) (constraints : List Constraint) (query : Query) (seen
         int_sum_mono (λ (row : Row). signed extreme (cond (keeps s.question row) (asked s.question.query row) (pos 0))) (λ (row : Row). on_chosen (key_of u extreme) (cell_of s row)) lost
         (λ place d inside. let row = get_or lost place d in
         let ends = between s posed tree_at lost possible asks place d inside in
-        kept_within extreme (keeps s.question row) (has (region_of s.question) row) (asked s.question.query row) (key_of u extreme (cell_of s row)) (keeps_region s.question posed row)
+        kept_within extreme (keeps s.question row) (is_in (area_of s.question) row) (asked s.question.query row) (key_of u extreme (cell_of s row)) (keeps_area s.question posed row)
         (key_within u extreme (cell_of s row) (asked s.question.query row) (omega (arith, ints, ends.0), ends.1))) in
         let within : signed extreme (kept_sum s lost) ≤ℤ worth f.sums counts =
         subst (λ n. n ≤ℤ worth f.sums counts) (signed_sum extreme (λ (row : Row). cond (keeps s.question row) (asked s.question.query row) (pos 0)) lost)
@@ -172,8 +172,8 @@ module _ (schema : Schema) (constraints : List Constraint) (query : Query) (seen
 
   adds_key : (class : Class) (row : Row) → IsAtEnd u extreme class row → AddsItsKey row
   adds_key class row at =
-      let same : cell_of s row ≡ class = ap (λ (region : Region). class_of constraints region row) asking.region ∙ at.of_cell.of_class in
-      let kept : keeps s.question row ≡ class.chosen = keeps_region s.question posed row ∙ ap (λ (c : Class). c.chosen) same in
+      let same : cell_of s row ≡ class = ap (λ (area : Area). class_of constraints area row) asking.area ∙ at.of_cell.of_class in
+      let kept : keeps s.question row ≡ class.chosen = keeps_area s.question posed row ∙ ap (λ (c : Class). c.chosen) same in
       ap (on_chosen (key_of u extreme)) same ∙ ap (λ n. cond class.chosen n (pos 0)) (sym at.number) ∙ signed_chosen extreme class.chosen (asked query row)
       ∙ ap (λ test. signed extreme (cond test (asked query row) (pos 0))) (sym kept)
 
@@ -220,15 +220,15 @@ module _ (schema : Schema) (constraints : List Constraint) (query : Query) (seen
 
     pub run_count : rows_with f (counts_of_runs s runs) ≡ pos (length (all_numbers s.question lost))
     run_count =
-        count_with lost possible.are_possible (counts_of_runs s runs) (rows_are_worth schema constraints (region_of s.question) nodes (on_chosen one) lost formed tree_at possible.are_possible)
+        count_with lost possible.are_possible (counts_of_runs s runs) (rows_are_worth schema constraints (area_of s.question) nodes (on_chosen one) lost formed tree_at possible.are_possible)
 
     run_sum : signed extreme (int_sum (all_numbers s.question lost)) ≤ℤ sum_with f (counts_of_runs s runs)
     run_sum =
         sum_below lost possible.are_possible (counts_of_runs s runs)
-        (rows_are_worth schema constraints (region_of s.question) nodes (on_chosen (key_of u extreme)) lost formed tree_at possible.are_possible)
+        (rows_are_worth schema constraints (area_of s.question) nodes (on_chosen (key_of u extreme)) lost formed tree_at possible.are_possible)
 
     pub run_lawful : AreLawful u (counts_of_runs s runs)
-    run_lawful = rows_are_allocation schema constraints (region_of s.question) nodes _ lost formed tree_at possible.are_possible
+    run_lawful = rows_are_allocation schema constraints (area_of s.question) nodes _ lost formed tree_at possible.are_possible
 
   -- their counts have a row, and a ratio at least the value
   pub attained_within : (v : Ratio) (runs : List Run) → pos 0 <ℤ v.den → IsAttained s.question (turned_ratio extreme v) runs →

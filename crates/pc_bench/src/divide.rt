@@ -4,7 +4,7 @@ use crate::family::Family;
 use crate::trouble::Trouble;
 use pc_cells::{Cells, Shared, decompose};
 use pc_lang::read_constraints;
-use pc_model::{Constraint, Region, Schema};
+use pc_model::{Area, Constraint, Schema};
 use pc_num::Memory;
 use pc_schema::read_schema;
 use std::alloc::Global;
@@ -49,12 +49,12 @@ fn number(word: &str) -> Result<u32, Trouble> {
 }
 
 /// Divides the domain as often as it is to be, and answers the cells of the last time.
-#[tactic(auto, using(pc_model::proofs::WholeDomain::whole_is_region, pc_model::proofs::FewNames::have_few_names))]
+#[tactic(auto, using(pc_model::proofs::Areas::whole_is_area, pc_model::proofs::FewNames::have_few_names))]
 fn divide(alloc: Global, plan: &Plan) -> Result<Cells, Trouble> {
     let schema = read_schema(alloc, plan.family.schema_text(alloc)?.as_bytes())?;
     let text = plan.family.constraints_text(alloc, plan.constraints)?;
     let constraints = read_constraints(alloc, &schema, text.as_bytes())?;
-    let chosen = schema.whole(alloc)?;
+    let chosen = Area::of_box(alloc, schema.whole(alloc)?)?;
     let mut found = decompose(alloc, &schema, constraints.as_slice(), &chosen)?;
     for _ in 1..plan.times {
         found = decompose(alloc, &schema, constraints.as_slice(), &chosen)?;
@@ -70,12 +70,12 @@ struct LastConstraint {
     columns: usize,
 }
 
-#[tactic(auto, using(pc_model::proofs::WholeDomain::whole_is_region, pc_model::proofs::FewNames::have_few_names))]
+#[tactic(auto, using(pc_model::proofs::Areas::whole_is_area, pc_model::proofs::FewNames::have_few_names))]
 fn last_constraint(alloc: Global, plan: &Plan) -> Result<LastConstraint, Trouble> {
     let schema = read_schema(alloc, plan.family.schema_text(alloc)?.as_bytes())?;
     let text = plan.family.constraints_text(alloc, plan.constraints)?;
     let constraints = read_constraints(alloc, &schema, text.as_bytes())?;
-    let whole = schema.whole(alloc)?;
+    let whole = Area::of_box(alloc, schema.whole(alloc)?)?;
     let last = last_of(alloc, &schema, constraints.as_slice(), &whole)?;
     Ok(last)
 }
@@ -84,7 +84,7 @@ fn last_of(
     alloc: Global,
     schema: &Schema,
     constraints: &[Constraint],
-    chosen: &Region,
+    chosen: &Area,
 ) -> Result<LastConstraint, Memory>
     requires asked { CanBeDivided schema.now constraints.now chosen.now }
 {

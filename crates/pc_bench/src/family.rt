@@ -14,6 +14,10 @@ pub(crate) enum Family {
     Boxes { columns: u32 },
     /// Random spans of two or three of the columns.
     Sparse { columns: u32, greatest: u32 },
+    /// Two to four parts: random boxes of three columns, or random spans of two or three of more columns.
+    Parts { columns: u32 },
+    /// A line of the rows outside, and random boxes.
+    Outside { columns: u32 },
     /// A country, one of its regions or one of that region's shops, some days, and prices up to one.
     Shops,
     /// Some regions on some days, and prices up to one.
@@ -32,6 +36,9 @@ impl Family {
             "eight-sparse" => Some(sparse(8, GREATEST)),
             "twelve-sparse" => Some(sparse(12, GREATEST)),
             "eight-grid" => Some(sparse(8, 9)),
+            "three-parts" => Some(Family::Parts { columns: 3 }),
+            "eight-parts" => Some(Family::Parts { columns: 8 }),
+            "outside" => Some(Family::Outside { columns: 3 }),
             "shops" => Some(Family::Shops),
             "windows" => Some(Family::Windows),
             "sliding" => Some(Family::Sliding),
@@ -43,7 +50,9 @@ impl Family {
     pub(crate) fn schema_text(self, alloc: Global) -> Result<String, AllocError> {
         match self {
             Family::Nested => numbers_text(alloc, 1, GREATEST),
-            Family::Boxes { columns } => numbers_text(alloc, columns, GREATEST),
+            Family::Boxes { columns } | Family::Parts { columns } | Family::Outside { columns } => {
+                numbers_text(alloc, columns, GREATEST)
+            }
             Family::Sparse { columns, greatest } => numbers_text(alloc, columns, greatest),
             Family::Shops | Family::Windows | Family::Sliding => shops::schema_text(alloc),
         }
@@ -54,19 +63,30 @@ impl Family {
         let mut draws = Draws::new();
         let mut text = String::new(alloc);
         for number in 0..count {
-            let body = self.body(alloc, &mut draws, number)?;
-            let line = format!(in alloc; "n{number}: {body}, 0..1\n")?;
+            let line = self.line(alloc, &mut draws, number)?;
             text.push_str(line.as_str())?;
         }
         Ok(text)
+    }
+
+    fn line(self, alloc: Global, draws: &mut Draws, number: u32) -> Result<String, AllocError> {
+        if number == 0 && matches!(self, Family::Outside { .. }) {
+            let (low, high) = draws.span(GREATEST);
+            return format!(in alloc; "outside => c0 in {low}..{high}, 0..1\n");
+        }
+        let body = self.body(alloc, draws, number)?;
+        format!(in alloc; "n{number}: {body}, 0..1\n")
     }
 
     /// The predicate of a constraint, and its values.
     fn body(self, alloc: Global, draws: &mut Draws, number: u32) -> Result<String, AllocError> {
         match self {
             Family::Nested => nested(alloc, number),
-            Family::Boxes { columns } => random(alloc, draws, columns),
+            Family::Boxes { columns } | Family::Outside { columns } => {
+                random(alloc, draws, columns)
+            }
             Family::Sparse { columns, greatest } => some_columns(alloc, draws, columns, greatest),
+            Family::Parts { columns } => parts(alloc, draws, columns, number),
             Family::Shops => shops::chain(alloc, draws),
             Family::Windows => shops::window(alloc, draws),
             Family::Sliding => shops::sliding(alloc, draws, number),
@@ -95,6 +115,13 @@ fn nested(alloc: Global, number: u32) -> Result<String, AllocError> {
 }
 
 fn random(alloc: Global, draws: &mut Draws, columns: u32) -> Result<String, AllocError> {
+    let mut text = spans(alloc, draws, columns)?;
+    text.push_str(" => true")?;
+    Ok(text)
+}
+
+/// A random span of each column.
+fn spans(alloc: Global, draws: &mut Draws, columns: u32) -> Result<String, AllocError> {
     let mut text = String::new(alloc);
     for column in 0..columns {
         if column > 0 {
@@ -104,11 +131,22 @@ fn random(alloc: Global, draws: &mut Draws, columns: u32) -> Result<String, Allo
         let atom = format!(in alloc; "c{column} in {low}..{high}")?;
         text.push_str(atom.as_str())?;
     }
-    text.push_str(" => true")?;
     Ok(text)
 }
 
 fn some_columns(
+    alloc: Global,
+    draws: &mut Draws,
+    columns: u32,
+    greatest: u32,
+) -> Result<String, AllocError> {
+    let mut text = some_spans(alloc, draws, columns, greatest)?;
+    text.push_str(" => true")?;
+    Ok(text)
+}
+
+/// Random spans of two or three of the columns.
+fn some_spans(
     alloc: Global,
     draws: &mut Draws,
     columns: u32,
@@ -129,6 +167,29 @@ fn some_columns(
         let atom = format!(in alloc; " and c{last} in {low}..{high}")?;
         text.push_str(atom.as_str())?;
     }
+    Ok(text)
+}
+
+/// Two to four parts, as many as the number of the constraint says.
+fn parts(
+    alloc: Global,
+    draws: &mut Draws,
+    columns: u32,
+    number: u32,
+) -> Result<String, AllocError> {
+    let mut text = part(alloc, draws, columns)?;
+    for _ in 0..number % 3 + 1 {
+        text.push_str(" or ")?;
+        let more = part(alloc, draws, columns)?;
+        text.push_str(more.as_str())?;
+    }
     text.push_str(" => true")?;
     Ok(text)
+}
+
+fn part(alloc: Global, draws: &mut Draws, columns: u32) -> Result<String, AllocError> {
+    if columns <= 3 {
+        return spans(alloc, draws, columns);
+    }
+    some_spans(alloc, draws, columns, GREATEST)
 }

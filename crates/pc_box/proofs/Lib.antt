@@ -1,7 +1,9 @@
+pub mod AlikeAreas
 pub mod Bools
 pub mod CommonRows
 pub mod CutRows
 pub mod Likeness
+pub mod Loops
 pub mod Places
 pub mod Proper
 pub mod RestRows

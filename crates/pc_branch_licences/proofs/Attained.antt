@@ -5,7 +5,7 @@ use Rattle.pc_model.specs.declared.row.Row.{Row}
 use Rattle.pc_model.specs.declared.row.Run.{Run}
 use Rattle.pc_model.specs.declared.query.Agg.{Agg}
 use Rattle.pc_model.specs.declared.query.Agg.TheVariants.{Count, Sum, Min, Max, Avg}
-use Rattle.pc_model.specs.Membership.{has}
+use Rattle.pc_model.specs.Membership.{is_in}
 use Rattle.pc_model.specs.Aggregate.{Ratio, whole, IsSame, asked}
 use Rattle.pc_model.specs.Cells.{Class}
 use Rattle.pc_model.specs.Right.{IsPossibleFor, IsAttained, value_for, always_has_value}
@@ -14,12 +14,12 @@ use Rattle.pc_program_bound.specs.Allocation.{worth}
 use Rattle.pc_program_bound.specs.CellPrograms.{counts_of}
 use Rattle.pc_branch.specs.Outcome.{IsMost}
 use Rattle.pc_proof.proofs.PossibleRows.{rows_are_allocation, rows_are_worth}
-use Rattle.pc_proof.specs.Setting.{Setting, region_of, seen_count, seen_sum, cells, high_in, on_chosen, program_for}
+use Rattle.pc_proof.specs.Setting.{Setting, area_of, seen_count, seen_sum, cells, high_in, on_chosen, program_for}
 use Rattle.pc_proof.specs.Table.{one, minus_one, minus_low, high_program, low_program}
 use Rattle.pc_proof.specs.Unbroken.{IsWellPosed}
 use Rattle.pc_proof.proofs.Ends.{AsksNumbers, sum_asks_numbers}
 use Rattle.pc_proof.proofs.Gains.{IsSettledFor, gains_of}
-use Rattle.pc_proof.proofs.Groups.{keeps_region}
+use Rattle.pc_proof.proofs.Groups.{keeps_area}
 use Rattle.pc_proof.proofs.Kept.{kept_count, kept_sum, cell_of, count_is, minus_count_is, between}
 use Rattle.pc_proof.proofs.Seen.{keeps, value-count, value-sum, int_sum-neg, int_sum_mono}
 use Rattle.pc_branch_licences.specs.Shown.{counts_of_runs}
@@ -49,20 +49,20 @@ added o x y is gives =
 module _ (s : Setting) (posed : IsWellPosed s.question) (tree : IsSettledFor s) (lost : List Row) (possible : IsPossibleFor s.question lost) where
   -- the counts of the rows by cell
   abbrev counts : List ℕ
-  counts = counts_of s.question.constraints (region_of s.question) (cells s) lost
+  counts = counts_of s.question.constraints (area_of s.question) (cells s) lost
 
   worth_is : (gain : Class → ℤ) → worth (program_for s gain) counts ≡ gains_of s gain lost
-  worth_is gain = rows_are_worth s.question.schema s.question.constraints (region_of s.question) s.nodes gain lost posed.formed tree possible
+  worth_is gain = rows_are_worth s.question.schema s.question.constraints (area_of s.question) s.nodes gain lost posed.formed tree possible
 
   within : (gain : Class → ℤ) (most : ℤ) → IsMost (program_for s gain) most → worth (program_for s gain) counts ≤ℤ most
-  within gain most is = is counts (rows_are_allocation s.question.schema s.question.constraints (region_of s.question) s.nodes gain lost posed.formed tree possible)
+  within gain most is = is counts (rows_are_allocation s.question.schema s.question.constraints (area_of s.question) s.nodes gain lost posed.formed tree possible)
 
   -- the sum of the kept numbers is between what the rows gain at each end of their cells
   sum_under : (asks : AsksNumbers s.question.schema s.question.query) → kept_sum s lost ≤ℤ gains_of s (on_chosen (high_in s)) lost
   sum_under asks =
       int_sum_mono (λ (row : Row). cond (keeps s.question row) (asked s.question.query row) (pos 0)) (λ (row : Row). on_chosen (high_in s) (cell_of s row)) lost
       (λ place d inside. let row = get_or lost place d in
-      kept_under (keeps s.question row) (has (region_of s.question) row) (asked s.question.query row) (high_in s (cell_of s row)) (keeps_region s.question posed row)
+      kept_under (keeps s.question row) (is_in (area_of s.question) row) (asked s.question.query row) (high_in s (cell_of s row)) (keeps_area s.question posed row)
       (between s posed tree lost possible asks place d inside).1)
 
   minus_sum_under : (asks : AsksNumbers s.question.schema s.question.query) → neg_ℤ (kept_sum s lost) ≤ℤ gains_of s (on_chosen (minus_low s)) lost
@@ -71,7 +71,7 @@ module _ (s : Setting) (posed : IsWellPosed s.question) (tree : IsSettledFor s) 
       (int_sum_mono (λ (row : Row). neg_ℤ (cond (keeps s.question row) (asked s.question.query row) (pos 0))) (λ (row : Row). on_chosen (minus_low s) (cell_of s row)) lost
       (λ place d inside. let row = get_or lost place d in
       let low = (between s posed tree lost possible asks place d inside).0 in
-      let under = kept_under (keeps s.question row) (has (region_of s.question) row) (neg_ℤ (asked s.question.query row)) (minus_low s (cell_of s row)) (keeps_region s.question posed row)
+      let under = kept_under (keeps s.question row) (is_in (area_of s.question) row) (neg_ℤ (asked s.question.query row)) (minus_low s (cell_of s row)) (keeps_area s.question posed row)
       (omega (arith, ints, low)) in
       subst (λ n. n ≤ℤ on_chosen (minus_low s) (cell_of s row)) (sym (neg_kept (keeps s.question row) (asked s.question.query row))) under))
 

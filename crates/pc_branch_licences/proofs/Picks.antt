@@ -17,11 +17,11 @@ use Rattle.pc_witness.proofs.Checks.{All-rows_of}
 use Rattle.pc_witness.proofs.RunsFrom.{All-runs_from}
 use Rattle.pc_witness.proofs.Worth.{worth_of-rows}
 use Rattle.pc_witness.proofs.Zipped.{All-from_zip}
-use Rattle.pc_proof.specs.Setting.{Setting, region_of, cells, open_cap, program_for, program_without}
+use Rattle.pc_proof.specs.Setting.{Setting, area_of, cells, open_cap, program_for, program_without}
 use Rattle.pc_proof.specs.Table.{none}
 use Rattle.pc_proof.specs.Unbroken.{IsWellPosed}
 use Rattle.pc_proof.proofs.Gains.{gains_of}
-use Rattle.pc_proof.proofs.Groups.{keeps_region}
+use Rattle.pc_proof.proofs.Groups.{keeps_area}
 use Rattle.pc_proof.proofs.Seen.{keeps}
 use Rattle.pc_branch_licences.specs.Picked.{IsOfCell, AreOfCells}
 use Rattle.pc_branch_licences.specs.Pools.{AreLawful}
@@ -37,11 +37,11 @@ module _ (s : Setting) (picks : List Row) (counts : List ℕ) (of_cells : AreOfC
   pub made_possible : ArePossible s.question (runs_from picks counts)
   made_possible =
       let p = program_for s none in
-      let possible = allocation-possible s.question.schema s.question.constraints (region_of s.question) (cells s) picks of_cells none p.floor p.cap counts lawful in
+      let possible = allocation-possible s.question.schema s.question.constraints (area_of s.question) (cells s) picks of_cells none p.floor p.cap counts lawful in
       record { each_stands = possible.0; are_possible = possible.1 }
 
   pub made_worth : (gain : Class → ℤ) → worth (program_for s gain) counts ≡ gains_of s gain (rows_of (runs_from picks counts))
-  made_worth gain = worth_of-rows s.question.schema s.question.constraints (region_of s.question) (cells s) gain picks counts of_cells lawful.sized
+  made_worth gain = worth_of-rows s.question.schema s.question.constraints (area_of s.question) (cells s) gain picks counts of_cells lawful.sized
 
 -- ---- those that counts use
 
@@ -97,4 +97,4 @@ module _ (s : Setting) (closed : Class → Bool) (counts : List ℕ)
       used class row n pick fits kept =
           so class row pick
           (not_shut class.chosen (closed class) n (cap_of s.question.constraints class) fits
-          (sym (ap (λ (c : Class). c.chosen) (of_cell class row pick).of_class) ∙ sym (keeps_region s.question posed row) ∙ kept))
+          (sym (ap (λ (c : Class). c.chosen) (of_cell class row pick).of_class) ∙ sym (keeps_area s.question posed row) ∙ kept))

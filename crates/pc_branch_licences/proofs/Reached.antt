@@ -8,20 +8,20 @@ use Rattle.pc_model.specs.declared.row.Row.{Row}
 use Rattle.pc_model.specs.declared.row.Run.{Run}
 use Rattle.pc_model.specs.declared.query.Agg.TheVariants.{Min, Max}
 use Rattle.pc_model.specs.Aggregate.{whole, int_sum}
-use Rattle.pc_model.specs.Membership.{has}
+use Rattle.pc_model.specs.Membership.{is_in}
 use Rattle.pc_model.specs.Cells.{Class}
 use Rattle.pc_model.specs.Right.{IsPossibleFor, IsAttained}
 use Rattle.pc_model.specs.Runs.{rows_of}
 use Rattle.pc_program_bound.specs.Allocation.{IsAllocation, worth}
 use Rattle.pc_program_bound.specs.CellPrograms.{counts_of}
 use Rattle.pc_proof.proofs.PossibleRows.{rows_are_worth}
-use Rattle.pc_proof.specs.Setting.{Setting, region_of, seen_count, seen_least, seen_greatest, seen_numbers, cells, low_in, high_in, on_chosen, counting, program_for, program_without}
+use Rattle.pc_proof.specs.Setting.{Setting, area_of, seen_count, seen_least, seen_greatest, seen_numbers, cells, low_in, high_in, on_chosen, counting, program_for, program_without}
 use Rattle.pc_proof.specs.Table.{one}
 use Rattle.pc_proof.specs.Unbroken.{IsWellPosed}
 use Rattle.pc_proof.proofs.Closed.{open_within}
 use Rattle.pc_proof.proofs.Ends.{AsksNumbers, asks_numbers}
 use Rattle.pc_proof.proofs.Gains.{IsSettledFor, gains_of}
-use Rattle.pc_proof.proofs.Groups.{keeps_region}
+use Rattle.pc_proof.proofs.Groups.{keeps_area}
 use Rattle.pc_proof.proofs.Kept.{one_is_some, passes_not, cell_of, between, count_is}
 use Rattle.pc_proof.proofs.Numbers.{sum_none, all_from_least, all_from_greatest, least_keeps, greatest_keeps}
 use Rattle.pc_proof.proofs.Seen.{keeps, all_numbers, how_many, of_all, of_lost, from_lost}
@@ -50,15 +50,15 @@ module _ (s : Setting) (posed : IsWellPosed s.question) (lost : List Row) (passe
       let each = sum_none (λ (row : Row). counting passes (cell_of s row)) lost
       (λ place d inside. one_is_some ((cell_of s (get_or lost place d)).chosen && passes (cell_of s (get_or lost place d)))) few in
       λ place d inside kept.
-      passes_not (has (region_of s.question) (get_or lost place d)) (passes (cell_of s (get_or lost place d))) (each place d inside)
-      (sym (keeps_region s.question posed (get_or lost place d)) ∙ kept)
+      passes_not (is_in (area_of s.question) (get_or lost place d)) (passes (cell_of s (get_or lost place d))) (each place d inside)
+      (sym (keeps_area s.question posed (get_or lost place d)) ∙ kept)
 
   pub few_pass : PassNone → gains_of s (counting passes) lost ≤ℤ pos 0
   few_pass none =
       sum_few (λ (row : Row). counting passes (cell_of s row)) lost
       (λ place d inside.
-      not_counted (has (region_of s.question) (get_or lost place d)) (passes (cell_of s (get_or lost place d)))
-      (λ chosen. none place d inside (keeps_region s.question posed (get_or lost place d) ∙ chosen)))
+      not_counted (is_in (area_of s.question) (get_or lost place d)) (passes (cell_of s (get_or lost place d)))
+      (λ chosen. none place d inside (keeps_area s.question posed (get_or lost place d) ∙ chosen)))
 
 -- a list with a least or a greatest number is not empty
 some_length : (pick : ℤ → ℤ → ℤ) (xs : List ℤ) (P : ℤ → Type 0) → IsSomeAnd (reduce pick xs) P → pos 1 ≤ℤ pos (length xs)
@@ -69,13 +69,13 @@ some_length pick (x ∷ xs) P some = omega (arith, ints)
 
 module _ (s : Setting) (posed : IsWellPosed s.question) (tree : IsSettledFor s) (lost : List Row) (possible : IsPossibleFor s.question lost) where
   abbrev counts : List ℕ
-  counts = counts_of s.question.constraints (region_of s.question) (cells s) lost
+  counts = counts_of s.question.constraints (area_of s.question) (cells s) lost
 
   abbrev numbers : List ℤ
   numbers = all_numbers s.question lost
 
   worth_is : (gain : Class → ℤ) → worth (program_for s gain) counts ≡ gains_of s gain lost
-  worth_is gain = rows_are_worth s.question.schema s.question.constraints (region_of s.question) s.nodes gain lost posed.formed tree possible
+  worth_is gain = rows_are_worth s.question.schema s.question.constraints (area_of s.question) s.nodes gain lost posed.formed tree possible
 
   -- a row is counted, or none passes
   some_worth : (passes : Class → Bool) → (PassNone s posed lost passes → ⊥) → pos 1 ≤ℤ worth (program_for s (counting passes)) counts

@@ -4,7 +4,7 @@ use Rattle.std.specs.List.{AllZip}
 use Rattle.std.proofs.lemmas.Bool.{cond-false, cond-true, false_from_ne_true}
 use Rattle.std.proofs.lemmas.List.Elements.{All-head, All-tail}
 use Rattle.pc_model.specs.declared.row.Row.{Row}
-use Rattle.pc_model.specs.declared.region.Region.{Region}
+use Rattle.pc_model.specs.declared.area.Area.{Area}
 use Rattle.pc_model.specs.declared.constraint.Constraint.{Constraint}
 use Rattle.pc_model.specs.Runs.{rows_of, runs_from}
 use Rattle.pc_model.specs.Cells.{Class, class_of, is_class, IsRowOf}
@@ -14,7 +14,7 @@ use Rattle.pc_cells_laws.proofs.Cells.{classes_of-differ}
 use Rattle.pc_cells_laws.proofs.Classes.{is_class-from_same, is_class-turned}
 use Rattle.pc_program_bound.specs.CellPrograms.{count_in}
 use Rattle.pc_witness.proofs.Zipped.{AllZip-weaker}
-use Rattle.pc_proof.specs.Setting.{Setting, region_of, leaves, cells}
+use Rattle.pc_proof.specs.Setting.{Setting, area_of, leaves, cells}
 use Rattle.pc_branch_licences.specs.Shown.{counts_of_runs}
 
 -- ---- sums of counts
@@ -39,7 +39,7 @@ Differ a b = is_class a b ≡ false
 differ-turned : (a b : Class) → Differ a b → Differ b a
 differ-turned a b differ = false_from_ne_true (is_class b a) (λ same. true≢false (sym (is_class-turned b a same) ∙ differ))
 
-module _ (constraints : List Constraint) (chosen : Region) where
+module _ (constraints : List Constraint) (chosen : Area) where
   -- each row has the class at its place
   abbrev IsPicked : Class → Row → Type 0
   IsPicked class row = class_of constraints chosen row ≡ class
@@ -99,10 +99,10 @@ module _ (constraints : List Constraint) (chosen : Region) where
       (map-same (count_of (row ∷ picks) (n ∷ counts)) (count_of picks counts) classes (λ place d inside. count-skips c row picks n counts _ paired.0 (others place d inside))
       ∙ counts-from classes picks counts paired.1 (AllPairs-tail Differ c classes differ) (omega arith))
 
-pub runs-counted : (s : Setting) (picks : List Row) (counts : List ℕ) → AllZip (IsRowOf s.question.schema s.question.constraints (region_of s.question)) (cells s) picks →
+pub runs-counted : (s : Setting) (picks : List Row) (counts : List ℕ) → AllZip (IsRowOf s.question.schema s.question.constraints (area_of s.question)) (cells s) picks →
     length counts ≡ length (cells s) → counts_of_runs s (runs_from picks counts) ≡ counts
 runs-counted s picks counts each sized =
-    counts-from s.question.constraints (region_of s.question) (cells s) picks counts
-    (AllZip-weaker (IsRowOf s.question.schema s.question.constraints (region_of s.question)) (λ class row. class_of s.question.constraints (region_of s.question) row ≡ class)
+    counts-from s.question.constraints (area_of s.question) (cells s) picks counts
+    (AllZip-weaker (IsRowOf s.question.schema s.question.constraints (area_of s.question)) (λ class row. class_of s.question.constraints (area_of s.question) row ≡ class)
     (λ class row is. is.of_class) (cells s) picks each)
     (classes_of-differ (leaves s)) sized

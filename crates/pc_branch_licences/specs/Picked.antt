@@ -4,10 +4,10 @@ use Rattle.std.specs.List.{AllZip}
 use Rattle.pc_model.specs.declared.row.Row.{Row}
 use Rattle.pc_model.specs.Aggregate.{asked}
 use Rattle.pc_model.specs.Cells.{Class, IsRowOf}
-use Rattle.pc_proof.specs.Setting.{Setting, region_of, cells, low_in, high_in}
+use Rattle.pc_proof.specs.Setting.{Setting, area_of, cells, low_in, high_in}
 
 abbrev pub IsOfCell : Setting → Class → Row → Type 0
-IsOfCell s class row = IsRowOf s.question.schema s.question.constraints (region_of s.question) class row
+IsOfCell s class row = IsRowOf s.question.schema s.question.constraints (area_of s.question) class row
 
 pub record IsLowest (s : Setting) (class : Class) (row : Row) : Type 0 where
   pub of_cell : IsOfCell s class row

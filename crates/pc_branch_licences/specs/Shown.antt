@@ -13,7 +13,7 @@ use Rattle.pc_proof.specs.declared.answer.Mark.{Mark}
 use Rattle.pc_proof.specs.declared.answer.Mark.TheVariants as marks
 use Rattle.pc_proof.specs.declared.answer.End.{End}
 use Rattle.pc_proof.specs.declared.answer.Answer.{Answer}
-use Rattle.pc_proof.specs.Setting.{Setting, region_of, cells}
+use Rattle.pc_proof.specs.Setting.{Setting, area_of, cells}
 
 abbrev pub runs_of_mark : Mark → List (List Run)
 runs_of_mark (marks.Exact runs) = runs ∷ []
@@ -40,7 +40,7 @@ abbrev pub shown_runs : Answer → List (List Run)
 shown_runs answer = runs_of_relation answer.relation ++ runs_of_lack answer.lack ++ runs_of_ends answer.ends
 
 abbrev pub counts_of_runs : Setting → List Run → List ℕ
-counts_of_runs s runs = counts_of s.question.constraints (region_of s.question) (cells s) (rows_of runs)
+counts_of_runs s runs = counts_of s.question.constraints (area_of s.question) (cells s) (rows_of runs)
 
 -- the value is attained by runs that the answer shows
 abbrev pub IsShown : Setting → Answer → Ratio → Type 0

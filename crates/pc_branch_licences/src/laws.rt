@@ -11,7 +11,7 @@ ghost use Rattle.pc_program_bound.specs.Allocation.{IsProgram, worth};
 ghost use Rattle.pc_branch.specs.Licence.{Splits, IsLicence, IsSearchTree, HoldsWholePoints};
 ghost use Rattle.pc_branch.specs.Outcome.{IsMost};
 ghost use Rattle.pc_proof.specs.declared.answer.Answer.{Answer};
-ghost use Rattle.pc_proof.specs.Setting.{Setting, region_of, cells};
+ghost use Rattle.pc_proof.specs.Setting.{Setting, area_of, cells};
 ghost use Rattle.pc_proof.specs.Table.{high_program, low_program};
 ghost use Rattle.pc_proof.specs.Unbroken.{IsSharp, IsWellPosed};
 ghost use Rattle.pc_branch_licences.specs.Licensed.{IsLicensed, IsSettledLack, IsSpent};
@@ -32,7 +32,7 @@ pub fn search_trees_need_no_value()
 
 /// The rows of runs that were made of one row of each cell have the counts that the runs were made of.
 pub fn runs_have_their_counts()
-    ensures { (s : Setting) (picks : List Row) (counts : List ℕ) → AllZip (IsRowOf s.question.schema s.question.constraints (region_of s.question)) (cells s) picks → length counts ≡ length (cells s) → counts_of_runs s (runs_from picks counts) ≡ counts }
+    ensures { (s : Setting) (picks : List Row) (counts : List ℕ) → AllZip (IsRowOf s.question.schema s.question.constraints (area_of s.question)) (cells s) picks → length counts ≡ length (cells s) → counts_of_runs s (runs_from picks counts) ≡ counts }
 {}
 
 /// Where the runs of an answer have counts that were found, and none of those is wanted, none of the runs is.
@@ -42,8 +42,8 @@ pub fn found_counts_are_all_that_is_shown()
 
 /// Runs that attain the end of a count or a sum at the greatest worth of its program are worth as much.
 pub fn attained_totals_are_worth_their_bound()
-    ensures high { (s : Setting) (v : Ratio) (most : ℤ) (runs : List Run) → IsWellPosed s.question → IsSettledTree s.question.schema s.question.constraints (region_of s.question) s.nodes → always_has_value s.question.query.agg ≡ true → IsMost (high_program s s.question.query.agg v) most → IsAttained s.question (whole (seen_value s.question.query.agg s +ℤ most)) runs → worth (high_program s s.question.query.agg v) (counts_of_runs s runs) ≡ most }
-    ensures low { (s : Setting) (v : Ratio) (most : ℤ) (runs : List Run) → IsWellPosed s.question → IsSettledTree s.question.schema s.question.constraints (region_of s.question) s.nodes → always_has_value s.question.query.agg ≡ true → IsMost (low_program s s.question.query.agg v) most → IsAttained s.question (whole (seen_value s.question.query.agg s -ℤ most)) runs → worth (low_program s s.question.query.agg v) (counts_of_runs s runs) ≡ most }
+    ensures high { (s : Setting) (v : Ratio) (most : ℤ) (runs : List Run) → IsWellPosed s.question → IsSettledTree s.question.schema s.question.constraints (area_of s.question) s.nodes → always_has_value s.question.query.agg ≡ true → IsMost (high_program s s.question.query.agg v) most → IsAttained s.question (whole (seen_value s.question.query.agg s +ℤ most)) runs → worth (high_program s s.question.query.agg v) (counts_of_runs s runs) ≡ most }
+    ensures low { (s : Setting) (v : Ratio) (most : ℤ) (runs : List Run) → IsWellPosed s.question → IsSettledTree s.question.schema s.question.constraints (area_of s.question) s.nodes → always_has_value s.question.query.agg ≡ true → IsMost (low_program s s.question.query.agg v) most → IsAttained s.question (whole (seen_value s.question.query.agg s -ℤ most)) runs → worth (low_program s s.question.query.agg v) (counts_of_runs s runs) ≡ most }
 {}
 
 /// An answer that leaves nothing open needs no licence.

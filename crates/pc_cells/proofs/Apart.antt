@@ -1,19 +1,25 @@
--- Constraints whose regions are apart, two by two, and those of which two speak of one row.
-use Rattle.std.proofs.Common.{◌≡◌, ℕ, zero, suc, ◌<◌, ◌≤◌, Bool, true, false, cond, List, [], ◌∷◌, length, get_or, take, All, AllPairs, count_by, IsTrue, ◌↔◌, refl, sym, ◌∙◌, subst, arith}
+-- Constraints whose predicates are apart, two by two, and those of which two speak of one row.
+use Rattle.std.proofs.Common.{◌≡◌, ℕ, zero, suc, ◌<◌, ◌≤◌, Bool, true, false, cond, not, List, [], ◌∷◌, length, get_or, take, All, AllPairs, count_by, IsTrue, ◌↔◌, refl, sym, ◌∙◌, subst, arith}
 use Rattle.std.proofs.lemmas.Bool.{cond-true, cond-false, false_from_ne_true, false≢true}
 use Rattle.std.proofs.lemmas.Grind.{common_steps}
 use Rattle.std.proofs.lemmas.List.{get_or_default, take_all}
-use Rattle.std.proofs.lemmas.List.Elements.{All-head, All-tail}
+use Rattle.std.proofs.lemmas.List.Elements.{All-contains, All-head, All-tail}
+use Rattle.std.proofs.lemmas.List.Folds.{Any-from_list_any, list_any_at}
 use Rattle.std.proofs.lemmas.List.Sums.{sum_by-cons}
 use Rattle.pc_model.specs.declared.schema.Schema.{Schema}
+use Rattle.pc_model.specs.declared.row.Row.{Row}
+use Rattle.pc_model.specs.declared.region.Region.{Region}
+use Rattle.pc_model.specs.declared.constraint.When.{When}
+use Rattle.pc_model.specs.declared.constraint.When.TheVariants.{Boxes, Outside}
 use Rattle.pc_model.specs.declared.constraint.Constraint.{Constraint}
-use Rattle.pc_model.specs.Boxes.{IsServable}
-use Rattle.pc_model.specs.Membership.{is_under, AreDisjoint}
-use Rattle.pc_model.specs.Regions.{is_region_of}
+use Rattle.pc_model.specs.Accepted.{IsOutside, HasLoneOutside}
+use Rattle.pc_model.specs.Boxes.{IsWhenOf, IsServable}
+use Rattle.pc_model.specs.CutTrees.{IsApartFromArea}
+use Rattle.pc_model.specs.Membership.{has, in_domain, is_named, is_named_by_some, is_meant, is_under, AreDisjoint}
 use Rattle.pc_model.proofs.Regions.{region_inside}
-use Rattle.pc_box.specs.Boxes.{AreAlike}
-use Rattle.pc_box.proofs.Schemas.{AreAlike-from_schema}
-use Rattle.pc_cells.specs.Found.{AreOfOneSchema, AreApart, AreApartFrom}
+use Rattle.pc_box.proofs.AlikeAreas.{IsAlikeToArea-from_schema}
+use Rattle.pc_cells_laws.proofs.Predicates.{out-from_apart}
+use Rattle.pc_cells.specs.Found.{AreOfOneSchema, AreWhensAlike, AreWhensApart, AreApart, AreApartFrom}
 
 -- ---- how many of a list pass
 
@@ -59,6 +65,11 @@ module _ {X : Type 0} (test : X → Bool) where
 
 -- ---- as far as a loop over the constraints has come
 
+whens_alike : (schema : Schema) (one other : When) → IsWhenOf schema one → IsWhenOf schema other → AreWhensAlike one other
+whens_alike schema (Boxes area) (Boxes other) is_one is_other = λ k d there. IsAlikeToArea-from_schema schema (get_or area.boxes k d) (is_one.each k d there) other is_other
+whens_alike schema (Boxes area) Outside is_one is_other = tt
+whens_alike schema Outside other is_one is_other = tt
+
 module _ (constraints : List Constraint) (place : ℕ) (c : Constraint) (inside : place < length constraints) (is : c ≡ get_or constraints place c) where
   earlier_is : (k : ℕ) (d : Constraint) → k < length (take place constraints) → (get_or (take place constraints) k d ≡ get_or constraints k d) × (k < place)
   earlier_is k d lt = (grind (arith, common_steps), grind (arith, common_steps))
@@ -66,13 +77,13 @@ module _ (constraints : List Constraint) (place : ℕ) (c : Constraint) (inside 
   same_default : (d : Constraint) → get_or constraints place d ≡ c
   same_default d = get_or_default constraints place d c inside ∙ sym is
 
-  -- regions of one schema are alike
-  pub alike_before : AreOfOneSchema constraints → All (λ (other : Constraint). AreAlike other.when c.when) (take place constraints)
+  -- predicates of one schema are alike
+  pub alike_before : AreOfOneSchema constraints → All (λ (other : Constraint). AreWhensAlike other.when c.when) (take place constraints)
   alike_before one k d lt =
       let earlier = earlier_is k d lt in
-      let known : is_region_of one.0 c.when ≡ true = rw is (one.1 place c inside).when_region in
-      let other : is_region_of one.0 (get_or (take place constraints) k d).when ≡ true = rw earlier.0 (one.1 k d (omega (arith, earlier.1))).when_region in
-      AreAlike-from_schema one.0 (get_or (take place constraints) k d).when c.when other known
+      let known : IsWhenOf one.0 c.when = rw is (one.1 place c inside).when_area in
+      let other : IsWhenOf one.0 (get_or (take place constraints) k d).when = rw earlier.0 (one.1 k d (omega (arith, earlier.1))).when_area in
+      whens_alike one.0 (get_or (take place constraints) k d).when c.when other known
 
   -- each is apart from those before it
   pub apart_from_earlier : AreApart constraints → AreApartFrom (take place constraints) c.when
@@ -89,19 +100,53 @@ all_apart constraints place end apart = ((λ _. subst AreApart (take_all place c
 
 -- ---- disjoint constraints
 
-disjoint_from_apart : (schema : Schema) (constraints : List Constraint) → AreApart constraints → AreDisjoint schema constraints
-disjoint_from_apart schema constraints apart row allowed =
-    one_at_most (λ (c : Constraint). is_under c row) constraints (λ i j d before inside. apart i j d before inside row)
+clash : (named : Bool) → named ≡ true → not named ≡ true → ⊥
+clash true e f = false≢true f
+clash false e f = false≢true e
 
-apart_from_disjoint : (schema : Schema) (constraints : List Constraint) → All (IsServable schema) constraints → AreDisjoint schema constraints → AreApart constraints
-apart_from_disjoint schema constraints servable disjoint i j d before inside row first second =
-    let allowed = region_inside schema (get_or constraints i d).when row (servable i d (omega arith)).when_region first in
-    let twice = two_pass (λ (c : Constraint). is_under c row) constraints i j d before inside first second in
-    let once = disjoint row allowed in
-    omega arith
+module _ (constraints : List Constraint) (row : Row) where
+  -- an area that is named by a constraint of the list
+  abbrev IsListed : When → Type 0
+  IsListed when = is_named when row ≡ true → is_named_by_some constraints row ≡ true
 
-pub means_disjoint : (schema : Schema) (constraints : List Constraint) (result : Bool) → (IsTrue result ↔ AreApart constraints) → All (IsServable schema) constraints → (IsTrue result ↔ AreDisjoint schema constraints)
-means_disjoint schema constraints result means servable = (
-  λ holds. disjoint_from_apart schema constraints (means.0 holds),
+  listed : (k : ℕ) (d : Constraint) → k < length constraints → IsListed (get_or constraints k d).when
+  listed k d there named = list_any_at (λ (c : Constraint). is_named c.when row) constraints k d there named
+
+  not_both : (one other : When) → IsListed one → IsListed other → (IsOutside one → IsOutside other → ⊥) → AreWhensApart one other → is_meant constraints one row ≡ true →
+      is_meant constraints other row ≡ true → ⊥
+  not_both (Boxes area) (Boxes other) one_listed other_listed lone apart first second =
+      let found = Any-from_list_any (λ (region : Region). has region row) area.boxes first in
+      out-from_apart found.1 row found.4 other (All-contains (λ (region : Region). IsApartFromArea region other) area.boxes found.1 apart (found.0, found.2, found.3)) second
+  not_both (Boxes area) Outside one_listed other_listed lone apart first second = clash (is_named_by_some constraints row) (one_listed first) second
+  not_both Outside (Boxes other) one_listed other_listed lone apart first second = clash (is_named_by_some constraints row) (other_listed second) first
+  not_both Outside Outside one_listed other_listed lone apart first second = lone tt tt
+
+disjoint_from_apart : (schema : Schema) (constraints : List Constraint) → HasLoneOutside constraints → AreApart constraints → AreDisjoint schema constraints
+disjoint_from_apart schema constraints lone apart row allowed =
+    one_at_most (λ (c : Constraint). is_under constraints c row) constraints
+    (λ i j d before inside. not_both constraints row (get_or constraints i d).when (get_or constraints j d).when (listed constraints row i d (omega (arith, before, inside))) (listed constraints row j d inside)
+    (lone i j d before inside) (apart i j d before inside))
+
+-- areas of which no row of the domain is in both are apart
+module _ (schema : Schema) (constraints : List Constraint) where
+  apart_whens : (one other : When) → IsWhenOf schema one → ((row : Row) → in_domain schema row ≡ true → is_meant constraints one row ≡ true → is_meant constraints other row ≡ true → ⊥) →
+      AreWhensApart one other
+  apart_whens (Boxes area) (Boxes other) is_one none = λ k d there l e also row held taken.
+      none row (region_inside schema (get_or area.boxes k d) row (is_one.each k d there) held) (list_any_at (λ (region : Region). has region row) area.boxes k d there held)
+      (list_any_at (λ (region : Region). has region row) other.boxes l e also taken)
+  apart_whens (Boxes area) Outside is_one none = tt
+  apart_whens Outside other is_one none = tt
+
+  apart_from_disjoint : All (IsServable schema) constraints → AreDisjoint schema constraints → AreApart constraints
+  apart_from_disjoint servable disjoint i j d before inside =
+      apart_whens (get_or constraints i d).when (get_or constraints j d).when (servable i d (omega (arith, before, inside))).when_area
+      (λ row allowed first second. let twice = two_pass (λ (c : Constraint). is_under constraints c row) constraints i j d before inside first second in
+      let once = disjoint row allowed in
+      omega (arith, twice, once))
+
+pub means_disjoint : (schema : Schema) (constraints : List Constraint) (result : Bool) → HasLoneOutside constraints → (IsTrue result ↔ AreApart constraints) → All (IsServable schema) constraints →
+    (IsTrue result ↔ AreDisjoint schema constraints)
+means_disjoint schema constraints result lone means servable = (
+  λ holds. disjoint_from_apart schema constraints lone (means.0 holds),
   λ disjoint. means.1 (apart_from_disjoint schema constraints servable disjoint),
 )

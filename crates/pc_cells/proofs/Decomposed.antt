@@ -4,6 +4,7 @@ use Rattle.std.proofs.lemmas.List.Elements.{All-map, All-weaker, All-contains_it
 use Rattle.pc_model.specs.declared.schema.Schema.{Schema}
 use Rattle.pc_model.specs.declared.row.Row.{Row}
 use Rattle.pc_model.specs.declared.region.Region.{Region}
+use Rattle.pc_model.specs.declared.area.Area.{Area}
 use Rattle.pc_model.specs.declared.constraint.Constraint.{Constraint}
 use Rattle.pc_model.specs.declared.tree.CutNode.{CutNode}
 use Rattle.pc_model.specs.declared.tree.Leaf.{Leaf}
@@ -38,7 +39,7 @@ each_cell P leaves each =
 
 -- ---- the cells of a settled tree
 
-module _ (schema : Schema) (constraints : List Constraint) (chosen : Region) (nodes : List CutNode) (formed : IsWellFormed schema) (tree : IsSettledTree schema constraints chosen nodes) where
+module _ (schema : Schema) (constraints : List Constraint) (chosen : Area) (nodes : List CutNode) (formed : IsWellFormed schema) (tree : IsSettledTree schema constraints chosen nodes) where
   row_in_one_leaf : (row : Row) → in_domain schema row ≡ true → count_by (λ (leaf : Leaf). has leaf.region row) (leaves_in schema nodes) ≡ 1
   row_in_one_leaf row allowed =
       one_leaf (whole_region schema) (shape_of nodes) row tree.proper ∙ ap (λ test. cond test 1 0) (in_whole schema row ∙ allowed)

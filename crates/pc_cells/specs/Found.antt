@@ -1,8 +1,11 @@
 -- The cells of leaves, their rows, and what is asked of them.
-use Rattle.std.specs.Prelude.{◌≡◌, ◌↔◌, ℕ, ◌<◌, ◌^◌, ℤ, ◌≤ℤ◌, Bool, true, false, List, [], length, map, All, AllPairs, Contains, IsTrue, count_by, Option, Some, IfSome, slice_get, slice_index_or}
+use Rattle.std.specs.Prelude.{◌≡◌, ◌↔◌, ℕ, ◌<◌, ◌^◌, ℤ, ◌≤ℤ◌, ⊤, Bool, true, false, List, [], length, map, All, AllPairs, Contains, IsTrue, count_by, Option, Some, IfSome, slice_get, slice_index_or}
 use Rattle.pc_model.specs.declared.schema.Schema.{Schema}
 use Rattle.pc_model.specs.declared.row.Row.{Row}
 use Rattle.pc_model.specs.declared.region.Region.{Region}
+use Rattle.pc_model.specs.declared.area.Area.{Area}
+use Rattle.pc_model.specs.declared.constraint.When.{When}
+use Rattle.pc_model.specs.declared.constraint.When.TheVariants.{Boxes, Outside}
 use Rattle.pc_model.specs.declared.constraint.Constraint.{Constraint}
 use Rattle.pc_model.specs.declared.tree.Leaf.{Leaf}
 use Rattle.pc_model.specs.Aggregate.{number_at}
@@ -10,9 +13,9 @@ use Rattle.pc_model.specs.Accepted.{IsNumeric, IsColumnWhere}
 use Rattle.pc_model.specs.Boxes.{IsServable}
 use Rattle.pc_model.specs.Membership.{AreDisjoint, holds, in_domain, has}
 use Rattle.pc_model.specs.Regions.{is_region_of}
-use Rattle.pc_model.specs.CutTrees.{IsApart, side_at}
+use Rattle.pc_model.specs.CutTrees.{IsApartFromArea, side_at}
 use Rattle.pc_model.specs.Cells.{Class, IsRowOf, HasRowOf, IsSettledTree, classes_of, boxes_of, leaves_in, IsInSome, IsSpanned}
-use Rattle.pc_box.specs.Boxes.{IsBox}
+use Rattle.pc_box.specs.Boxes.{IsBox, IsAlikeToArea}
 use Rattle.pc_cells.specs.declared.cells.Cell.{Cell}
 use Rattle.pc_cells.specs.declared.cells.Cells.{Cells}
 
@@ -69,8 +72,8 @@ HasNumbers column cell = All (λ (leaf : Region). IsSpanned (side_at leaf column
 
 -- ---- the cells of all rows of a domain
 
--- the cells of rows by which constraints speak of them and whether the region has them
-pub record AreCellsFor (schema : Schema) (constraints : List Constraint) (chosen : Region) (found : Cells) : Type 0 where
+-- the cells of rows by which constraints speak of them and whether the area has them
+pub record AreCellsFor (schema : Schema) (constraints : List Constraint) (chosen : Area) (found : Cells) : Type 0 where
   pub settled : IsSettledTree schema constraints chosen found.tree.nodes
   pub one_leaf : (row : Row) → in_domain schema row ≡ true → count_by (λ (leaf : Leaf). has leaf.region row) (leaves_in schema found.tree.nodes) ≡ 1
   pub cells : found.cells ≡ cells_of (leaves_in schema found.tree.nodes)
@@ -89,11 +92,30 @@ AreOfOneSchema constraints = (schema : Schema) × All (IsServable schema) constr
 
 -- ---- constraints that speak of no row together
 
-abbrev pub AreApartFrom : List Constraint → Region → Type 0
-AreApartFrom constraints when = All (λ (other : Constraint). IsApart other.when when) constraints
+-- boxes have the columns of those of an area
+abbrev pub AreAlikeToArea : List Region → Area → Type 0
+AreAlikeToArea boxes area = All (λ (region : Region). IsAlikeToArea region area) boxes
+
+abbrev pub AreWhensAlike : When → When → Type 0
+AreWhensAlike (Boxes area) (Boxes other) = AreAlikeToArea area.boxes other
+AreWhensAlike (Boxes area) Outside = ⊤
+AreWhensAlike Outside other = ⊤
+
+-- no row of the boxes is in an area
+abbrev pub AreApartFromArea : List Region → Area → Type 0
+AreApartFromArea boxes area = All (λ (region : Region). IsApartFromArea region area) boxes
+
+-- what is outside is apart from every area
+abbrev pub AreWhensApart : When → When → Type 0
+AreWhensApart (Boxes area) (Boxes other) = AreApartFromArea area.boxes other
+AreWhensApart (Boxes area) Outside = ⊤
+AreWhensApart Outside other = ⊤
+
+abbrev pub AreApartFrom : List Constraint → When → Type 0
+AreApartFrom constraints when = All (λ (other : Constraint). AreWhensApart other.when when) constraints
 
 abbrev pub AreApart : List Constraint → Type 0
-AreApart constraints = AllPairs (λ (a b : Constraint). IsApart a.when b.when) constraints
+AreApart constraints = AllPairs (λ (a b : Constraint). AreWhensApart a.when b.when) constraints
 
 -- whether they are disjoint, for each schema that they are of
 abbrev pub TellsDisjoint : List Constraint → Bool → Type 0

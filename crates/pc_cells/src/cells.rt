@@ -4,7 +4,7 @@ ghost use Rattle.pc_cells.specs.Found.{AreCellsFor, leaves_at};
 
 use crate::shared::Shared;
 use pc_list::Seq;
-use pc_model::{Constraint, CutTree, Region, Schema};
+use pc_model::{Area, Constraint, CutTree, Region, Schema};
 use pc_num::Memory;
 use std::alloc::Global;
 
@@ -40,7 +40,7 @@ pub fn decompose(
     alloc: Global,
     schema: &Schema,
     constraints: &[Constraint],
-    chosen: &Region,
+    chosen: &Area,
 ) -> Result<Cells, Memory>
     requires asked { CanBeDivided schema.now constraints.now chosen.now }
     ensures found { IfOk result (AreCellsFor schema.now constraints.now chosen.now) }

@@ -1,5 +1,5 @@
 //! The cells of a domain: the classes of rows that can be lost, with their boxes, and the ends of a column over a cell.
-//! The tree of cuts behind them can be kept, and refined for further regions.
+//! The tree of cuts behind them can be kept, and refined for further areas.
 #![tactic(auto)]
 
 mod cells;

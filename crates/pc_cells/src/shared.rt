@@ -10,11 +10,11 @@ use crate::cells::Cells;
 use crate::gather::gather;
 use pc_cells_tree::{Growth, Refinement, marked, refined};
 use pc_list::Seq;
-use pc_model::{Constraint, CutNode, CutTree, LeafMark, Region, Schema};
+use pc_model::{Area, Constraint, CutNode, CutTree, LeafMark, Schema};
 use pc_num::Memory;
 use std::alloc::Global;
 
-/// A tree of cuts for many regions: it is linked by the numbers of its nodes and grows only at its end, and its
+/// A tree of cuts for many areas: it is linked by the numbers of its nodes and grows only at its end, and its
 /// leaves have no marks.
 #[derive(Debug, PartialEq, Eq, Drop)]
 pub struct Shared {
@@ -38,12 +38,12 @@ impl Shared {
     }
 
     /// Cuts the leaves that cannot be marked, and their parts, until each leaf can be marked as settled for the
-    /// constraints and the region; answers how many cuts that took. After `Memory` the tree is as before.
+    /// constraints and the area; answers how many cuts that took. After `Memory` the tree is as before.
     pub fn refine(
         &mut self,
         schema: &Schema,
         constraints: &[Constraint],
-        chosen: &Region,
+        chosen: &Area,
     ) -> Result<u64, Memory>
         requires asked { CanBeDivided schema.now constraints.now chosen.now }
         requires tree { IsTree schema.now self.old.nodes }
@@ -68,7 +68,7 @@ impl Shared {
         &self,
         schema: &Schema,
         constraints: &[Constraint],
-        chosen: &Region,
+        chosen: &Area,
     ) -> Result<Cells, Memory>
         requires asked { CanBeDivided schema.now constraints.now chosen.now }
         requires tree { IsTree schema.now self.now.nodes }

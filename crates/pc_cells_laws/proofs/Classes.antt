@@ -6,13 +6,14 @@ use Rattle.std.proofs.lemmas.List.Folds.{Any-from_list_any}
 use Rattle.pc_model.specs.declared.schema.Schema.{Schema}
 use Rattle.pc_model.specs.declared.row.Row.{Row}
 use Rattle.pc_model.specs.declared.region.Region.{Region}
+use Rattle.pc_model.specs.declared.area.Area.{Area}
 use Rattle.pc_model.specs.declared.constraint.Constraint.{Constraint}
 use Rattle.pc_model.specs.declared.tree.LeafMark.{LeafMark}
 use Rattle.pc_model.specs.declared.tree.LeafMark.TheVariants as marks
-use Rattle.pc_model.specs.Membership.{has, in_domain, is_under}
+use Rattle.pc_model.specs.Membership.{has, in_domain, is_in, is_under}
 use Rattle.pc_model.specs.Places.{has_bit}
-use Rattle.pc_model.specs.CutTrees.{IsApart}
-use Rattle.pc_model.specs.Cells.{Class, class_of, mask_of, IsLawful, IsRowOf, IsUnder, IsSettledAs, IsSettledAt, IsSettledSide, IsSettledClass, IsBarren, is_class, is_mark_of}
+use Rattle.pc_model.specs.Cells.{Class, class_of, mask_of, IsLawful, IsRowOf, IsUnder, IsSettledAs, IsSettledAt, IsSettledSide, IsSettledClass, IsBarren, SpeaksOfNone, is_class, is_mark_of}
+use Rattle.pc_cells_laws.proofs.Predicates.{in-from_inside, out-from_apart, meant-from_inside, meant-from_apart}
 use Rattle.pc_cells_laws.proofs.Masks.{mask_of-is, covered-from_mask}
 
 -- ---- classes that are the same
@@ -47,28 +48,29 @@ is_class-turned a b h = is_class-from_same b a (sym (is_class-same a b h))
 -- ---- what a settled leaf says of its rows
 
 -- each bit of the mask is that of the row
-settled_bit : (box : Region) (mask place : ℕ) (c : Constraint) (row : Row) → IsSettledAt box mask place c → has box row ≡ true → has_bit mask place ≡ is_under c row
-settled_bit box mask place c row settled held = by_bit (has_bit mask place) settled
+settled_bit : (cs : List Constraint) (box : Region) (mask place : ℕ) (c : Constraint) (row : Row) → IsSettledAt cs box mask place c → has box row ≡ true → has_bit mask place ≡ is_under cs c row
+settled_bit cs box mask place c row settled held = by_bit (has_bit mask place) settled
   where
-    by_bit : (bit : Bool) → cond bit (IsUnder box c) (IsApart box c.when) → bit ≡ is_under c row
-    by_bit true under = sym (under.when row held)
-    by_bit false apart = sym (false_from_ne_true (is_under c row) (λ spoken. apart row held spoken))
+    by_bit : (bit : Bool) → cond bit (IsUnder cs box c) (SpeaksOfNone cs box c) → bit ≡ is_under cs c row
+    by_bit true under = sym (meant-from_inside box row held cs c.when under.when)
+    by_bit false apart = sym (false_from_ne_true (is_under cs c row) (meant-from_apart box row held cs c.when apart))
 
-settled_values : (box : Region) (mask place : ℕ) (c : Constraint) (row : Row) → IsSettledAt box mask place c → has box row ≡ true → is_under c row ≡ true → has c.values row ≡ true
-settled_values box mask place c row settled held spoken = by_bit (has_bit mask place) settled
+settled_values : (cs : List Constraint) (box : Region) (mask place : ℕ) (c : Constraint) (row : Row) → IsSettledAt cs box mask place c → has box row ≡ true → is_under cs c row ≡ true →
+    has c.values row ≡ true
+settled_values cs box mask place c row settled held spoken = by_bit (has_bit mask place) settled
   where
-    by_bit : (bit : Bool) → cond bit (IsUnder box c) (IsApart box c.when) → has c.values row ≡ true
+    by_bit : (bit : Bool) → cond bit (IsUnder cs box c) (SpeaksOfNone cs box c) → has c.values row ≡ true
     by_bit true under = under.values row held
-    by_bit false apart = absurd (apart row held spoken)
+    by_bit false apart = absurd (meant-from_apart box row held cs c.when apart spoken)
 
-settled_side : (chosen box : Region) (side : Bool) (row : Row) → IsSettledSide box chosen side → has box row ≡ true → has chosen row ≡ side
-settled_side chosen box true row inside held = inside row held
-settled_side chosen box false row apart held = false_from_ne_true (has chosen row) (λ taken. apart row held taken)
+settled_side : (chosen : Area) (box : Region) (side : Bool) (row : Row) → IsSettledSide box chosen side → has box row ≡ true → is_in chosen row ≡ side
+settled_side chosen box true row inside held = in-from_inside box row held chosen inside
+settled_side chosen box false row apart held = false_from_ne_true (is_in chosen row) (out-from_apart box row held chosen apart)
 
-module _ (constraints : List Constraint) (chosen box : Region) where
+module _ (constraints : List Constraint) (chosen : Area) (box : Region) where
   settled_mask : (mask : ℕ) (side : Bool) (row : Row) → IsSettledClass constraints chosen box mask side → has box row ≡ true → mask_of constraints row ≡ mask
   settled_mask mask side row settled held =
-      mask_of-is constraints row mask settled.short (λ place d within. settled_bit box mask place (get_or constraints place d) row (settled.each place d within) held)
+      mask_of-is constraints row mask settled.short (λ place d within. settled_bit constraints box mask place (get_or constraints place d) row (settled.each place d within) held)
 
   class-of_settled : (mask : ℕ) (side : Bool) (row : Row) → IsSettledClass constraints chosen box mask side → has box row ≡ true →
       class_of constraints chosen row ≡ record { mask = mask; chosen = side }
@@ -78,10 +80,12 @@ module _ (constraints : List Constraint) (chosen box : Region) where
 
   barren_row : (row : Row) → IsBarren constraints box → has box row ≡ true → IsLawful constraints row → ⊥
   barren_row row (inl some) held lawful =
-      some.4.1 row held (All-contains (λ (c : Constraint). is_under c row ≡ true → has c.values row ≡ true) constraints some.1 lawful.kept (some.0, some.2, some.3) (some.4.0 row held))
+      some.4.1 row held (All-contains (λ (c : Constraint). is_under constraints c row ≡ true → has c.values row ≡ true) constraints some.1 lawful.kept (some.0, some.2, some.3)
+      (meant-from_inside box row held constraints some.1.when some.4.0))
   barren_row row (inr none) held lawful =
-      let found = Any-from_list_any (λ (c : Constraint). is_under c row) constraints lawful.covered in
-      All-contains (λ (c : Constraint). IsApart box c.when) constraints found.1 none (found.0, found.2, found.3) row held found.4
+      let found = Any-from_list_any (λ (c : Constraint). is_under constraints c row) constraints lawful.covered in
+      meant-from_apart box row held constraints found.1.when
+      (All-contains (SpeaksOfNone constraints box) constraints found.1 none (found.0, found.2, found.3)) found.4
 
   -- a row of a settled leaf that can be lost is of the class of the leaf
   pub settled_class : (mark : LeafMark) (row : Row) → IsSettledAs constraints chosen box mark → has box row ≡ true → IsLawful constraints row →
@@ -97,7 +101,7 @@ module _ (constraints : List Constraint) (chosen box : Region) where
     allowed = allowed;
     lawful = record {
       covered = covered-from_mask constraints row (omega (arith, settled_mask mask side row settled held, settled.some));
-      kept = λ place d within spoken. settled_values box mask place (get_or constraints place d) row (settled.each place d within) held spoken;
+      kept = λ place d within spoken. settled_values constraints box mask place (get_or constraints place d) row (settled.each place d within) held spoken;
     };
     of_class = class-of_settled mask side row settled held;
   }

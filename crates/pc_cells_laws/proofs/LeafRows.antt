@@ -7,6 +7,7 @@ use Rattle.std.proofs.lemmas.List.Folds.{Any-from_list_any, list_any-from_Any}
 use Rattle.pc_model.specs.declared.schema.Schema.{Schema}
 use Rattle.pc_model.specs.declared.row.Row.{Row}
 use Rattle.pc_model.specs.declared.region.Region.{Region}
+use Rattle.pc_model.specs.declared.area.Area.{Area}
 use Rattle.pc_model.specs.declared.constraint.Constraint.{Constraint}
 use Rattle.pc_model.specs.declared.tree.Leaf.{Leaf}
 use Rattle.pc_model.specs.Membership.{has, in_domain}
@@ -17,23 +18,23 @@ use Rattle.pc_cells_laws.proofs.Cells.{classes_of-listed, leaf_of_listed, boxes_
 
 -- ---- one settled leaf
 
-pub class_of_leaf : (constraints : List Constraint) (chosen : Region) (leaf : Leaf) (row : Row) → IsSettled constraints chosen leaf → has leaf.region row ≡ true →
+pub class_of_leaf : (constraints : List Constraint) (chosen : Area) (leaf : Leaf) (row : Row) → IsSettled constraints chosen leaf → has leaf.region row ≡ true →
     IsLawful constraints row → is_leaf_of (class_of constraints chosen row) leaf ≡ true
 class_of_leaf constraints chosen leaf row settled held lawful = settled_class constraints chosen leaf.region leaf.mark row settled held lawful
 
-pub row_of_leaf : (schema : Schema) (constraints : List Constraint) (chosen : Region) (class : Class) (leaf : Leaf) (row : Row) → IsSettled constraints chosen leaf →
+pub row_of_leaf : (schema : Schema) (constraints : List Constraint) (chosen : Area) (class : Class) (leaf : Leaf) (row : Row) → IsSettled constraints chosen leaf →
     is_leaf_of class leaf ≡ true → in_domain schema row ≡ true → has leaf.region row ≡ true → IsRowOf schema constraints chosen class row
 row_of_leaf schema constraints chosen class leaf row settled marked allowed held = row_of_mark constraints chosen leaf.region schema class leaf.mark row settled marked allowed held
 
 -- ---- settled leaves that have a row each and cover the domain
 
-pub record AreLeavesOf (schema : Schema) (constraints : List Constraint) (chosen : Region) (leaves : List Leaf) : Type 0 where
+pub record AreLeavesOf (schema : Schema) (constraints : List Constraint) (chosen : Area) (leaves : List Leaf) : Type 0 where
   pub covers : (row : Row) → in_domain schema row ≡ true → Any (λ (leaf : Leaf). has leaf.region row ≡ true) leaves
   pub inside : All (λ (leaf : Leaf). (row : Row) → has leaf.region row ≡ true → in_domain schema row ≡ true) leaves
   pub rows : All (λ (leaf : Leaf). HasRow leaf.region) leaves
   pub settled : AreSettled constraints chosen leaves
 
-module _ (schema : Schema) (constraints : List Constraint) (chosen : Region) (leaves : List Leaf) (given : AreLeavesOf schema constraints chosen leaves) where
+module _ (schema : Schema) (constraints : List Constraint) (chosen : Area) (leaves : List Leaf) (given : AreLeavesOf schema constraints chosen leaves) where
   -- a row of a class is in a leaf of the class
   leaf_of_row : (class : Class) (row : Row) → IsRowOf schema constraints chosen class row → Any (λ (leaf : Leaf). (is_leaf_of class leaf && has leaf.region row) ≡ true) leaves
   leaf_of_row class row lost =

@@ -3,6 +3,7 @@ use Rattle.std.proofs.Common.{◌≡◌, ◌↔◌, true, List, Any, Contains}
 use Rattle.pc_model.specs.declared.schema.Schema.{Schema}
 use Rattle.pc_model.specs.declared.row.Row.{Row}
 use Rattle.pc_model.specs.declared.region.Region.{Region}
+use Rattle.pc_model.specs.declared.area.Area.{Area}
 use Rattle.pc_model.specs.declared.constraint.Constraint.{Constraint}
 use Rattle.pc_model.specs.declared.tree.CutNode.{CutNode}
 use Rattle.pc_model.specs.Membership.{has}
@@ -12,7 +13,7 @@ use Rattle.pc_model.specs.Cells.{Class, IsRowOf, HasRowOf, IsSettledTree, classe
 use Rattle.pc_cells_laws.proofs.LeafRows.{AreLeavesOf, classes-of_rows, rows-in_boxes}
 use Rattle.pc_cells_laws.proofs.TreesDomain.{domain_covered, leaves_in_domain, domain_rows}
 
-module _ (schema : Schema) (constraints : List Constraint) (chosen : Region) (nodes : List CutNode) (formed : IsWellFormed schema)
+module _ (schema : Schema) (constraints : List Constraint) (chosen : Area) (nodes : List CutNode) (formed : IsWellFormed schema)
     (tree : IsSettledTree schema constraints chosen nodes) where
   settled_leaves : AreLeavesOf schema constraints chosen (leaves_in schema nodes)
   settled_leaves = record {

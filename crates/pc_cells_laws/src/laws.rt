@@ -2,6 +2,7 @@ ghost use Rattle.std.specs.Prelude.{◌≡◌, ◌↔◌, ℕ, cond, true, List,
 ghost use Rattle.pc_model.specs.declared.schema.Schema.{Schema};
 ghost use Rattle.pc_model.specs.declared.row.Row.{Row};
 ghost use Rattle.pc_model.specs.declared.region.Region.{Region};
+ghost use Rattle.pc_model.specs.declared.area.Area.{Area};
 ghost use Rattle.pc_model.specs.declared.constraint.Constraint.{Constraint};
 ghost use Rattle.pc_model.specs.declared.tree.CutNode.{CutNode};
 ghost use Rattle.pc_model.specs.declared.tree.Leaf.{Leaf};
@@ -38,20 +39,20 @@ pub fn leaves_are_of_the_schema()
 /// A row of a settled leaf that can be lost has the leaf's class.
 #[tactic(auto, using(crate::proofs::LeafRows::class_of_leaf))]
 pub fn settled_leaves_know_the_class()
-    ensures { (constraints : List Constraint) (chosen : Region) (leaf : Leaf) (row : Row) → IsSettled constraints chosen leaf → has leaf.region row ≡ true → IsLawful constraints row → is_leaf_of (class_of constraints chosen row) leaf ≡ true }
+    ensures { (constraints : List Constraint) (chosen : Area) (leaf : Leaf) (row : Row) → IsSettled constraints chosen leaf → has leaf.region row ≡ true → IsLawful constraints row → is_leaf_of (class_of constraints chosen row) leaf ≡ true }
 {}
 
 /// Each row of a settled leaf of a class can be lost.
 pub fn settled_rows_can_be_lost()
-    ensures { (schema : Schema) (constraints : List Constraint) (chosen : Region) (class : Class) (leaf : Leaf) (row : Row) → IsSettled constraints chosen leaf → is_leaf_of class leaf ≡ true → in_domain schema row ≡ true → has leaf.region row ≡ true → IsRowOf schema constraints chosen class row }
+    ensures { (schema : Schema) (constraints : List Constraint) (chosen : Area) (class : Class) (leaf : Leaf) (row : Row) → IsSettled constraints chosen leaf → is_leaf_of class leaf ≡ true → in_domain schema row ≡ true → has leaf.region row ≡ true → IsRowOf schema constraints chosen class row }
 {}
 
 /// The classes of a settled tree are those of the rows that can be lost.
 pub fn classes_are_those_of_rows()
-    ensures { (schema : Schema) (constraints : List Constraint) (chosen : Region) (nodes : List CutNode) → IsWellFormed schema → IsSettledTree schema constraints chosen nodes → (class : Class) → (Contains (classes_of (leaves_in schema nodes)) class ↔ HasRowOf schema constraints chosen class) }
+    ensures { (schema : Schema) (constraints : List Constraint) (chosen : Area) (nodes : List CutNode) → IsWellFormed schema → IsSettledTree schema constraints chosen nodes → (class : Class) → (Contains (classes_of (leaves_in schema nodes)) class ↔ HasRowOf schema constraints chosen class) }
 {}
 
 /// The rows of a class that can be lost are those in the boxes of its leaves.
 pub fn rows_of_a_class_are_in_its_boxes()
-    ensures { (schema : Schema) (constraints : List Constraint) (chosen : Region) (nodes : List CutNode) → IsWellFormed schema → IsSettledTree schema constraints chosen nodes → (class : Class) (row : Row) → (IsRowOf schema constraints chosen class row ↔ Any (λ (box : Region). has box row ≡ true) (boxes_of (leaves_in schema nodes) class)) }
+    ensures { (schema : Schema) (constraints : List Constraint) (chosen : Area) (nodes : List CutNode) → IsWellFormed schema → IsSettledTree schema constraints chosen nodes → (class : Class) (row : Row) → (IsRowOf schema constraints chosen class row ↔ Any (λ (box : Region). has box row ≡ true) (boxes_of (leaves_in schema nodes) class)) }
 {}

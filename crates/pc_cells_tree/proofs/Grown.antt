@@ -5,13 +5,14 @@ use Rattle.std.proofs.lemmas.List.Elements.{All-nil, All-cons, All-append}
 use Rattle.pc_model.specs.declared.schema.Column.{Column}
 use Rattle.pc_model.specs.declared.schema.Schema.{Schema}
 use Rattle.pc_model.specs.declared.region.Region.{Region}
+use Rattle.pc_model.specs.declared.area.Area.{Area}
 use Rattle.pc_model.specs.declared.constraint.Constraint.{Constraint}
 use Rattle.pc_model.specs.declared.tree.Cut.{Cut}
 use Rattle.pc_model.specs.declared.tree.LeafMark.{LeafMark}
 use Rattle.pc_model.specs.declared.tree.LeafMark.TheVariants.{Barren}
 use Rattle.pc_model.specs.declared.tree.CutNode.{CutNode}
 use Rattle.pc_model.specs.declared.tree.CutNode.TheVariants as nodes
-use Rattle.pc_model.specs.Boxes.{IsServable}
+use Rattle.pc_model.specs.Boxes.{IsAreaOf, IsServable}
 use Rattle.pc_model.specs.Regions.{whole_side, whole_region, is_region_of}
 use Rattle.pc_model.specs.WellFormed.{IsWellFormed}
 use Rattle.pc_model.specs.CutTrees.{CutShape, leaf, inner, size_of, nodes_from, shape_of, leaves_of, first_part, second_part}
@@ -21,6 +22,7 @@ use Rattle.pc_box.specs.Cuts.{Divides}
 use Rattle.pc_box.proofs.CutRows.{first_alike, second_alike, IsProper-from_divides}
 use Rattle.pc_box.proofs.Likeness.{as_many_sides, AreAlike-turned, AreAlike-through}
 use Rattle.pc_box.proofs.Schemas.{AreAlike-from_schema}
+use Rattle.pc_box.proofs.AlikeAreas.{IsAlikeToArea-from_schema, all_alike-from_schema, IsAlikeToArea-through, all_alike-through}
 use Rattle.pc_cells_tree.specs.declared.growth.Growth.{Growth}
 use Rattle.pc_cells_tree.specs.Decisions.{IsComparable}
 use Rattle.pc_cells_tree.specs.Growing.{HasGrown, with_leaf, with_place, with_inner}
@@ -29,28 +31,23 @@ use Rattle.pc_cells_laws.proofs.Trees.{shape_of-nodes, length-nodes}
 use Rattle.pc_model.proofs.FewNames.{have_few_names}
 use Rattle.pc_model.proofs.WholeDomain.{whole_is_region}
 
-module _ (constraints : List Constraint) (chosen : Region) where
+module _ (constraints : List Constraint) (chosen : Area) where
   -- ---- boxes
-
-  pub box_comparable : (part : Region) → IsComparable constraints chosen part → IsBox part
-  box_comparable part fits = AreAlike-through part chosen part fits.side (AreAlike-turned part chosen fits.side)
 
   -- a part is compared as the box is
   part_comparable : (part piece : Region) → IsComparable constraints chosen part → AreAlike part piece → IsComparable constraints chosen piece
   part_comparable part piece fits alike = record {
     few = omega (arith, as_many_sides part.sides piece.sides alike, fits.few);
-    each = λ k d inside. record {
-      when = AreAlike-through piece part _ (AreAlike-turned part piece alike) (fits.each k d inside).when;
-      values = AreAlike-through piece part _ (AreAlike-turned part piece alike) (fits.each k d inside).values;
-    };
-    side = AreAlike-through piece part chosen (AreAlike-turned part piece alike) fits.side;
+    filled = AreAlike-through piece part piece (AreAlike-turned part piece alike) alike;
+    each = all_alike-through part piece alike constraints fits.each;
+    side = IsAlikeToArea-through part piece alike chosen fits.side;
   }
 
   pub first_comparable : (part piece : Region) (cut : Cut) → IsComparable constraints chosen part → Divides part cut → piece ≡ first_part part cut → IsComparable constraints chosen piece
-  first_comparable part piece cut fits divided e = part_comparable part piece fits (first_alike part cut divided piece (box_comparable part fits) e)
+  first_comparable part piece cut fits divided e = part_comparable part piece fits (first_alike part cut divided piece fits.filled e)
 
   pub second_comparable : (part piece : Region) (cut : Cut) → IsComparable constraints chosen part → Divides part cut → piece ≡ second_part part cut → IsComparable constraints chosen piece
-  second_comparable part piece cut fits divided e = part_comparable part piece fits (second_alike part cut divided piece (box_comparable part fits) e)
+  second_comparable part piece cut fits divided e = part_comparable part piece fits (second_alike part cut divided piece fits.filled e)
 
   -- ---- growing
 
@@ -94,20 +91,18 @@ module _ (constraints : List Constraint) (chosen : Region) where
 
 -- ---- the whole domain
 
-pub whole_comparable : (schema : Schema) (constraints : List Constraint) (chosen whole : Region) → IsWellFormed schema → All (IsServable schema) constraints → is_region_of schema chosen ≡ true →
+pub whole_comparable : (schema : Schema) (constraints : List Constraint) (chosen : Area) (whole : Region) → IsWellFormed schema → All (IsServable schema) constraints → IsAreaOf schema chosen →
     whole ≡ whole_region schema → IsComparable constraints chosen whole
 whole_comparable schema constraints chosen whole formed servable side e =
     let region : is_region_of schema whole ≡ true = rw e (whole_is_region schema formed) in
     record {
       few = rw e (omega (arith, length-map schema.columns (λ (column : Column). whole_side column.kind), formed.columns.few));
-      each = λ k d inside. record {
-        when = AreAlike-from_schema schema whole _ region (servable k d inside).when_region;
-        values = AreAlike-from_schema schema whole _ region (servable k d inside).value_region;
-      };
-      side = AreAlike-from_schema schema whole chosen region side;
+      filled = AreAlike-from_schema schema whole whole region region;
+      each = all_alike-from_schema schema whole region constraints servable;
+      side = IsAlikeToArea-from_schema schema whole region chosen side;
     }
 
-module _ (schema : Schema) (constraints : List Constraint) (chosen whole : Region) (none growth : Growth) (is_whole : whole ≡ whole_region schema) (no_nodes : none.nodes ≡ []) (no_leaves : none.leaves ≡ [])
+module _ (schema : Schema) (constraints : List Constraint) (chosen : Area) (whole : Region) (none growth : Growth) (is_whole : whole ≡ whole_region schema) (no_nodes : none.nodes ≡ []) (no_leaves : none.leaves ≡ [])
     (grown : HasGrown constraints chosen whole none growth) where
   all_nodes : growth.nodes ≡ nodes_from 0 grown.shape
   all_nodes = rw (grown.nodes_are, no_nodes) refl

@@ -1,3 +1,4 @@
+pub mod AreaStances
 pub mod BareTrees
 pub mod Choices
 pub mod CutOn
@@ -5,12 +6,14 @@ pub mod Decisions
 pub mod Ends
 pub mod Faces
 pub mod Grown
+pub mod Lists
 pub mod Parts
 pub mod Passes
 pub mod Peeled
 pub mod Potentials
 pub mod Rooms
 pub mod Stances
+pub mod Standings
 pub mod Starts
 pub mod TreeBoxes
 pub mod TreeLaws

@@ -4,30 +4,35 @@ use Rattle.std.proofs.Math.Nat.{pow-suc}
 use Rattle.std.proofs.Math.Pow.{pow_mono}
 use Rattle.std.proofs.lemmas.Bool.{cases_lt}
 use Rattle.std.proofs.lemmas.Nat.{pow_pos}
-use Rattle.std.proofs.lemmas.List.{drop-append-le, get_or_past}
+use Rattle.std.proofs.lemmas.List.{drop-append-le, get_or_default, get_or_past}
 use Rattle.std.proofs.lemmas.List.Elements.{All-append}
 use Rattle.std.proofs.lemmas.List.Sums.{sum_by-append, sum_by-drop_more}
 use Rattle.pc_model.specs.declared.region.Region.{Region}
+use Rattle.pc_model.specs.declared.area.Area.{Area}
 use Rattle.pc_model.specs.declared.constraint.Constraint.{Constraint}
 use Rattle.pc_model.specs.declared.tree.Cut.{Cut}
+use Rattle.pc_model.specs.declared.tree.LeafMark.{LeafMark}
 use Rattle.pc_model.specs.declared.tree.LeafMark.TheVariants.{Barren}
 use Rattle.pc_model.specs.declared.tree.CutNode.{CutNode}
 use Rattle.pc_model.specs.declared.tree.CutNode.TheVariants as forms
-use Rattle.pc_model.specs.CutTrees.{IsInside, first_part, second_part}
+use Rattle.pc_model.specs.CutTrees.{IsInside, IsInsideArea, first_part, second_part}
+use Rattle.pc_model.specs.Cells.{IsSettledAs}
 use Rattle.pc_box.specs.Boxes.{IsBox}
 use Rattle.pc_box.proofs.CutRows.{IsProper-from_divides}
 use Rattle.pc_cells_tree.specs.declared.refine.Boxed.{Boxed}
-use Rattle.pc_cells_tree.specs.Decisions.{IsComparable, CanBeSettled, IsNeeded}
+use Rattle.pc_cells_tree.specs.declared.decision.Decision.{Decision}
+use Rattle.pc_cells_tree.specs.declared.decision.Decision.TheVariants.{Settled}
+use Rattle.pc_cells_tree.specs.Decisions.{IsComparable, CanBeSettled, IsNeeded, IsDecision}
 use Rattle.pc_cells_tree.specs.Faces.{IsSpentBy}
 use Rattle.pc_cells_tree.specs.Linked.{node_at, box_at, AreBoxesOf, IsDone, AreDoneBelow, is_leaf_node}
 use Rattle.pc_cells_tree.specs.Refining.{nodes_cut, boxes_cut, leaf_sum, IsRefining, IsStep, work_from}
 use Rattle.pc_cells_tree.specs.Rooms.{room}
 use Rattle.pc_cells_tree.proofs.CutOn.{nodes_long, cut_node, old_node, first_node, second_node, old_box, first_box, second_box, each_number, tree_again}
-use Rattle.pc_cells_tree.proofs.Grown.{box_comparable, first_comparable, second_comparable}
-use Rattle.pc_cells_tree.proofs.Parts.{parts_can_be_settled}
+use Rattle.pc_cells_tree.proofs.Grown.{first_comparable, second_comparable}
+use Rattle.pc_cells_tree.proofs.Parts.{parts_can_be_settled, within_area}
 use Rattle.pc_cells_tree.proofs.Potentials.{leaf_sum-more, leaf_sum-cut, due_leaf}
 use Rattle.pc_cells_tree.proofs.Rooms.{first_smaller, second_smaller}
-use Rattle.pc_cells_tree.proofs.TreeLaws.{first_inside, second_inside, inside_whole, leaf_done}
+use Rattle.pc_cells_tree.proofs.TreeLaws.{first_inside, second_inside, inside_whole, done_by, leaf_done}
 
 -- a leaf is no cut
 leaf_or_cut : (node : CutNode) (cut : Cut) (first second : ℕ) → is_leaf_node node ≡ true → node ≡ forms.Inner cut first second → ⊥
@@ -36,7 +41,7 @@ leaf_or_cut node cut first second leaf e = true≢false (sym leaf ∙ ap is_leaf
 same_cut : (cut other : Cut) (first second one two : ℕ) → forms.Inner cut first second ≡ forms.Inner other one two → cut ≡ other
 same_cut cut other first second one two e = let same = e in cc
 
-module _ (constraints : List Constraint) (chosen : Region) where
+module _ (constraints : List Constraint) (chosen : Area) where
   -- ---- the start
 
   pub started : (start : Boxed) → AreBoxesOf (box_at start.boxes 0) start.nodes start.boxes → All (IsComparable constraints chosen) start.boxes → IsRefining constraints chosen start start 0
@@ -55,7 +60,15 @@ module _ (constraints : List Constraint) (chosen : Region) where
   }
 
   pub filled : (boxes : List Region) → All (IsComparable constraints chosen) boxes → All IsBox boxes
-  filled boxes each k d inside = box_comparable constraints chosen (get_or boxes k d) (each k d inside)
+  filled boxes each k d inside = (each k d inside).filled
+
+  -- a box that is settled leaves all as it is
+  pub settled_node : (boxed : Boxed) (place : ℕ) (box d : Region) (decision : Decision) (mark : LeafMark) (boxes : List Region) → place < length boxed.nodes → length boxed.boxes ≡ length boxed.nodes →
+      box ≡ get_or boxes place d → boxes ≡ boxed.boxes → IsDecision constraints chosen box decision → decision ≡ Settled mark → IsStep constraints chosen place boxed boxed
+  settled_node boxed place box d decision mark boxes there long is same says e =
+      let read : box ≡ box_at boxed.boxes place = is ∙ ap (λ all. get_or all place d) same ∙ get_or_default boxed.boxes place d (record { sides = [] }) (omega (arith, there, long)) in
+      let settled : IsSettledAs constraints chosen box mark = subst (IsDecision constraints chosen box) e says in
+      inl (refl, done_by constraints chosen (box_at boxed.boxes place) (node_at boxed.nodes place) (mark, subst (λ part. IsSettledAs constraints chosen part mark) read settled))
 
   module _ (start now : Boxed) (place : ℕ) (so_far : IsRefining constraints chosen start now place) (there : place < length now.nodes) where
     long : length now.boxes ≡ length now.nodes
@@ -105,7 +118,7 @@ module _ (constraints : List Constraint) (chosen : Region) where
 
       again : AreBoxesOf (box_at start.boxes 0) nodes boxes
       again =
-          tree_again now.nodes now.boxes place cut there long (box_at start.boxes 0) so_far.tree leaf (IsProper-from_divides box cut needs.divides (box_comparable constraints chosen box here))
+          tree_again now.nodes now.boxes place cut there long (box_at start.boxes 0) so_far.tree leaf (IsProper-from_divides box cut needs.divides here.filled)
 
       both : All (IsComparable constraints chosen) (first ∷ second ∷ [])
       both zero d inside = first_comparable constraints chosen box first cut here needs.divides refl
@@ -176,10 +189,10 @@ module _ (constraints : List Constraint) (chosen : Region) where
             (done_new (length now.nodes + 1) second (second_node now.nodes now.boxes place cut there long) (second_box now.nodes now.boxes place cut there long)
             (second_inside box second cut needs.divides refl))
 
-        spends : (need : Region → ℕ) → IsSpentBy rest constraints chosen need → IsInside (box_at start.boxes 0) chosen →
+        spends : (need : Region → ℕ) → IsSpentBy rest constraints chosen need → IsInsideArea (box_at start.boxes 0) chosen →
             suc so_far.cuts.0 + leaf_sum need (drop (place + 1) nodes) (drop (place + 1) boxes) ≤ leaf_sum need start.nodes start.boxes
         spends need uses inside =
-            let used = uses box cut here settled_here (λ row held. inside row (inside_whole (box_at start.boxes 0) now.nodes now.boxes so_far.tree place there row held)) needs in
+            let used = uses box cut here settled_here (within_area (box_at start.boxes 0) box (inside_whole (box_at start.boxes 0) now.nodes now.boxes so_far.tree place there) chosen inside) needs in
             omega (
               arith,
               used,

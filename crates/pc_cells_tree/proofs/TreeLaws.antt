@@ -4,6 +4,7 @@ use Rattle.std.proofs.lemmas.Bool.{and_parts}
 use Rattle.std.proofs.lemmas.List.{ext_get_or, get_or_default}
 use Rattle.pc_model.specs.declared.schema.Schema.{Schema}
 use Rattle.pc_model.specs.declared.region.Region.{Region}
+use Rattle.pc_model.specs.declared.area.Area.{Area}
 use Rattle.pc_model.specs.declared.constraint.Constraint.{Constraint}
 use Rattle.pc_model.specs.declared.tree.Cut.{Cut}
 use Rattle.pc_model.specs.declared.tree.CutNode.{CutNode}
@@ -74,7 +75,7 @@ module _ (whole : Region) (nodes : List CutNode) (boxes : List Region) (tree : A
         λ row held. inner row (second_inside (box_at boxes k) (box_at boxes second) cut divided is.second_is row held),
       ))
 
-  pub comparable_boxes : (constraints : List Constraint) (chosen : Region) → IsComparable constraints chosen whole → All (IsComparable constraints chosen) boxes
+  pub comparable_boxes : (constraints : List Constraint) (chosen : Area) → IsComparable constraints chosen whole → All (IsComparable constraints chosen) boxes
   comparable_boxes constraints chosen fits k d inside =
       subst (IsComparable constraints chosen) (get_or_default boxes k (record { sides = [] }) d inside)
       (each_node (λ i. IsComparable constraints chosen (box_at boxes i)) (subst (IsComparable constraints chosen) (sym tree.root) fits)
@@ -86,17 +87,17 @@ module _ (whole : Region) (nodes : List CutNode) (boxes : List Region) (tree : A
 
 -- ---- nodes that are done
 
-pub done_by : (constraints : List Constraint) (chosen box : Region) (node : CutNode) → CanBeSettled constraints chosen box → IsDone constraints chosen box node
+pub done_by : (constraints : List Constraint) (chosen : Area) (box : Region) (node : CutNode) → CanBeSettled constraints chosen box → IsDone constraints chosen box node
 done_by constraints chosen box (forms.Leaf mark) settled = settled
 done_by constraints chosen box (forms.Inner cut first second) settled = tt
 
-pub leaf_done : (constraints : List Constraint) (chosen box : Region) (node : CutNode) → is_leaf_node node ≡ true → IsDone constraints chosen box node → CanBeSettled constraints chosen box
+pub leaf_done : (constraints : List Constraint) (chosen : Area) (box : Region) (node : CutNode) → is_leaf_node node ≡ true → IsDone constraints chosen box node → CanBeSettled constraints chosen box
 leaf_done constraints chosen box (forms.Leaf mark) leaf done = done
 leaf_done constraints chosen box (forms.Inner cut first second) leaf done = absurd (true≢false (sym leaf))
 
 -- ---- a tree that was cut on for others
 
-module _ (schema : Schema) (constraints others : List Constraint) (chosen other : Region) (before after : List CutNode) (boxes_before boxes : List Region)
+module _ (schema : Schema) (constraints others : List Constraint) (chosen other : Area) (before after : List CutNode) (boxes_before boxes : List Region)
     (old : AreBoxesOf (whole_region schema) before boxes_before) (tree : AreBoxesOf (whole_region schema) after boxes) (kept : HasKept schema constraints chosen before after)
     (divided : IsDividedFor schema others other before) where
   -- a box that can be settled, or that of an old node
@@ -143,7 +144,7 @@ module _ (schema : Schema) (constraints others : List Constraint) (chosen other 
   still_done k inside =
       known_done k (node_at before k) refl (each_node (whole_region schema) after boxes tree IsKnown (inr (old.some, tree.root ∙ sym old.root)) known_parts k inside)
 
-pub refined_stays_divided : (schema : Schema) (constraints others : List Constraint) (chosen other : Region) (before after : List CutNode) → IsTree schema before →
+pub refined_stays_divided : (schema : Schema) (constraints others : List Constraint) (chosen other : Area) (before after : List CutNode) → IsTree schema before →
     HasKept schema constraints chosen before after → IsDividedFor schema others other before → IsDividedFor schema others other after
 refined_stays_divided schema constraints others chosen other before after old kept divided boxes tree =
     still_done schema constraints others chosen other before after old.0 boxes old.1 tree kept divided

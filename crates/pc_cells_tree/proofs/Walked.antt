@@ -8,6 +8,7 @@ use Rattle.std.proofs.Math.Pow.{pow_mono}
 use Rattle.std.proofs.Math.Seq.{get_or-append_seam}
 use Rattle.pc_model.specs.declared.schema.Schema.{Schema}
 use Rattle.pc_model.specs.declared.region.Region.{Region}
+use Rattle.pc_model.specs.declared.area.Area.{Area}
 use Rattle.pc_model.specs.declared.constraint.Constraint.{Constraint}
 use Rattle.pc_model.specs.declared.tree.Cut.{Cut}
 use Rattle.pc_model.specs.declared.tree.LeafMark.{LeafMark}
@@ -15,8 +16,8 @@ use Rattle.pc_model.specs.declared.tree.LeafMark.TheVariants.{Barren}
 use Rattle.pc_model.specs.declared.tree.Leaf.{Leaf}
 use Rattle.pc_model.specs.declared.tree.CutNode.{CutNode}
 use Rattle.pc_model.specs.declared.tree.CutNode.TheVariants as forms
-use Rattle.pc_model.specs.Boxes.{IsServable}
-use Rattle.pc_model.specs.Regions.{whole_region, is_region_of}
+use Rattle.pc_model.specs.Boxes.{IsAreaOf, IsServable}
+use Rattle.pc_model.specs.Regions.{whole_region}
 use Rattle.pc_model.specs.WellFormed.{IsWellFormed}
 use Rattle.pc_model.specs.CutTrees.{IsProper, first_part, second_part}
 use Rattle.pc_model.specs.Cells.{IsSettledAs}
@@ -31,7 +32,7 @@ use Rattle.pc_cells_tree.specs.Growing.{with_leaf, with_place, with_inner}
 use Rattle.pc_cells_tree.specs.Linked.{node_at, is_leaf_node, box_at, IsNodeAt, IsCutInto, IsTree, IsDone, IsDividedFor}
 use Rattle.pc_cells_tree.specs.Rooms.{room}
 use Rattle.pc_cells_tree.specs.Walking.{HasWalked, Does, Leads, IsVisit, IsTask, effort, efforts, IsStep, IsOpened, nothing, IsUnderWay}
-use Rattle.pc_cells_tree.proofs.Grown.{box_comparable, first_comparable, second_comparable, grown-leaf, grown-inner, whole_comparable}
+use Rattle.pc_cells_tree.proofs.Grown.{first_comparable, second_comparable, grown-leaf, grown-inner, whole_comparable}
 use Rattle.pc_cells_tree.proofs.Rooms.{first_smaller, second_smaller}
 
 -- ---- efforts
@@ -52,7 +53,7 @@ some_task : (task : Task) → 0 < effort task
 some_task (Visit number part) = some_effort (2 * room part)
 some_task (Close place cut) = omega arith
 
-module _ (nodes : List CutNode) (constraints : List Constraint) (chosen : Region) where
+module _ (nodes : List CutNode) (constraints : List Constraint) (chosen : Area) where
   -- ---- the last task is done first
 
   leads_push : (tasks : List Task) (task : Task) (before middle end : Growth) → Does nodes constraints chosen task before middle → Leads nodes constraints chosen tasks middle end →
@@ -158,7 +159,7 @@ module _ (nodes : List CutNode) (constraints : List Constraint) (chosen : Region
         HasWalked nodes constraints chosen second (second_part part cut) (with_inner middle (length before.nodes) cut) after → HasWalked nodes constraints chosen number part before after
     unfolding grown-inner
     walked-inner before middle after one other = record {
-      grown = grown-inner constraints chosen part cut before middle after (box_comparable constraints chosen part visit.comparable) visit_divided one.grown other.grown;
+      grown = grown-inner constraints chosen part cut before middle after visit.comparable.filled visit_divided one.grown other.grown;
       same = (first, second, is_inner, one.same, other.same);
     }
 
@@ -239,7 +240,7 @@ module _ (nodes : List CutNode) (constraints : List Constraint) (chosen : Region
   ended whole walk way none = way.leads walk.growth (rw none refl)
 
 -- the root of a tree
-pub root-visit : (schema : Schema) (nodes : List CutNode) (constraints : List Constraint) (chosen whole : Region) → IsWellFormed schema → All (IsServable schema) constraints → is_region_of schema chosen ≡ true →
+pub root-visit : (schema : Schema) (nodes : List CutNode) (constraints : List Constraint) (chosen : Area) (whole : Region) → IsWellFormed schema → All (IsServable schema) constraints → IsAreaOf schema chosen →
     IsTree schema nodes → IsDividedFor schema constraints chosen nodes → whole ≡ whole_region schema → IsVisit nodes constraints chosen 0 whole
 root-visit schema nodes constraints chosen whole formed servable side tree divided e = record {
   whole = whole_region schema;

@@ -1,6 +1,7 @@
 -- What has grown, with the tree over a box behind it.
 use Rattle.std.specs.Prelude.{◌≡◌, ℕ, ◌+◌, List, [], ◌∷◌, ◌++◌, length, slice_set}
 use Rattle.pc_model.specs.declared.region.Region.{Region}
+use Rattle.pc_model.specs.declared.area.Area.{Area}
 use Rattle.pc_model.specs.declared.constraint.Constraint.{Constraint}
 use Rattle.pc_model.specs.declared.tree.Cut.{Cut}
 use Rattle.pc_model.specs.declared.tree.LeafMark.{LeafMark}
@@ -28,7 +29,7 @@ with_inner growth place cut = record {
 }
 
 -- the nodes and leaves grew by those of a tree of proper cuts with settled leaves
-pub record HasGrown (constraints : List Constraint) (chosen part : Region) (before after : Growth) : Type 0 where
+pub record HasGrown (constraints : List Constraint) (chosen : Area) (part : Region) (before after : Growth) : Type 0 where
   pub shape : CutShape
   pub nodes_are : after.nodes ≡ before.nodes ++ nodes_from (length before.nodes) shape
   pub leaves_are : after.leaves ≡ before.leaves ++ leaves_of part shape

@@ -5,4 +5,5 @@ pub mod Linked
 pub mod Refining
 pub mod Rooms
 pub mod Stances
+pub mod Standings
 pub mod Walking

@@ -2,14 +2,17 @@
 use Rattle.std.specs.Prelude.{◌≡◌, ℕ, ◌+◌, ◌*◌, ◌<◌, ◌≤◌, ⊤, ◌⊎◌, Bool, true, false, List, [], ◌∷◌, ◌++◌, length, All, count_by, slice_index_or}
 use Rattle.pc_model.specs.declared.schema.Schema.{Schema}
 use Rattle.pc_model.specs.declared.region.Region.{Region}
+use Rattle.pc_model.specs.declared.area.Area.{Area}
+use Rattle.pc_model.specs.declared.constraint.When.{When}
+use Rattle.pc_model.specs.declared.constraint.When.TheVariants.{Boxes, Outside}
 use Rattle.pc_model.specs.declared.constraint.Constraint.{Constraint}
 use Rattle.pc_model.specs.declared.tree.Cut.{Cut}
 use Rattle.pc_model.specs.declared.tree.LeafMark.TheVariants.{Barren}
 use Rattle.pc_model.specs.declared.tree.CutNode.{CutNode}
 use Rattle.pc_model.specs.declared.tree.CutNode.TheVariants as forms
 use Rattle.pc_model.specs.Accepted.{constraint_limit}
-use Rattle.pc_model.specs.Boxes.{IsServable}
-use Rattle.pc_model.specs.Regions.{whole_region, is_region_of}
+use Rattle.pc_model.specs.Boxes.{IsAreaOf, IsServable}
+use Rattle.pc_model.specs.Regions.{whole_region, whole_area}
 use Rattle.pc_model.specs.WellFormed.{IsWellFormed}
 use Rattle.pc_model.specs.CutTrees.{IsProper, first_part, second_part}
 use Rattle.pc_cells_tree.specs.Decisions.{CanBeSettled, IsNeeded}
@@ -55,29 +58,29 @@ IsTree schema nodes = (boxes : List Region) × AreBoxesOf (whole_region schema) 
 
 -- ---- leaves that can be marked
 
--- the domain of a schema can be divided for the constraints and the region
-pub record CanBeDivided (schema : Schema) (constraints : List Constraint) (chosen : Region) : Type 0 where
+-- the domain of a schema can be divided for the constraints and the area
+pub record CanBeDivided (schema : Schema) (constraints : List Constraint) (chosen : Area) : Type 0 where
   pub well_formed : IsWellFormed schema
   pub few : length constraints ≤ constraint_limit
   pub servable : All (IsServable schema) constraints
-  pub regional : is_region_of schema chosen ≡ true
+  pub area : IsAreaOf schema chosen
 
-abbrev pub IsDone : List Constraint → Region → Region → CutNode → Type 0
+abbrev pub IsDone : List Constraint → Area → Region → CutNode → Type 0
 IsDone constraints chosen box (forms.Leaf mark) = CanBeSettled constraints chosen box
 IsDone constraints chosen box (forms.Inner cut first second) = ⊤
 
 -- each leaf below that number can be marked as settled
-abbrev pub AreDoneBelow : List Constraint → Region → List CutNode → List Region → ℕ → Type 0
+abbrev pub AreDoneBelow : List Constraint → Area → List CutNode → List Region → ℕ → Type 0
 AreDoneBelow constraints chosen nodes boxes end = (k : ℕ) → k < end → IsDone constraints chosen (box_at boxes k) (node_at nodes k)
 
 -- each leaf can
-abbrev pub IsDividedFor : Schema → List Constraint → Region → List CutNode → Type 0
+abbrev pub IsDividedFor : Schema → List Constraint → Area → List CutNode → Type 0
 IsDividedFor schema constraints chosen nodes = (boxes : List Region) → AreBoxesOf (whole_region schema) nodes boxes → AreDoneBelow constraints chosen nodes boxes (length nodes)
 
 -- ---- what becomes of a tree that is refined
 
 -- the old nodes that are inner ones, or leaves that can be marked, keep their numbers, and the new ones stand after the old ones
-pub record HasKept (schema : Schema) (constraints : List Constraint) (chosen : Region) (before after : List CutNode) : Type 0 where
+pub record HasKept (schema : Schema) (constraints : List Constraint) (chosen : Area) (before after : List CutNode) : Type 0 where
   pub longer : length before ≤ length after
   pub same : (boxes : List Region) → AreBoxesOf (whole_region schema) before boxes →
       (k : ℕ) → k < length before → IsDone constraints chosen (box_at boxes k) (node_at before k) → node_at after k ≡ node_at before k
@@ -87,7 +90,7 @@ is_leaf_node (forms.Leaf mark) = true
 is_leaf_node (forms.Inner cut first second) = false
 
 -- each cut divides a leaf of the old tree, or a part of one, that could not be marked
-abbrev pub HasNeededCuts : Schema → List Constraint → Region → List CutNode → List CutNode → Type 0
+abbrev pub HasNeededCuts : Schema → List Constraint → Area → List CutNode → List CutNode → Type 0
 HasNeededCuts schema constraints chosen before after =
     (boxes : List Region) → AreBoxesOf (whole_region schema) after boxes →
     (k : ℕ) (cut : Cut) (first second : ℕ) → is_leaf_node (node_at before k) ≡ true → node_at after k ≡ forms.Inner cut first second → IsNeeded constraints chosen (box_at boxes k) cut
@@ -95,14 +98,20 @@ HasNeededCuts schema constraints chosen before after =
 abbrev pub leaf_count : List CutNode → ℕ
 leaf_count nodes = count_by is_leaf_node nodes
 
--- where all leaves could be marked without the last constraint, and the whole domain is asked for, there are at most four cuts for each column and old leaf
-abbrev pub IsFrugal : Schema → List Constraint → Region → List CutNode → ℕ → Type 0
+-- the predicate has one box, or is outside
+abbrev pub IsSimple : When → Type 0
+IsSimple (Boxes area) = length area.boxes ≡ 1
+IsSimple Outside = ⊤
+
+-- where all leaves could be marked without the last constraint, which has one box at most, and the whole domain is asked for,
+-- there are at most four cuts for each column and old leaf
+abbrev pub IsFrugal : Schema → List Constraint → Area → List CutNode → ℕ → Type 0
 IsFrugal schema constraints chosen nodes cuts =
-    (rest : List Constraint) (last : Constraint) → constraints ≡ rest ++ last ∷ [] → chosen ≡ whole_region schema → IsDividedFor schema rest chosen nodes →
+    (rest : List Constraint) (last : Constraint) → constraints ≡ rest ++ last ∷ [] → IsSimple last.when → chosen ≡ whole_area schema → IsDividedFor schema rest chosen nodes →
     cuts ≤ 4 * length schema.columns * leaf_count nodes
 
 -- the tree was cut on by so many cuts, until it is divided
-pub record IsCutOn (schema : Schema) (constraints : List Constraint) (chosen : Region) (before after : List CutNode) (count : ℕ) : Type 0 where
+pub record IsCutOn (schema : Schema) (constraints : List Constraint) (chosen : Area) (before after : List CutNode) (count : ℕ) : Type 0 where
   pub tree : IsTree schema after
   pub divided : IsDividedFor schema constraints chosen after
   pub kept : HasKept schema constraints chosen before after

@@ -1,12 +1,13 @@
 -- How a tree is cut on: a list of its nodes that grows, with their boxes beside it, and what holds of both on the way.
 use Rattle.std.specs.Prelude.{◌≡◌, ℕ, ◌+◌, ◌*◌, ◌^◌, ◌<◌, ◌≤◌, ⊤, ◌⊎◌, true, sum_by, drop, List, [], ◌∷◌, ◌++◌, length, All, slice_set}
 use Rattle.pc_model.specs.declared.region.Region.{Region}
+use Rattle.pc_model.specs.declared.area.Area.{Area}
 use Rattle.pc_model.specs.declared.constraint.Constraint.{Constraint}
 use Rattle.pc_model.specs.declared.tree.Cut.{Cut}
 use Rattle.pc_model.specs.declared.tree.LeafMark.TheVariants.{Barren}
 use Rattle.pc_model.specs.declared.tree.CutNode.{CutNode}
 use Rattle.pc_model.specs.declared.tree.CutNode.TheVariants as forms
-use Rattle.pc_model.specs.CutTrees.{IsInside, first_part, second_part}
+use Rattle.pc_model.specs.CutTrees.{IsInsideArea, first_part, second_part}
 use Rattle.pc_box.specs.Cuts.{Divides}
 use Rattle.pc_box.specs.Boxes.{IsBox}
 use Rattle.pc_cells_tree.specs.declared.refine.Boxed.{Boxed}
@@ -46,7 +47,7 @@ abbrev pub boxes_cut : List Region → ℕ → Cut → List Region
 boxes_cut boxes k cut = boxes ++ first_part (box_at boxes k) cut ∷ second_part (box_at boxes k) cut ∷ []
 
 -- a leaf that no mark fits was cut
-pub record IsCutAt (constraints : List Constraint) (chosen : Region) (place : ℕ) (before after : Boxed) : Type 0 where
+pub record IsCutAt (constraints : List Constraint) (chosen : Area) (place : ℕ) (before after : Boxed) : Type 0 where
   pub cut : Cut
   pub leaf : is_leaf_node (node_at before.nodes place) ≡ true
   pub needed : IsNeeded constraints chosen (box_at before.boxes place) cut
@@ -54,10 +55,10 @@ pub record IsCutAt (constraints : List Constraint) (chosen : Region) (place : �
   pub boxes_are : after.boxes ≡ boxes_cut before.boxes place cut
 
 -- .. or the node was done, and nothing changed
-abbrev pub IsSettledNode : List Constraint → Region → ℕ → Boxed → Boxed → Type 0
+abbrev pub IsSettledNode : List Constraint → Area → ℕ → Boxed → Boxed → Type 0
 IsSettledNode constraints chosen place before after = (after ≡ before) × IsDone constraints chosen (box_at before.boxes place) (node_at before.nodes place)
 
-abbrev pub IsStep : List Constraint → Region → ℕ → Boxed → Boxed → Type 0
+abbrev pub IsStep : List Constraint → Area → ℕ → Boxed → Boxed → Type 0
 IsStep constraints chosen place before after = IsSettledNode constraints chosen place before after ⊎ IsCutAt constraints chosen place before after
 
 -- ---- how many cuts a potential allows
@@ -75,7 +76,7 @@ leaf_sum need (node ∷ nodes) (box ∷ boxes) = due need node box + leaf_sum ne
 -- ---- the list as it grows
 
 -- the tree so far, of which the nodes below a number are done
-pub record IsRefining (constraints : List Constraint) (chosen : Region) (before now : Boxed) (place : ℕ) : Type 0 where
+pub record IsRefining (constraints : List Constraint) (chosen : Area) (before now : Boxed) (place : ℕ) : Type 0 where
   pub tree : AreBoxesOf (box_at before.boxes 0) now.nodes now.boxes
   pub comparable : All (IsComparable constraints chosen) now.boxes
   pub done : AreDoneBelow constraints chosen now.nodes now.boxes place
@@ -88,7 +89,7 @@ pub record IsRefining (constraints : List Constraint) (chosen : Region) (before 
       IsNeeded constraints chosen (box_at now.boxes k) cut
   pub divided : (rest : List Constraint) → AreDoneBelow rest chosen before.nodes before.boxes (length before.nodes) → AreDoneBelow rest chosen now.nodes now.boxes (length now.nodes)
   pub spent : (rest : List Constraint) (need : Region → ℕ) → IsSpentBy rest constraints chosen need → AreDoneBelow rest chosen before.nodes before.boxes (length before.nodes) →
-      IsInside (box_at before.boxes 0) chosen → cuts.0 + leaf_sum need (drop place now.nodes) (drop place now.boxes) ≤ leaf_sum need before.nodes before.boxes
+      IsInsideArea (box_at before.boxes 0) chosen → cuts.0 + leaf_sum need (drop place now.nodes) (drop place now.boxes) ≤ leaf_sum need before.nodes before.boxes
 
 -- what is still to be gone through from a place on; the two parts of a box have less than the box
 abbrev pub work : List Region → ℕ

@@ -1,16 +1,19 @@
--- How a box stands to a region, its open faces, and the cuts along the region.
-use Rattle.std.specs.Prelude.{◌≡◌, ℕ, ◌+◌, ◌<◌, ℤ, pos, ◌-ℤ◌, int_lt, ◌==◌, cond, if◌then◌else◌, true, List, [], ◌∷◌, length, Option, Some, None, MatchOption}
+-- How a box stands to a region and to an area, its open faces, and the cuts along them.
+use Rattle.std.specs.Prelude.{◌≡◌, ℕ, ◌+◌, ◌<◌, ℤ, pos, ◌-ℤ◌, int_lt, ◌==◌, cond, if◌then◌else◌, true, List, [], ◌∷◌, length, drop, slice_index_or, All, Any, ◌⊎◌, Option, Some, None, MatchOption}
 use Rattle.pc_model.specs.declared.region.Side.{Side}
 use Rattle.pc_model.specs.declared.region.Side.TheVariants.{Span, Names}
 use Rattle.pc_model.specs.declared.region.Region.{Region}
+use Rattle.pc_model.specs.declared.area.Area.{Area}
 use Rattle.pc_model.specs.declared.tree.Cut.{Cut}
 use Rattle.pc_model.specs.declared.tree.Cut.TheVariants.{At, Among}
-use Rattle.pc_model.specs.CutTrees.{IsInside, IsApart, side_at}
+use Rattle.pc_model.specs.CutTrees.{IsInside, IsApart, IsInsideArea, IsApartFromArea, side_at}
 use Rattle.pc_model.specs.Places.{places_outside}
 use Rattle.pc_box.specs.Sides.{region_within}
 use Rattle.pc_cells_tree.specs.declared.choice.Candidate.{Candidate}
 use Rattle.pc_cells_tree.specs.declared.stance.Stance.{Stance}
 use Rattle.pc_cells_tree.specs.declared.stance.Stance.TheVariants.{Inside, Apart, Across}
+use Rattle.pc_cells_tree.specs.declared.area_stance.AreaStance.{AreaStance}
+use Rattle.pc_cells_tree.specs.declared.area_stance.AreaStance.TheVariants as areas
 
 -- a schema has at most so many columns
 abbrev pub column_limit : ℕ
@@ -75,3 +78,39 @@ abbrev pub IsStance : Region → Region → Stance → Type 0
 IsStance part region Inside = IsInside part region
 IsStance part region Apart = IsApart part region
 IsStance part region (Across faces) = IsAcross part region
+
+-- ---- a box and an area
+
+abbrev pub no_box : Region
+no_box = record { sides = [] }
+
+abbrev pub box_in : List Region → ℕ → Region
+box_in boxes place = slice_index_or boxes place no_box
+
+-- some rows of the box are in the box at a place and some are not, and no box has them all
+pub record IsAcrossAt (part : Region) (boxes : List Region) (place : ℕ) : Type 0 where
+  pub there : place < length boxes
+  pub across : IsAcross part (box_in boxes place)
+  pub not_inside : Any (IsInside part) boxes → ⊥
+
+-- the cut is along an open face to a box of the area that the box crosses, and no box has all its rows
+pub record IsCutThroughArea (part : Region) (area : Area) (cut : Cut) : Type 0 where
+  pub not_inside : IsInsideArea part area → ⊥
+  pub through : Any (λ (region : Region). IsCutThrough part region cut) area.boxes
+
+abbrev pub IsAreaStance : Region → Area → AreaStance → Type 0
+IsAreaStance part area areas.Inside = IsInsideArea part area
+IsAreaStance part area areas.Apart = IsApartFromArea part area
+IsAreaStance part area (areas.Across place faces) = IsAcrossAt part area.boxes place
+
+-- what the boxes from a place on say
+abbrev pub IsStanceFrom : Region → List Region → ℕ → AreaStance → Type 0
+IsStanceFrom part boxes from areas.Inside = Any (IsInside part) boxes
+IsStanceFrom part boxes from areas.Apart = All (IsApart part) (drop from boxes)
+IsStanceFrom part boxes from (areas.Across place faces) = (place < length boxes) × IsAcross part (box_in boxes place) × (Any (IsInside part) (drop from boxes) → ⊥)
+
+-- with one before them that is crossed: which of two crossed ones is kept is left open
+abbrev pub IsWithBox : ℕ → ℕ → AreaStance → AreaStance → Type 0
+IsWithBox place faces areas.Inside with_it = with_it ≡ areas.Inside
+IsWithBox place faces areas.Apart with_it = with_it ≡ areas.Across place faces
+IsWithBox place faces (areas.Across other few) with_it = (with_it ≡ areas.Across other few) ⊎ (with_it ≡ areas.Across place faces)

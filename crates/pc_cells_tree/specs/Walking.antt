@@ -1,6 +1,7 @@
 -- A walk over a tree that marks its leaves and numbers its nodes in preorder.
 use Rattle.std.specs.Prelude.{◌≡◌, ℕ, ◌*◌, ◌^◌, ◌<◌, true, List, [], ◌∷◌, ◌++◌, length, All, sum_by}
 use Rattle.pc_model.specs.declared.region.Region.{Region}
+use Rattle.pc_model.specs.declared.area.Area.{Area}
 use Rattle.pc_model.specs.declared.constraint.Constraint.{Constraint}
 use Rattle.pc_model.specs.declared.tree.Cut.{Cut}
 use Rattle.pc_model.specs.declared.tree.LeafMark.TheVariants.{Barren}
@@ -33,23 +34,23 @@ bare (inner cut t u) = inner cut (bare t) (bare u)
 -- ---- what is done
 
 -- what grew is the tree at a number, with marks
-pub record HasWalked (nodes : List CutNode) (constraints : List Constraint) (chosen : Region) (k : ℕ) (part : Region) (before after : Growth) : Type 0 where
+pub record HasWalked (nodes : List CutNode) (constraints : List Constraint) (chosen : Area) (k : ℕ) (part : Region) (before after : Growth) : Type 0 where
   pub grown : HasGrown constraints chosen part before after
   pub same : HasCutsAt nodes k grown.shape
 
 -- ---- what is still to be done
 
-abbrev pub Does : List CutNode → List Constraint → Region → Task → Growth → Growth → Type 0
+abbrev pub Does : List CutNode → List Constraint → Area → Task → Growth → Growth → Type 0
 Does nodes constraints chosen (Visit number part) before after = HasWalked nodes constraints chosen number part before after
 Does nodes constraints chosen (Close place cut) before after = after ≡ with_inner before place cut
 
 -- the tasks lead from one to the other, the last of them first
-abbrev pub Leads : List CutNode → List Constraint → Region → List Task → Growth → Growth → Type 0
+abbrev pub Leads : List CutNode → List Constraint → Area → List Task → Growth → Growth → Type 0
 Leads nodes constraints chosen [] before after = before ≡ after
 Leads nodes constraints chosen (task ∷ tasks) before after = (middle : Growth) × Leads nodes constraints chosen tasks before middle × Does nodes constraints chosen task middle after
 
 -- a number of a tree whose leaves can be marked, and its box
-pub record IsVisit (nodes : List CutNode) (constraints : List Constraint) (chosen : Region) (number : ℕ) (part : Region) : Type 0 where
+pub record IsVisit (nodes : List CutNode) (constraints : List Constraint) (chosen : Area) (number : ℕ) (part : Region) : Type 0 where
   pub whole : Region
   pub boxes : List Region
   pub boxes_are : AreBoxesOf whole nodes boxes
@@ -59,11 +60,11 @@ pub record IsVisit (nodes : List CutNode) (constraints : List Constraint) (chose
   pub comparable : IsComparable constraints chosen part
 
 -- a task where so many nodes have grown
-abbrev pub IsTask : List CutNode → List Constraint → Region → ℕ → Task → Type 0
+abbrev pub IsTask : List CutNode → List Constraint → Area → ℕ → Task → Type 0
 IsTask nodes constraints chosen grown (Visit number part) = IsVisit nodes constraints chosen number part
 IsTask nodes constraints chosen grown (Close place cut) = place < grown
 
-abbrev pub AreTasks : List CutNode → List Constraint → Region → Walk → Type 0
+abbrev pub AreTasks : List CutNode → List Constraint → Area → Walk → Type 0
 AreTasks nodes constraints chosen walk = All (IsTask nodes constraints chosen (length walk.growth.nodes)) walk.tasks.items
 
 -- the two parts of a box have less room than the box
@@ -77,7 +78,7 @@ efforts tasks = sum_by effort tasks
 -- ---- one task, which is the next one
 
 -- the task is done, or others stand in its place that do it with less effort
-pub record IsStep (nodes : List CutNode) (constraints : List Constraint) (chosen : Region) (task : Task) (before after : Walk) : Type 0 where
+pub record IsStep (nodes : List CutNode) (constraints : List Constraint) (chosen : Area) (task : Task) (before after : Walk) : Type 0 where
   pub tasks : AreTasks nodes constraints chosen before → AreTasks nodes constraints chosen after
   pub leads : (end : Growth) → Leads nodes constraints chosen after.tasks.items after.growth end → Leads nodes constraints chosen (before.tasks.items ++ task ∷ []) before.growth end
   pub less : efforts after.tasks.items < efforts (before.tasks.items ++ task ∷ [])
@@ -93,6 +94,6 @@ abbrev pub nothing : Growth
 nothing = record { nodes = []; leaves = [] }
 
 -- the tasks that are left end with the whole tree
-pub record IsUnderWay (nodes : List CutNode) (constraints : List Constraint) (chosen whole : Region) (walk : Walk) : Type 0 where
+pub record IsUnderWay (nodes : List CutNode) (constraints : List Constraint) (chosen : Area) (whole : Region) (walk : Walk) : Type 0 where
   pub tasks : AreTasks nodes constraints chosen walk
   pub leads : (end : Growth) → Leads nodes constraints chosen walk.tasks.items walk.growth end → HasWalked nodes constraints chosen 0 whole nothing end

@@ -1,11 +1,10 @@
 ghost use Rattle.std.specs.Prelude.{◌≡◌, ◌≤◌, ◌<◌, ◌⊎◌, length, All, MatchOption};
 ghost use Rattle.pc_model.specs.CutTrees.{IsInside};
-ghost use Rattle.pc_box.specs.Boxes.{AreAlike};
-ghost use Rattle.pc_cells_tree.specs.Decisions.{IsAlikeTo};
+ghost use Rattle.pc_box.specs.Boxes.{AreAlike, IsAlikeTo, IsAlikeToWhen};
 ghost use Rattle.pc_cells_tree.specs.Stances.{column_limit, span_cut, set_cut, side_cut, IsAlong, IsCandidateFor};
 
 use pc_box::apart;
-use pc_model::{Constraint, Cut, Region, Side};
+use pc_model::{Constraint, Cut, Region, Side, When};
 
 /// A cut, and through how many predicates it passes.
 #[derive(Clone, Copy, Debug, PartialEq, Eq)]
@@ -65,11 +64,32 @@ fn passed_by(part: &Region, constraints: &[Constraint], cut: &Cut) -> usize
 {
     let mut passed = 0;
     for constraint in constraints {
-        if is_split(part, &constraint.when, cut) && !apart(part, &constraint.when) {
+        if passes(part, &constraint.when, cut) {
             passed += 1;
         }
     }
     passed
+}
+
+// What is outside has no box of its own, and the areas that bound it are counted.
+fn passes(part: &Region, when: &When, cut: &Cut) -> bool
+    requires { IsAlikeToWhen part.now when.now }
+{
+    match when {
+        When::Boxes(area) => passes_some(part, area.boxes.as_slice(), cut),
+        When::Outside => false,
+    }
+}
+
+fn passes_some(part: &Region, boxes: &[Region], cut: &Cut) -> bool
+    requires { All (AreAlike part.now) boxes.now }
+{
+    for region in boxes {
+        if is_split(part, region, cut) && !apart(part, region) {
+            return true;
+        }
+    }
+    false
 }
 
 fn is_split(part: &Region, region: &Region, cut: &Cut) -> bool {

@@ -1,26 +1,21 @@
 ghost use Rattle.std.specs.Prelude.{◌≡◌, ◌+◌, ◌≤◌, ◌<◌, length, All};
 ghost use Rattle.pc_model.specs.Accepted.{constraint_limit};
-ghost use Rattle.pc_cells_tree.specs.Decisions.{IsAlikeTo, IsComparable, HasShortMask, IsMaskOf, IsRegionOf, IsFound, IsDecision, IsWithCrossing, with_bit};
+ghost use Rattle.pc_box.specs.Boxes.{IsAlikeTo};
+ghost use Rattle.pc_cells_tree.specs.Decisions.{IsComparable, HasRegionIn, HasShortMask, IsMaskOf, IsRegionOf, IsFound, IsDecision, IsWithCrossing, with_bit};
 ghost use Rattle.pc_cells_tree.specs.Stances.{column_limit};
+ghost use Rattle.pc_cells_tree.specs.Standings.{HasBoxAt, region_of};
 
+use crate::area_stance::{AreaStance, compare_area};
 use crate::choice::cut_through;
 use crate::stance::{Stance, compare};
-use pc_model::{Constraint, Cut, LeafMark, Region};
+use crate::standing::{Crossing, Standing, is_before, stand};
+use pc_model::{Area, Constraint, Cut, LeafMark, Region, When};
 
 /// What is done with a box.
 #[derive(Clone, Copy, Debug, PartialEq, Eq)]
 pub(crate) enum Decision {
     Settled(LeafMark),
     Divided(Cut),
-}
-
-/// A constraint that a box crosses: the box is within its predicate and crosses its values, or it crosses the
-/// predicate; and along how many open faces.
-#[derive(Clone, Copy, Debug, PartialEq, Eq)]
-pub(crate) struct Crossing {
-    pub place: usize,
-    pub within: bool,
-    pub faces: u32,
 }
 
 /// What constraints say of a box: one of them, that none of its rows can be lost; else one is crossed;
@@ -46,8 +41,7 @@ impl Finding {
         }
     }
 
-    /// With one before them that is crossed. Values come before predicates, since their outer part is
-    /// settled at once; then the one with fewer open faces.
+    /// With one before them that is crossed.
     fn with_crossing(self, crossing: Crossing) -> Finding
         ensures { IsWithCrossing crossing self result }
     {
@@ -59,16 +53,9 @@ impl Finding {
     }
 }
 
-fn is_before(one: Crossing, other: Crossing) -> bool {
-    if one.within != other.within {
-        return one.within;
-    }
-    one.faces < other.faces
-}
-
 /// Settles a box, or says how to cut it.
 #[tactic(auto, using(crate::proofs::Decisions::ends))]
-pub(crate) fn decide(part: &Region, constraints: &[Constraint], chosen: &Region) -> Decision
+pub(crate) fn decide(part: &Region, constraints: &[Constraint], chosen: &Area) -> Decision
     requires few { length constraints.now ≤ constraint_limit }
     requires comparable { IsComparable constraints.now chosen.now part.now }
     ensures { IsDecision constraints.now chosen.now part.now result }
@@ -90,32 +77,46 @@ pub(crate) fn decide(part: &Region, constraints: &[Constraint], chosen: &Region)
 
 // Of a box of which each constraint speaks of all rows or of none: whether its rows are chosen, or how to cut it.
 #[tactic(auto, using(crate::proofs::Decisions::sides))]
-fn decide_side(part: &Region, constraints: &[Constraint], chosen: &Region, mask: u32) -> Decision
+fn decide_side(part: &Region, constraints: &[Constraint], chosen: &Area, mask: u32) -> Decision
     requires comparable { IsComparable constraints.now chosen.now part.now }
     requires some { 0 < mask }
-    requires masked { IsMaskOf part.now constraints.now mask }
+    requires masked { IsMaskOf constraints.now part.now constraints.now mask }
     ensures { IsDecision constraints.now chosen.now part.now result }
 {
-    match compare(part, chosen) {
-        Stance::Inside => Decision::Settled(LeafMark::Class { mask, chosen: true }),
-        Stance::Apart => Decision::Settled(LeafMark::Class {
+    match compare_area(part, chosen) {
+        AreaStance::Inside => Decision::Settled(LeafMark::Class { mask, chosen: true }),
+        AreaStance::Apart => Decision::Settled(LeafMark::Class {
             mask,
             chosen: false,
         }),
-        Stance::Across { .. } => Decision::Divided(cut_through(part, chosen, constraints)),
+        AreaStance::Across { place, .. } => {
+            let region = &chosen.boxes.as_slice()[place];
+            Decision::Divided(cut_through(part, region, constraints))
+        }
     }
 }
 
-// The predicate that is crossed, or the values.
+// The box of the area that is crossed, or the values.
+#[tactic(auto, using(crate::proofs::Decisions::regions))]
 fn crossed_region(constraints: &[Constraint], crossing: Crossing) -> &Region
-    requires { crossing.place < length constraints.now }
+    requires there { crossing.place < length constraints.now }
+    requires has { HasRegionIn constraints.now crossing }
     ensures { IsRegionOf constraints.now crossing result.now }
 {
     let constraint = &constraints[crossing.place];
     if crossing.within {
-        &constraint.values
-    } else {
-        &constraint.when
+        return &constraint.values;
+    }
+    box_of(&constraint.when, crossing.box_place)
+}
+
+fn box_of(when: &When, place: usize) -> &Region
+    requires { HasBoxAt when.now place }
+    ensures { result.now ≡ region_of when.now place }
+{
+    match when {
+        When::Boxes(area) => &area.boxes.as_slice()[place],
+        When::Outside => unreachable!(),
     }
 }
 
@@ -143,19 +144,15 @@ fn find_from(part: &Region, constraints: &[Constraint], place: usize, later: Fin
     requires later { IsFound part.now constraints.now (place + 1) later }
     ensures { IsFound part.now constraints.now place result }
 {
-    let constraint = &constraints[place];
-    match compare(part, &constraint.when) {
-        Stance::Apart => later.with_bit(false),
-        Stance::Across { faces } => later.with_crossing(Crossing {
-            place,
-            within: false,
-            faces,
-        }),
-        Stance::Inside => match compare(part, &constraint.values) {
+    match stand(part, constraints, place) {
+        Standing::OfNone => later.with_bit(false),
+        Standing::Open(crossing) => later.with_crossing(crossing),
+        Standing::OfAll => match compare(part, &constraints[place].values) {
             Stance::Apart => Finding::Broken,
             Stance::Across { faces } => later.with_crossing(Crossing {
                 place,
                 within: true,
+                box_place: 0,
                 faces,
             }),
             Stance::Inside => later.with_bit(true),

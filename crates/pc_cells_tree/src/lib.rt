@@ -1,6 +1,7 @@
 //! The settled tree of cuts over a domain.
 #![tactic(auto)]
 
+mod area_stance;
 mod choice;
 mod decision;
 mod growth;
@@ -8,6 +9,7 @@ mod laws;
 mod marks;
 mod refine;
 mod stance;
+mod standing;
 mod walk;
 
 pub use growth::Growth;

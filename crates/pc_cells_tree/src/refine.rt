@@ -12,7 +12,7 @@ use crate::decision::{Decision, decide};
 use crate::growth::number;
 use pc_box::{Halves, cut};
 use pc_list::Seq;
-use pc_model::{Constraint, Cut, CutNode, LeafMark, Region, Schema};
+use pc_model::{Area, Constraint, Cut, CutNode, LeafMark, Region, Schema};
 use pc_num::Memory;
 use std::alloc::Global;
 
@@ -30,13 +30,13 @@ struct Boxed {
     boxes: Seq<Region>,
 }
 
-/// The tree with its leaves cut on until each can be marked as settled for the constraints and the region.
+/// The tree with its leaves cut on until each can be marked as settled for the constraints and the area.
 /// Leaves are kept without marks.
 pub fn refined(
     alloc: Global,
     schema: &Schema,
     constraints: &[Constraint],
-    chosen: &Region,
+    chosen: &Area,
     nodes: &[CutNode],
 ) -> Result<Refinement, Memory>
     requires asked { CanBeDivided schema.now constraints.now chosen.now }
@@ -118,7 +118,7 @@ fn with_parts(
 fn settled(
     alloc: Global,
     constraints: &[Constraint],
-    chosen: &Region,
+    chosen: &Area,
     start: Boxed,
 ) -> Result<Boxed, Memory>
     requires few { length constraints.now ≤ constraint_limit }
@@ -138,7 +138,7 @@ fn settled(
 fn settled_at(
     alloc: Global,
     constraints: &[Constraint],
-    chosen: &Region,
+    chosen: &Area,
     boxed: Boxed,
     place: usize,
 ) -> Result<Boxed, Memory>

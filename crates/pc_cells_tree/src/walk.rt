@@ -13,7 +13,7 @@ use crate::decision::{Decision, decide};
 use crate::growth::{Growth, number};
 use pc_box::cut;
 use pc_list::Seq;
-use pc_model::{Constraint, Cut, CutNode, LeafMark, Region, Schema};
+use pc_model::{Area, Constraint, Cut, CutNode, LeafMark, Region, Schema};
 use pc_num::Memory;
 use std::alloc::Global;
 
@@ -38,7 +38,7 @@ pub fn marked(
     alloc: Global,
     schema: &Schema,
     constraints: &[Constraint],
-    chosen: &Region,
+    chosen: &Area,
     nodes: &[CutNode],
 ) -> Result<Growth, Memory>
     requires asked { CanBeDivided schema.now constraints.now chosen.now }
@@ -59,7 +59,7 @@ pub fn marked(
 fn walked(
     alloc: Global,
     constraints: &[Constraint],
-    chosen: &Region,
+    chosen: &Area,
     nodes: &[CutNode],
     whole: Region,
 ) -> Result<Growth, Memory>
@@ -86,7 +86,7 @@ fn walked(
 fn stepped(
     alloc: Global,
     constraints: &[Constraint],
-    chosen: &Region,
+    chosen: &Area,
     nodes: &[CutNode],
     walk: Walk,
     task: Task,
@@ -110,7 +110,7 @@ fn stepped(
 fn visited(
     alloc: Global,
     constraints: &[Constraint],
-    chosen: &Region,
+    chosen: &Area,
     nodes: &[CutNode],
     walk: Walk,
     number: usize,
@@ -133,7 +133,7 @@ fn visited(
     }
 }
 
-fn mark_of(part: &Region, constraints: &[Constraint], chosen: &Region) -> LeafMark
+fn mark_of(part: &Region, constraints: &[Constraint], chosen: &Area) -> LeafMark
     requires few { length constraints.now ≤ constraint_limit }
     requires comparable { IsComparable constraints.now chosen.now part.now }
     requires settled { CanBeSettled constraints.now chosen.now part.now }

@@ -1,5 +1,7 @@
 use pc_list::{Seq, Text};
-use pc_model::{Agg, Column, Constraint, Folded, Kind, Query, Region, Row, Run, Schema, Side};
+use pc_model::{
+    Agg, Area, Column, Constraint, Folded, Kind, Query, Region, Row, Run, Schema, Side, When,
+};
 use pc_num::Memory;
 use pc_witness::{fold_runs, meets, rebuild, total_times};
 use std::alloc::{AllocError, Global};
@@ -27,14 +29,31 @@ fn weeks(alloc: Global, low: i64, high: i64) -> Result<Region, AllocError> {
     })
 }
 
+// Rows of at least one of some spans of weeks.
+fn area(alloc: Global, spans: &[(i64, i64)]) -> Result<Area, AllocError> {
+    let mut boxes = Seq::new(alloc);
+    for &(low, high) in spans {
+        boxes.push(weeks(alloc, low, high)?)?;
+    }
+    Ok(Area { boxes })
+}
+
+// What is outside, where no weeks are named.
+fn predicate(alloc: Global, spans: &[(i64, i64)]) -> Result<When, AllocError> {
+    if spans.is_empty() {
+        return Ok(When::Outside);
+    }
+    Ok(When::Boxes(area(alloc, spans)?))
+}
+
 // From the least to the most rows in the first weeks, which are in the second ones.
-type Limits = ((i64, i64), (i64, i64), u64, u64);
+type Limits = (&'static [(i64, i64)], (i64, i64), u64, u64);
 
 fn constraint(alloc: Global, limits: &Limits) -> Result<Constraint, AllocError> {
     let (when, values, least, most) = *limits;
     Ok(Constraint {
         name: Text::from_text(alloc, "c")?,
-        when: weeks(alloc, when.0, when.1)?,
+        when: predicate(alloc, when)?,
         values: weeks(alloc, values.0, values.1)?,
         least,
         most,
@@ -77,18 +96,26 @@ fn rows_of(alloc: Global, items: &[i64]) -> Result<Vec<Row>, AllocError> {
 
 const ANY: (i64, i64) = (1, 4);
 
-const TWO: &[Limits] = &[((1, 2), ANY, 1, 3), ((4, 4), ANY, 0, 2)];
+const TWO: &[Limits] = &[(&[(1, 2)], ANY, 1, 3), (&[(4, 4)], ANY, 0, 2)];
 
-const NEVER: &[Limits] = &[((1, 1), (2, 2), 1, 2)];
+const NEVER: &[Limits] = &[(&[(1, 1)], (2, 2), 1, 2)];
 
-const NONE: &[Limits] = &[((1, 1), (2, 2), 0, 2)];
+const NONE: &[Limits] = &[(&[(1, 1)], (2, 2), 0, 2)];
 
-const SHARED: &[Limits] = &[((1, 2), ANY, 1, 3), ((2, 2), ANY, 0, 1)];
+const SHARED: &[Limits] = &[(&[(1, 2)], ANY, 1, 3), (&[(2, 2)], ANY, 0, 1)];
 
-const MANY: &[Limits] = &[((1, 2), ANY, 1, u64::MAX)];
+const MANY: &[Limits] = &[(&[(1, 2)], ANY, 1, u64::MAX)];
+
+const OVERLAPPING: &[Limits] = &[(&[(1, 2), (2, 3)], ANY, 0, 1)];
+
+const REST: &[Limits] = &[(&[(1, 2)], ANY, 0, 1), (&[], (3, 3), 1, 2)];
+
+const NO_REST: &[Limits] = &[(&[(1, 4)], ANY, 0, 3), (&[], ANY, 0, 1)];
+
+const REST_ALONE: &[Limits] = &[(&[], ANY, 0, 2)];
 
 // Constraints, runs, and whether they are possible.
-static RUNS: [(&[Limits], Listed, bool); 19] = [
+static RUNS: [(&[Limits], Listed, bool); 34] = [
     (TWO, &[], false),
     (TWO, &[(1, 1, 1)], true),
     (TWO, &[(3, 1, 1), (2, 1, 4)], true),
@@ -108,6 +135,21 @@ static RUNS: [(&[Limits], Listed, bool); 19] = [
     (SHARED, &[(2, 1, 2)], false),
     (SHARED, &[(1, 1, 1)], true),
     (MANY, &[(u64::MAX, 1, 1), (1, 1, 1)], false),
+    (OVERLAPPING, &[(1, 1, 2)], true),
+    (OVERLAPPING, &[(2, 1, 2)], false),
+    (OVERLAPPING, &[(1, 1, 3)], true),
+    (OVERLAPPING, &[(1, 1, 1), (1, 1, 3)], false),
+    (OVERLAPPING, &[(1, 1, 4)], false),
+    (REST, &[], false),
+    (REST, &[(1, 1, 3)], true),
+    (REST, &[(1, 1, 1), (2, 1, 3)], true),
+    (REST, &[(3, 1, 3)], false),
+    (REST, &[(1, 1, 4)], false),
+    (NO_REST, &[(3, 1, 1)], true),
+    (NO_REST, &[(3, 1, 1), (1, 1, 4)], false),
+    (REST_ALONE, &[(2, 1, 4)], true),
+    (REST_ALONE, &[(3, 1, 4)], false),
+    (REST_ALONE, &[(1, 10, 4)], false),
 ];
 
 fn are_possible(
@@ -167,21 +209,25 @@ fn runs_of_counts(rt: HostRuntime) -> Result<(), Fail> {
     Ok(())
 }
 
-// A query of the rows of weeks 2 and 3, of any item.
+// A query of the rows of weeks 2 and 3, of any item; week 2 is in both boxes.
 fn query(alloc: Global, column: Option<u8>) -> Result<Query, AllocError> {
-    let sides = [
-        Side::Span {
-            low: i64::MIN,
-            high: i64::MAX,
-        },
-        Side::Span { low: 2, high: 3 },
-    ];
+    let mut boxes = Seq::new(alloc);
+    for high in 2..4 {
+        let sides = [
+            Side::Span {
+                low: i64::MIN,
+                high: i64::MAX,
+            },
+            Side::Span { low: 2, high },
+        ];
+        boxes.push(Region {
+            sides: Seq::from_slice(alloc, &sides)?,
+        })?;
+    }
     Ok(Query {
         agg: Agg::Sum,
         column,
-        chosen: Region {
-            sides: Seq::from_slice(alloc, &sides)?,
-        },
+        chosen: Area { boxes },
         group: None,
     })
 }

@@ -2,7 +2,7 @@ ghost use Rattle.pc_cells_tree.specs.Linked.{CanBeDivided};
 
 use pc_cells_tree::{Growth, marked, refined};
 use pc_lang::{read_constraints, read_query};
-use pc_model::{Constraint, Cut, CutNode, LeafMark, Region, Schema};
+use pc_model::{Area, Constraint, Cut, CutNode, Leaf, LeafMark, Schema, Side};
 use pc_schema::read_schema;
 use std::alloc::Global;
 use std::test::Fail;
@@ -16,7 +16,7 @@ fn grown(
     alloc: Global,
     schema: &Schema,
     constraints: &[Constraint],
-    chosen: &Region,
+    chosen: &Area,
 ) -> Result<Growth, Fail>
     requires asked { CanBeDivided schema.now constraints.now chosen.now }
 {
@@ -166,12 +166,269 @@ fn trees_for_one_constraint(rt: HostRuntime) -> Result<(), Fail> {
     Ok(())
 }
 
+const DAYS: &str = "day,int,1,31\n";
+
+// Trees of areas of some boxes, and of what is outside them.
+static AREAS: [(Texts, &[CutNode], usize); 6] = [
+    // Boxes that share rows: the days from 3 to 5 are in both.
+    (
+        (
+            DAYS,
+            "c: day in 1..5 or day in 3..9 => true, 0..2\n",
+            "count",
+        ),
+        &[
+            CutNode::Inner {
+                cut: Cut::At { column: 0, at: 5 },
+                first: 1,
+                second: 2,
+            },
+            CutNode::Leaf {
+                mark: LeafMark::Class {
+                    mask: 1,
+                    chosen: true,
+                },
+            },
+            CutNode::Inner {
+                cut: Cut::At { column: 0, at: 9 },
+                first: 3,
+                second: 4,
+            },
+            CutNode::Leaf {
+                mark: LeafMark::Class {
+                    mask: 1,
+                    chosen: true,
+                },
+            },
+            CutNode::Leaf {
+                mark: LeafMark::Barren,
+            },
+        ],
+        3,
+    ),
+    // All days are in the area and in neither of its boxes as a whole.
+    (
+        (DAYS, "c: day <= 20 or day >= 10 => true, 0..2\n", "count"),
+        &[
+            CutNode::Inner {
+                cut: Cut::At { column: 0, at: 20 },
+                first: 1,
+                second: 2,
+            },
+            CutNode::Leaf {
+                mark: LeafMark::Class {
+                    mask: 1,
+                    chosen: true,
+                },
+            },
+            CutNode::Leaf {
+                mark: LeafMark::Class {
+                    mask: 1,
+                    chosen: true,
+                },
+            },
+        ],
+        2,
+    ),
+    // The days that are asked for, where all rows are of the constraint.
+    (
+        (
+            DAYS,
+            "all: true => true, 0..9\n",
+            "count where day <= 5 or day >= 25",
+        ),
+        &[
+            CutNode::Inner {
+                cut: Cut::At { column: 0, at: 5 },
+                first: 1,
+                second: 2,
+            },
+            CutNode::Leaf {
+                mark: LeafMark::Class {
+                    mask: 1,
+                    chosen: true,
+                },
+            },
+            CutNode::Inner {
+                cut: Cut::At { column: 0, at: 24 },
+                first: 3,
+                second: 4,
+            },
+            CutNode::Leaf {
+                mark: LeafMark::Class {
+                    mask: 1,
+                    chosen: false,
+                },
+            },
+            CutNode::Leaf {
+                mark: LeafMark::Class {
+                    mask: 1,
+                    chosen: true,
+                },
+            },
+        ],
+        3,
+    ),
+    // What the area leaves is outside, and of its rows those with other values are of none.
+    (
+        (
+            DAYS,
+            "a: day in 1..10 => true, 0..1\noutside => day <= 20, 0..1\n",
+            "count",
+        ),
+        &[
+            CutNode::Inner {
+                cut: Cut::At { column: 0, at: 10 },
+                first: 1,
+                second: 2,
+            },
+            CutNode::Leaf {
+                mark: LeafMark::Class {
+                    mask: 1,
+                    chosen: true,
+                },
+            },
+            CutNode::Inner {
+                cut: Cut::At { column: 0, at: 20 },
+                first: 3,
+                second: 4,
+            },
+            CutNode::Leaf {
+                mark: LeafMark::Class {
+                    mask: 2,
+                    chosen: true,
+                },
+            },
+            CutNode::Leaf {
+                mark: LeafMark::Barren,
+            },
+        ],
+        3,
+    ),
+    // Nothing is outside a constraint over everything.
+    (
+        (
+            DAYS,
+            "c: true => true, 0..3\noutside => true, 1..1\n",
+            "count",
+        ),
+        &[CutNode::Leaf {
+            mark: LeafMark::Class {
+                mask: 1,
+                chosen: true,
+            },
+        }],
+        1,
+    ),
+    // Everything is outside where no area is named.
+    (
+        (DAYS, "outside => day <= 20, 0..1\n", "count"),
+        &[
+            CutNode::Inner {
+                cut: Cut::At { column: 0, at: 20 },
+                first: 1,
+                second: 2,
+            },
+            CutNode::Leaf {
+                mark: LeafMark::Class {
+                    mask: 1,
+                    chosen: true,
+                },
+            },
+            CutNode::Leaf {
+                mark: LeafMark::Barren,
+            },
+        ],
+        2,
+    ),
+];
+
+#[test]
+fn trees_for_areas_and_what_is_outside(rt: HostRuntime) -> Result<(), Fail> {
+    let alloc = rt.alloc();
+    for (place, (texts, nodes, leaves)) in AREAS.iter().enumerate() {
+        assert!(rt; is_tree(alloc, texts, nodes, *leaves)?, "tree {place}");
+    }
+    Ok(())
+}
+
+/// The days of a leaf, its mask, which is 0 where it is barren, and whether the query chooses it.
+type Days = (i64, i64, u32, bool);
+
+// Leaves in preorder.
+static LEAVES: [(Texts, &[Days]); 2] = [
+    // The query's boxes are cut along within the area's.
+    (
+        (
+            DAYS,
+            "c: day in 1..5 or day in 3..9 => true, 0..2\n",
+            "count where day in 4..6 or day = 9",
+        ),
+        &[
+            (1, 3, 1, false),
+            (4, 5, 1, true),
+            (6, 6, 1, true),
+            (7, 8, 1, false),
+            (9, 9, 1, true),
+            (10, 31, 0, false),
+        ],
+    ),
+    // Between two areas, what is outside both has the second bit.
+    (
+        (
+            DAYS,
+            "a: day in 1..10 => day <= 5, 0..1\noutside => day <= 20, 0..1\nb: day in 8..12 => true, 0..1\n",
+            "count where day = 4 or day >= 18",
+        ),
+        &[
+            (1, 3, 1, false),
+            (4, 4, 1, true),
+            (5, 5, 1, false),
+            (6, 10, 0, false),
+            (11, 12, 4, false),
+            (13, 17, 2, false),
+            (18, 20, 2, true),
+            (21, 31, 0, false),
+        ],
+    ),
+];
+
+fn is_leaf(leaf: &Leaf, wanted: Days) -> bool {
+    let (low, high, mask, chosen) = wanted;
+    let mark = if mask == 0 {
+        LeafMark::Barren
+    } else {
+        LeafMark::Class { mask, chosen }
+    };
+    leaf.mark == mark && leaf.region.sides.as_slice().first() == Some(&Side::Span { low, high })
+}
+
+fn has_leaves(alloc: Global, texts: &Texts, wanted: &[Days]) -> Result<bool, Fail> {
+    let growth = tree_of(alloc, texts)?;
+    for (place, leaf) in growth.leaves.as_slice().iter().enumerate() {
+        match wanted.get(place) {
+            Some(days) if is_leaf(leaf, *days) => {}
+            _ => return Ok(false),
+        }
+    }
+    Ok(growth.leaves.len() == wanted.len())
+}
+
+#[test]
+fn leaves_of_areas_and_of_what_is_outside(rt: HostRuntime) -> Result<(), Fail> {
+    let alloc = rt.alloc();
+    for (place, (texts, leaves)) in LEAVES.iter().enumerate() {
+        assert!(rt; has_leaves(alloc, texts, leaves)?, "tree {place}");
+    }
+    Ok(())
+}
+
 const FIELD: &str = "across,int,1,10\nalong,int,1,10\n";
 
 const ITEMS: &str = "across,int,1,10\nitem,cat,x,y,z\n";
 
 // The first cut of the whole domain.
-static FIRST_CUTS: [(Texts, Cut); 5] = [
+static FIRST_CUTS: [(Texts, Cut); 7] = [
     // The cut that passes through fewer predicates: a cut across at 5 would pass through the second one.
     (
         (
@@ -216,6 +473,24 @@ static FIRST_CUTS: [(Texts, Cut); 5] = [
             "count",
         ),
         Cut::Among { column: 1, bits: 3 },
+    ),
+    // Of the boxes of an area the one that is left open at fewer ends.
+    (
+        (
+            FIELD,
+            "far: across in 3..8 and along in 3..8 or across in 1..7 => true, 0..9\n",
+            "count",
+        ),
+        Cut::At { column: 0, at: 7 },
+    ),
+    // A cut across at 5 would pass through the second box of the second one.
+    (
+        (
+            FIELD,
+            "near: across in 1..5 and along in 1..5 => true, 0..9\nrule: across in 7..8 and along in 9..10 or across in 3..8 and along in 1..4 => true, 0..9\n",
+            "count",
+        ),
+        Cut::At { column: 1, at: 5 },
     ),
 ];
 

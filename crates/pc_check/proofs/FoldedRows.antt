@@ -14,13 +14,13 @@ use Rattle.pc_model.specs.declared.query.Query.{Query}
 use Rattle.pc_model.specs.declared.query.Folded.{Folded}
 use Rattle.pc_model.specs.Aggregate.{asked, kept, is_in_group, int_sum, number_at}
 use Rattle.pc_model.specs.Folds.{IsFold, sum_at, best_at}
-use Rattle.pc_model.specs.Membership.{has, in_domain}
+use Rattle.pc_model.specs.Membership.{in_domain, is_in}
 use Rattle.pc_model.specs.Right.{Question}
 use Rattle.pc_model.specs.WellFormed.{IsWellFormed}
-use Rattle.pc_proof.specs.Setting.{region_of}
+use Rattle.pc_proof.specs.Setting.{area_of}
 use Rattle.pc_proof.specs.Observed.{ComesTo}
 use Rattle.pc_proof.specs.Unbroken.{IsWellPosed}
-use Rattle.pc_proof.proofs.Groups.{keeps_region}
+use Rattle.pc_proof.proofs.Groups.{keeps_area}
 use Rattle.pc_proof.proofs.Observing.{comes}
 use Rattle.pc_proof.proofs.RowNumbers.{asked_small}
 use Rattle.pc_proof.proofs.Seen.{keeps}
@@ -30,8 +30,8 @@ use Rattle.pc_check.specs.Verdicts.{asked_of}
 -- the query without a group keeps the rows that the query keeps for its name
 same_rows : (q : Question) (rows : List Row) → IsWellPosed q → kept (asked_of q) None rows ≡ kept q.query q.name rows
 same_rows q rows posed =
-    filter_agree (λ row. has (region_of q) row && is_in_group None None row) (keeps q)
-    (λ row. and-true (has (region_of q) row) ∙ sym (keeps_region q posed row)) rows
+    filter_agree (λ row. is_in (area_of q) row && is_in_group None None row) (keeps q)
+    (λ row. and-true (is_in (area_of q) row) ∙ sym (keeps_area q posed row)) rows
 
 same_fold : (q : Question) (rows : List Row) (lost : Folded) → IsWellPosed q → IsFold (asked_of q) None rows lost → IsFold q.query q.name rows lost
 same_fold q rows lost posed fold =
@@ -50,7 +50,7 @@ lost_come q rows lost posed fold = comes (question_over q rows) lost (same_fold 
 
 pub fold_few : (query : Query) (name : Option ℕ) (rows : List Row) (folded : Folded) → IsFold query name rows folded → folded.count ≤ length rows
 fold_few query name rows folded fold =
-    let keep = λ (row : Row). has query.chosen row && is_in_group query.group name row in
+    let keep = λ (row : Row). is_in query.chosen row && is_in_group query.group name row in
     omega (arith, fold.count, length-filter keep rows, count_by-le-length keep rows)
 
 sum_within : (f : Row → ℤ) (rows : List Row) → All (λ row. nat_abs (f row) ≤ 10 ^ 15) rows → nat_abs (int_sum (map f rows)) ≤ length rows * 10 ^ 15
@@ -75,7 +75,7 @@ fold_small schema query rows folded formed allowed fold few = by_column query.co
         let list = kept query None rows in
         let sum : folded.sum ≡ int_sum (map (λ (row : Row). number_at row column) list) = fold.sum ∙ ap (λ c. sum_at c list) is in
         let each : All (λ (row : Row). nat_abs (asked query row) ≤ 10 ^ 15) list =
-        All-filter (λ row. has query.chosen row && is_in_group query.group None row) (λ row. nat_abs (asked query row) ≤ 10 ^ 15) rows
+        All-filter (λ row. is_in query.chosen row && is_in_group query.group None row) (λ row. nat_abs (asked query row) ≤ 10 ^ 15) rows
         (λ place d inside. asked_small schema query (get_or rows place d) formed (allowed place d inside)) in
         let within : nat_abs (int_sum (map (λ (row : Row). number_at row column) list)) ≤ length list * 10 ^ 15 =
         sum_within (λ (row : Row). number_at row column) list

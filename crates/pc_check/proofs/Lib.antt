@@ -1,4 +1,3 @@
-pub mod Allowing
 pub mod BlockParts
 pub mod DocumentSteps
 pub mod FoldedRows

@@ -4,7 +4,7 @@ use Rattle.std.specs.Prelude.{unwrap_or, IsSomeAnd}
 use Rattle.std.specs.List.{AllPass}
 use Rattle.pc_model.specs.declared.schema.Schema.{Schema}
 use Rattle.pc_model.specs.declared.row.Row.{Row}
-use Rattle.pc_model.specs.declared.region.Region.{Region}
+use Rattle.pc_model.specs.declared.area.Area.{Area}
 use Rattle.pc_model.specs.declared.constraint.Constraint.{Constraint}
 use Rattle.pc_model.specs.declared.tree.CutNode.{CutNode}
 use Rattle.pc_model.specs.declared.tree.Leaf.{Leaf}
@@ -20,7 +20,7 @@ use Rattle.pc_model.specs.WellFormed.{IsWellFormed}
 use Rattle.pc_proof.specs.declared.document.Block.{Block}
 use Rattle.pc_proof.specs.Documents.{Premises, setting_of}
 use Rattle.pc_proof.specs.Form.{IsFormedBlock}
-use Rattle.pc_check.specs.Blocks.{region_for}
+use Rattle.pc_check.specs.Blocks.{area_for}
 use Rattle.pc_proof.specs.Unbroken.{AllowsName}
 use Rattle.pc_proof.proofs.Observing.{comes}
 use Rattle.pc_proof.proofs.SeenSums.{seen_small}
@@ -60,25 +60,25 @@ measure_there schema Max column measured = is_there ℕ (IsColumnWhere IsNumeric
 measure_there schema Avg column measured = is_there ℕ (IsColumnWhere IsNumeric schema) column measured
 
 module _ (case : Premises) (block : Block) where
-  -- the cells and the fold that the code has, and the query over the region that it keeps
-  pub record IsMadeOf (region : Region) (leaves : List Leaf) (matter : Matter) : Type 0 where
+  -- the cells and the fold that the code has, and the query over the area that it keeps
+  pub record IsMadeOf (area : Area) (leaves : List Leaf) (matter : Matter) : Type 0 where
     pub schema_is : matter.schema.now ≡ case.schema
-    pub asked_is : matter.asked.now ≡ record { agg = block.query.agg; column = block.query.column; chosen = region; group = None }
-    pub region_is : region ≡ region_for block
+    pub asked_is : matter.asked.now ≡ record { agg = block.query.agg; column = block.query.column; chosen = area; group = None }
+    pub area_is : area ≡ area_for block
     pub constraints_are : matter.scene.constraints.now ≡ case.constraints
     pub cells_are : matter.scene.cells.now ≡ cells_from (unwrap_or block.query.column 0) leaves
     pub agg_is : matter.scene.agg ≡ block.query.agg
     pub folded : IsFold block.query block.name case.observed matter.scene.seen
 
-  abbrev asked_over : Region → Query
-  asked_over region = record { agg = block.query.agg; column = block.query.column; chosen = region; group = None }
+  abbrev asked_over : Area → Query
+  asked_over area = record { agg = block.query.agg; column = block.query.column; chosen = area; group = None }
 
-  pub matter_of : (region : Region) (leaves : List Leaf) (matter : Matter) (nodes : List CutNode) → IsWellFormed case.schema → IsFormedBlock case.schema block
-      → AllowsName block.query.chosen block.query.group block.name → IsMadeOf region leaves matter → leaves ≡ leaves_in case.schema nodes
+  pub matter_of : (area : Area) (leaves : List Leaf) (matter : Matter) (nodes : List CutNode) → IsWellFormed case.schema → IsFormedBlock case.schema block
+      → AllowsName block.query.chosen block.query.group block.name → IsMadeOf area leaves matter → leaves ≡ leaves_in case.schema nodes
       → IsMatterOf matter (setting_of case block nodes)
-  matter_of region leaves matter nodes formed block_formed allowed made same = record {
+  matter_of area leaves matter nodes formed block_formed allowed made same = record {
     schema_is = sym made.schema_is;
-    asked_is = ap asked_over (sym made.region_is) ∙ sym made.asked_is;
+    asked_is = ap asked_over (sym made.area_is) ∙ sym made.asked_is;
     scene = record {
       constraints_are = sym made.constraints_are;
       cells_are = made.cells_are ∙ ap (cells_from (unwrap_or block.query.column 0)) same;

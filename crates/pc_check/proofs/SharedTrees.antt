@@ -4,6 +4,7 @@ use Rattle.std.proofs.lemmas.List.{map-append}
 use Rattle.std.proofs.lemmas.List.Elements.{All-nil, All-cons, All-head, All-tail}
 use Rattle.pc_model.specs.declared.schema.Schema.{Schema}
 use Rattle.pc_model.specs.declared.region.Region.{Region}
+use Rattle.pc_model.specs.declared.area.Area.{Area}
 use Rattle.pc_model.specs.declared.tree.CutNode.{CutNode}
 use Rattle.pc_model.specs.declared.tree.Leaf.{Leaf}
 use Rattle.pc_model.specs.Cells.{leaves_in}
@@ -40,7 +41,7 @@ moved_whole s line [] all = All-nil (Holds s)
 moved_whole s line (d ∷ ds) all =
     All-cons (Holds s) (at_line line d) (map (at_line line) ds) (All-head (Holds s) d ds all) (moved_whole s line ds (All-tail (Holds s) d ds all))
 
-module _ (premises : Premises) (region : Region) (list : List CutNode) (line : ℕ) where
+module _ (premises : Premises) (area : Area) (list : List CutNode) (line : ℕ) where
   abbrev of_tree : List Placed
   of_tree = cut_demands 0 (whole_region premises.schema.now) (shape_of list)
 
@@ -48,23 +49,23 @@ module _ (premises : Premises) (region : Region) (list : List CutNode) (line : �
   abbrev shared : Schema → List CutNode → List Placed
   shared of_schema nodes = map (at_line line) (cut_demands (line + 1) (whole_region of_schema) (shape_of nodes))
 
-  as_shared : (P : List Placed → Type 0) (s : Setting) → IsSettingOf premises region list s → P (map (at_line line) of_tree) → P (shared s.question.schema s.nodes)
+  as_shared : (P : List Placed → Type 0) (s : Setting) → IsSettingOf premises area list s → P (map (at_line line) of_tree) → P (shared s.question.schema s.nodes)
   as_shared P s given found =
       subst (λ (x : Schema). P (shared x s.nodes)) (sym given.schema_is)
       (subst (λ (nodes : List CutNode). P (shared premises.schema.now nodes)) (sym given.nodes_are)
       (subst P (lines_alike line 0 (line + 1) (whole_region premises.schema.now) (shape_of list)) found))
 
-  pub own_found : (result : Result (List Leaf) Halt) → IsCutFinding (line + 1) premises.schema.now premises.constraints.now region list result → IsTreeFinding own line premises region list result
+  pub own_found : (result : Result (List Leaf) Halt) → IsCutFinding (line + 1) premises.schema.now premises.constraints.now area list result → IsTreeFinding own line premises area list result
   own_found result found s given =
       let are_leaves = λ (leaves : List Leaf). leaves ≡ leaves_in premises.schema.now list in
       subst (λ (x : Schema). Finds s (cut_demands (line + 1) (whole_region x) (shape_of s.nodes)) are_leaves result) (sym given.schema_is)
       (subst (λ (nodes : List CutNode). Finds s (cut_demands (line + 1) (whole_region premises.schema.now) (shape_of nodes)) are_leaves result) (sym given.nodes_are) (found s given.asked))
 
-  pub same_halted : (halt : Halt) → IsCutFinding 0 premises.schema.now premises.constraints.now region list (Err halt) → IsTreeFinding same line premises region list (Err (moved_to line halt))
+  pub same_halted : (halt : Halt) → IsCutFinding 0 premises.schema.now premises.constraints.now area list (Err halt) → IsTreeFinding same line premises area list (Err (moved_to line halt))
   same_halted (halts.Broken at rule) found s given = as_shared (IsFirstBroken s line rule) s given (moved_broken s line at rule of_tree (found s given.asked))
   same_halted halts.Memory found s given = tt
 
-  pub same_settled : (leaves : List Leaf) → IsCutFinding 0 premises.schema.now premises.constraints.now region list (Ok leaves) → IsTreeFinding same line premises region list (Ok leaves)
+  pub same_settled : (leaves : List Leaf) → IsCutFinding 0 premises.schema.now premises.constraints.now area list (Ok leaves) → IsTreeFinding same line premises area list (Ok leaves)
   same_settled leaves found s given =
       let settled = found s given.asked in
       (as_shared (All (Holds s)) s given (moved_whole s line of_tree settled.0), settled.1)

@@ -1,6 +1,6 @@
 -- What is found of one block of a document, and of the lines of its tree.
 use Rattle.std.specs.Prelude.{◌≡◌, ℕ, ⊤, List, [], Option, Some, None, Result}
-use Rattle.pc_model.specs.declared.region.Region.{Region}
+use Rattle.pc_model.specs.declared.area.Area.{Area}
 use Rattle.pc_model.specs.declared.tree.CutNode.{CutNode}
 use Rattle.pc_model.specs.declared.tree.Leaf.{Leaf}
 use Rattle.pc_model.specs.Cells.{leaves_in}
@@ -22,9 +22,9 @@ use Rattle.pc_check.specs.Verdicts.{Keeps, answer_demands}
 abbrev pub demands_on : Setting → ℕ → Block → List Placed
 demands_on s line block = block_demands (lines_of block.tree) s line block.answer
 
--- the part of the block's region that its name keeps
-abbrev pub region_for : Block → Region
-region_for block = narrowed block.query.chosen block.query.group block.name
+-- the part of the block's area that its name keeps
+abbrev pub area_for : Block → Area
+area_for block = narrowed block.query.chosen block.query.group block.name
 
 -- a tree of its own has these nodes
 abbrev pub HasNodes : BlockTree → List CutNode → Type 0
@@ -43,16 +43,16 @@ KeepsOver case line block leaves result =
 
 -- ---- the lines of its tree
 
--- a setting of this schema and tree, whose question has these constraints and this region
-pub record IsSettingOf (premises : Premises) (region : Region) (list : List CutNode) (s : Setting) : Type 0 where
+-- a setting of this schema and tree, whose question has these constraints and this area
+pub record IsSettingOf (premises : Premises) (area : Area) (list : List CutNode) (s : Setting) : Type 0 where
   pub schema_is : s.question.schema ≡ premises.schema.now
-  pub asked : IsAsked premises.constraints.now region s
+  pub asked : IsAsked premises.constraints.now area s
   pub nodes_are : s.nodes ≡ list
 
 -- what is found of the lines of the tree, the first of which says whose tree it is, and the leaves
-abbrev pub IsTreeFinding : TreeLines → ℕ → Premises → Region → List CutNode → Result (List Leaf) Halt → Type 0
-IsTreeFinding kind line premises region list result =
-    (s : Setting) → IsSettingOf premises region list s → Finds s (cells_demands kind s line) (λ leaves. leaves ≡ leaves_in premises.schema.now list) result
+abbrev pub IsTreeFinding : TreeLines → ℕ → Premises → Area → List CutNode → Result (List Leaf) Halt → Type 0
+IsTreeFinding kind line premises area list result =
+    (s : Setting) → IsSettingOf premises area list s → Finds s (cells_demands kind s line) (λ leaves. leaves ≡ leaves_in premises.schema.now list) result
 
 -- what is broken in any line, as broken in this one
 abbrev pub moved_to : ℕ → Halt → Halt

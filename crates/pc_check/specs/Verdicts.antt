@@ -8,7 +8,7 @@ use Rattle.pc_model.specs.Runs.{rows_of}
 use Rattle.pc_model.specs.Right.{Question}
 use Rattle.pc_proof.specs.declared.answer.Answer.{Answer}
 use Rattle.pc_proof.specs.declared.document.Block.{Block}
-use Rattle.pc_proof.specs.Setting.{Setting, region_of}
+use Rattle.pc_proof.specs.Setting.{Setting, area_of}
 use Rattle.pc_proof.specs.Unbroken.{AllowsName, IsWellPosed}
 use Rattle.pc_proof.specs.Demands.{Demand, Placed, possible_runs, relation_demands, relation_lines, lack_demands, lack_lines, ends_demands, ends_lines}
 use Rattle.pc_proof.specs.Documents.{Premises, AreUnbroken, IsFirstBrokenIn}
@@ -48,9 +48,9 @@ Keeps s demands result = Finds s demands (λ kept. Unit {0}) result
 
 -- ---- a block
 
--- the question without a group, over the part of its region that its name keeps
+-- the question without a group, over the part of its area that its name keeps
 abbrev pub asked_of : Question → Query
-asked_of q = record { agg = q.query.agg; column = q.query.column; chosen = region_of q; group = None }
+asked_of q = record { agg = q.query.agg; column = q.query.column; chosen = area_of q; group = None }
 
 -- a setting of this schema, query and scene, whose question is one that is asked
 pub record IsMatterOf (matter : Matter) (s : Setting) : Type 0 where

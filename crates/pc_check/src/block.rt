@@ -4,7 +4,7 @@ ghost use Rattle.pc_proof.specs.Counts.{block_count};
 ghost use Rattle.pc_proof.specs.Form.{IsFormedBlock};
 ghost use Rattle.pc_proof.specs.Unbroken.{AllowsName};
 ghost use Rattle.pc_check.specs.Premises.{ArePremises, case_of};
-ghost use Rattle.pc_check.specs.Blocks.{FindsIn, HasNodes, KeepsOver, region_for};
+ghost use Rattle.pc_check.specs.Blocks.{FindsIn, HasNodes, KeepsOver, area_for};
 ghost use Rattle.pc_check.specs.Verdicts.{answer_count};
 
 use crate::answers::judge_answer;
@@ -14,8 +14,8 @@ use crate::matter::Matter;
 use crate::observed::seen_in;
 use crate::premises::Premises;
 use pc_check_rules::{Halt, NAMES_AND_TREES, Scene, cells_of};
-use pc_model::{CutNode, Leaf, Query, Region};
-use pc_proof::{Block, narrowed};
+use pc_model::{Area, CutNode, Leaf, Query};
+use pc_proof::{Block, narrowed, some_allows};
 use std::alloc::Global;
 
 /// Tries a block. `nodes` are those of the tree that it names, and `line` is the number of the line of its query.
@@ -42,8 +42,8 @@ pub(crate) fn judge_block(
     judge_allowed(alloc, premises, block, nodes, line)
 }
 
-/// Whether a region allows a name of its group column.
-pub(crate) fn allows_name(chosen: &Region, group: Option<u8>, name: Option<u32>) -> bool
+/// Whether some box of an area allows a name of its group column; where there is none, every area does.
+pub(crate) fn allows_name(chosen: &Area, group: Option<u8>, name: Option<u32>) -> bool
     ensures { IsTrue result ↔ AllowsName chosen.now group name }
 {
     let Some(column) = group else {
@@ -52,10 +52,7 @@ pub(crate) fn allows_name(chosen: &Region, group: Option<u8>, name: Option<u32>)
     let Some(place) = name else {
         return true;
     };
-    let Some(side) = chosen.sides.as_slice().get(column as usize) else {
-        return false;
-    };
-    side.holds(i64::from(place))
+    some_allows(column, place, chosen)
 }
 
 /// Tries a block whose name is allowed.
@@ -74,20 +71,20 @@ fn judge_allowed(
     requires allowed { AllowsName block.now.query.chosen block.now.query.group block.now.name }
     ensures { FindsIn (case_of premises.now) line block.now (Some nodes.now) result }
 {
-    let region = narrowed(alloc, &block.query.chosen, block.query.group, block.name)?;
+    let area = narrowed(alloc, &block.query.chosen, block.query.group, block.name)?;
     let tree_line = line + front_lines(block.name);
-    let leaves = judge_tree(alloc, premises, &region, &block.tree, nodes, tree_line)?;
+    let leaves = judge_tree(alloc, premises, &area, &block.tree, nodes, tree_line)?;
     let line = tree_line + tree_count(&block.tree);
-    judge_cells(alloc, premises, block, region, leaves.as_slice(), line)
+    judge_cells(alloc, premises, block, area, leaves.as_slice(), line)
 }
 
-/// Tries the answer of a block whose tree breaks no rule: `region` is the part that its name keeps, and `line` is the
+/// Tries the answer of a block whose tree breaks no rule: `area` is the part that its name keeps, and `line` is the
 /// number of the line of the relation.
 fn judge_cells(
     alloc: Global,
     premises: &Premises<'_>,
     block: &Block,
-    region: Region,
+    area: Area,
     leaves: &[Leaf],
     line: u64,
 ) -> Result<(), Halt>
@@ -95,7 +92,7 @@ fn judge_cells(
     requires formed { IsFormedBlock premises.now.schema.now block.now }
     requires few_lines { line + answer_count block.now.answer < 2 ^ 64 }
     requires allowed { AllowsName block.now.query.chosen block.now.query.group block.now.name }
-    requires region { region ≡ region_for block.now }
+    requires area { area ≡ area_for block.now }
     ensures { KeepsOver (case_of premises.now) line block.now leaves.now result }
 {
     let query = &block.query;
@@ -104,7 +101,7 @@ fn judge_cells(
     let asked = Query {
         agg: query.agg,
         column: query.column,
-        chosen: region,
+        chosen: area,
         group: None,
     };
     let scene = Scene {

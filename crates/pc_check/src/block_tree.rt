@@ -1,5 +1,5 @@
-ghost use Rattle.std.specs.Prelude.{◌≡◌, ◌+◌, ◌<◌, ◌^◌, true, length};
-ghost use Rattle.pc_model.specs.Regions.{is_region_of};
+ghost use Rattle.std.specs.Prelude.{◌≡◌, ◌+◌, ◌<◌, ◌^◌, length};
+ghost use Rattle.pc_model.specs.Boxes.{IsAreaOf};
 ghost use Rattle.pc_model.specs.CutTrees.{IsInPreorder};
 ghost use Rattle.pc_proof.specs.Counts.{tree_count};
 ghost use Rattle.pc_proof.specs.Demands.{own, same};
@@ -10,7 +10,7 @@ ghost use Rattle.pc_check.specs.Blocks.{HasNodes, IsTreeFinding, moved_to};
 use crate::premises::Premises;
 use pc_check_rules::{Halt, judge_cuts};
 use pc_list::Seq;
-use pc_model::{CutNode, Leaf, Region};
+use pc_model::{Area, CutNode, Leaf};
 use pc_proof::BlockTree;
 use std::alloc::Global;
 
@@ -19,55 +19,55 @@ use std::alloc::Global;
 pub(crate) fn judge_tree(
     alloc: Global,
     premises: &Premises<'_>,
-    region: &Region,
+    area: &Area,
     tree: &BlockTree,
     nodes: &[CutNode],
     line: u64,
 ) -> Result<Seq<Leaf>, Halt>
     requires premises { ArePremises premises.now }
-    requires region { is_region_of premises.now.schema.now region.now ≡ true }
+    requires area { IsAreaOf premises.now.schema.now area.now }
     requires preorder { IsInPreorder nodes.now }
     requires nodes_are { HasNodes tree.now nodes.now }
     requires few_lines { line + tree_count tree.now < 2 ^ 64 }
-    ensures { IsTreeFinding (lines_of tree.now) line premises.now region.now nodes.now result }
+    ensures { IsTreeFinding (lines_of tree.now) line premises.now area.now nodes.now result }
 {
     match tree {
-        BlockTree::Own(_) => judge_own(alloc, premises, region, nodes, line),
-        BlockTree::Same => judge_same(alloc, premises, region, nodes, line),
+        BlockTree::Own(_) => judge_own(alloc, premises, area, nodes, line),
+        BlockTree::Same => judge_same(alloc, premises, area, nodes, line),
     }
 }
 
 fn judge_own(
     alloc: Global,
     premises: &Premises<'_>,
-    region: &Region,
+    area: &Area,
     nodes: &[CutNode],
     line: u64,
 ) -> Result<Seq<Leaf>, Halt>
     requires premises { ArePremises premises.now }
-    requires region { is_region_of premises.now.schema.now region.now ≡ true }
+    requires area { IsAreaOf premises.now.schema.now area.now }
     requires preorder { IsInPreorder nodes.now }
     requires few_lines { line + (1 + length nodes.now) < 2 ^ 64 }
-    ensures { IsTreeFinding own line premises.now region.now nodes.now result }
+    ensures { IsTreeFinding own line premises.now area.now nodes.now result }
 {
     let (schema, constraints) = (premises.schema, premises.constraints);
-    judge_cuts(alloc, schema, constraints, region, nodes, line + 1)
+    judge_cuts(alloc, schema, constraints, area, nodes, line + 1)
 }
 
 fn judge_same(
     alloc: Global,
     premises: &Premises<'_>,
-    region: &Region,
+    area: &Area,
     nodes: &[CutNode],
     line: u64,
 ) -> Result<Seq<Leaf>, Halt>
     requires premises { ArePremises premises.now }
-    requires region { is_region_of premises.now.schema.now region.now ≡ true }
+    requires area { IsAreaOf premises.now.schema.now area.now }
     requires preorder { IsInPreorder nodes.now }
-    ensures { IsTreeFinding same line premises.now region.now nodes.now result }
+    ensures { IsTreeFinding same line premises.now area.now nodes.now result }
 {
     let (schema, constraints) = (premises.schema, premises.constraints);
-    match judge_cuts(alloc, schema, constraints, region, nodes, 0) {
+    match judge_cuts(alloc, schema, constraints, area, nodes, 0) {
         Ok(leaves) => Ok(leaves),
         Err(halt) => Err(moved_to(line, halt)),
     }

@@ -1,7 +1,7 @@
 use pc_check_rules::Scene;
 use pc_model::{Query, Schema};
 
-/// What the statements of a block are about: its query without a group, over the part of its region that the block's
+/// What the statements of a block are about: its query without a group, over the part of its area that the block's
 /// name keeps, and what the numbers of its proofs are made of.
 #[derive(Clone, Copy, Debug)]
 pub(crate) struct Matter<'a> {

@@ -1,18 +1,19 @@
 -- A walk from line to line of a tree of cuts: where it starts, what a line does to it, and what it has found at its end.
-use Rattle.std.proofs.Common.{◌≡◌, ℕ, ◌+◌, ◌<◌, ◌≤◌, true, List, [], ◌∷◌, ◌++◌, length, drop, get_or, All, None, Ok, Err, refl, ap, ◌∙◌, sym, subst, arith, append-nil, length-drop}
+use Rattle.std.proofs.Common.{◌≡◌, ℕ, ◌+◌, ◌<◌, ◌≤◌, List, [], ◌∷◌, ◌++◌, length, drop, get_or, All, None, Ok, Err, refl, ap, ◌∙◌, sym, subst, arith, append-nil, length-drop}
 use Rattle.std.specs.Prelude.{reverse}
 use Rattle.std.proofs.lemmas.List.{drop_more, drop_all}
 use Rattle.std.proofs.lemmas.List.Elements.{All-nil, All-cons, All-head}
 use Rattle.pc_model.specs.declared.schema.Schema.{Schema}
 use Rattle.pc_model.specs.declared.region.Region.{Region}
+use Rattle.pc_model.specs.declared.area.Area.{Area}
 use Rattle.pc_model.specs.declared.constraint.Constraint.{Constraint}
 use Rattle.pc_model.specs.declared.tree.Cut.{Cut}
 use Rattle.pc_model.specs.declared.tree.LeafMark.{LeafMark}
 use Rattle.pc_model.specs.declared.tree.Leaf.{Leaf}
 use Rattle.pc_model.specs.declared.tree.CutNode.{CutNode}
 use Rattle.pc_model.specs.declared.tree.CutNode.TheVariants as nodes
-use Rattle.pc_model.specs.Boxes.{IsServable}
-use Rattle.pc_model.specs.Regions.{is_region_of, whole_region}
+use Rattle.pc_model.specs.Boxes.{IsAreaOf, IsServable}
+use Rattle.pc_model.specs.Regions.{whole_region}
 use Rattle.pc_model.specs.WellFormed.{IsWellFormed}
 use Rattle.pc_model.specs.CutTrees.{CutShape, leaf, inner, size_of, nodes_from, shape_of, leaves_of, first_part, second_part, IsInPreorder}
 use Rattle.pc_model.specs.Cells.{leaves_in}
@@ -41,10 +42,10 @@ no_trees k (leaf mark ∷ ts) none = let e : [] ≡ nodes.Leaf mark ∷ nodes_le
 no_trees k (inner cut t u ∷ ts) none =
     let e : [] ≡ nodes.Inner cut (k + 1) (k + 1 + size_of t) ∷ ((nodes_from (k + 1) t ++ nodes_from (k + 1 + size_of t) u) ++ nodes_left (k + size_of (inner cut t u)) ts) = none in absurd cc
 
-module _ (schema : Schema) (constraints : List Constraint) (region : Region) (list : List CutNode) (line : ℕ) where
+module _ (schema : Schema) (constraints : List Constraint) (area : Area) (list : List CutNode) (line : ℕ) where
   -- what the walk has before it, its boxes and what it found
   abbrev pub Stands : List CutNode → ℕ → ℕ → List Region → List Leaf → Type 0
-  Stands left place at parts so_far = IsCutWalk constraints region (cut_lines line schema list) (leaves_in schema list) left place at parts so_far
+  Stands left place at parts so_far = IsCutWalk constraints area (cut_lines line schema list) (leaves_in schema list) left place at parts so_far
 
   -- at a place, with the open boxes as the walk has them, the last one next
   abbrev pub IsAt : ℕ → List Region → List Leaf → Type 0
@@ -54,8 +55,8 @@ module _ (schema : Schema) (constraints : List Constraint) (region : Region) (li
   abbrev pub IsBefore : ℕ → CutNode → Region → CutWalk → Type 0
   IsBefore place node part walk = Stands (node ∷ drop (place + 1) list) place (line + place) (part ∷ reverse walk.parts.items) walk.leaves
 
-  from_whole : IsWellFormed schema → All (IsServable schema) constraints → is_region_of schema region ≡ true → IsInPreorder list → IsAt 0 (whole_region schema ∷ []) []
-  from_whole formed servable of_schema preorder =
+  from_whole : IsWellFormed schema → All (IsServable schema) constraints → IsAreaOf schema area → IsInPreorder list → IsAt 0 (whole_region schema ∷ []) []
+  from_whole formed servable is_area preorder =
       let t = shape_of list in
       let same : line + 0 ≡ line = omega arith in
       record {
@@ -65,14 +66,14 @@ module _ (schema : Schema) (constraints : List Constraint) (region : Region) (li
         decides = λ s asked verdict judged. subst (λ (ds : List Placed). Judges s ds verdict)
             (append-nil (cut_demands (line + 0) (whole_region schema) t) ∙ ap (λ k. cut_demands k (whole_region schema) t) same) judged;
         gathered = sym (append-nil (leaves_of (whole_region schema) t));
-        boxes = All-cons (IsComparable constraints region) (whole_region schema) [] (whole_comparable schema constraints region formed servable of_schema) (All-nil (IsComparable constraints region));
+        boxes = All-cons (IsComparable constraints area) (whole_region schema) [] (whole_comparable schema constraints area formed servable is_area) (All-nil (IsComparable constraints area));
       }
 
-  pub walking-start : (walk : CutWalk) → IsWellFormed schema → All (IsServable schema) constraints → is_region_of schema region ≡ true → IsInPreorder list
+  pub walking-start : (walk : CutWalk) → IsWellFormed schema → All (IsServable schema) constraints → IsAreaOf schema area → IsInPreorder list
       → walk.parts.items ≡ whole_region schema ∷ [] → walk.leaves ≡ [] → IsAt 0 walk.parts.items walk.leaves
-  walking-start walk formed servable of_schema preorder parts leaves =
+  walking-start walk formed servable is_area preorder parts leaves =
       subst (λ (items : List Region). IsAt 0 items walk.leaves) (sym parts)
-      (subst (IsAt 0 (whole_region schema ∷ [])) (sym leaves) (from_whole formed servable of_schema preorder))
+      (subst (IsAt 0 (whole_region schema ∷ [])) (sym leaves) (from_whole formed servable is_area preorder))
 
   pub walking-here : (place : ℕ) (items : List Region) (walk : CutWalk) (part : Region) (node : CutNode) → place < length list → node ≡ get_or list place node
       → items ≡ walk.parts.items ++ part ∷ [] → IsAt place items walk.leaves → IsBefore place node part walk
@@ -83,8 +84,8 @@ module _ (schema : Schema) (constraints : List Constraint) (region : Region) (li
       (subst (λ (left : List CutNode). Stands left place (line + place) (reverse items) walk.leaves) nodes_are walking)
 
   -- the box that was taken can be compared
-  pub walking-box : (place : ℕ) (walk : CutWalk) (part : Region) (node : CutNode) → IsBefore place node part walk → IsComparable constraints region part
-  walking-box place walk part node walking = All-head (IsComparable constraints region) part (reverse walk.parts.items) walking.boxes
+  pub walking-box : (place : ℕ) (walk : CutWalk) (part : Region) (node : CutNode) → IsBefore place node part walk → IsComparable constraints area part
+  walking-box place walk part node walking = All-head (IsComparable constraints area) part (reverse walk.parts.items) walking.boxes
 
   -- there is a box while nodes are left
   pub walking-open : (place : ℕ) (items : List Region) (so_far : List Leaf) → place < length list → items ≡ [] → IsAt place items so_far → ⊥
@@ -124,27 +125,27 @@ module _ (schema : Schema) (constraints : List Constraint) (region : Region) (li
       (subst (λ (parts : List Region). Stands (drop (place + 1) list) (place + 1) (line + (place + 1)) parts walk.leaves) (sym order)
       (moved place (first ∷ second ∷ reverse items) walk.leaves walking))
 
-  pub walking-on : (place : ℕ) (walk after : CutWalk) (part : Region) (node : CutNode) → IsBefore place node part walk → IsKept constraints region part node → HasMoved part node walk after
+  pub walking-on : (place : ℕ) (walk after : CutWalk) (part : Region) (node : CutNode) → IsBefore place node part walk → IsKept constraints area part node → HasMoved part node walk after
       → IsAt (place + 1) after.parts.items after.leaves
   walking-on place walk after part (nodes.Leaf mark) walking kept passed =
       at_gathered place walk after part mark passed
-      (at_leaf constraints region (cut_lines line schema list) (leaves_in schema list) (drop (place + 1) list) place (line + place) part (reverse walk.parts.items) walk.leaves mark
+      (at_leaf constraints area (cut_lines line schema list) (leaves_in schema list) (drop (place + 1) list) place (line + place) part (reverse walk.parts.items) walk.leaves mark
       walking.trees (walking.long, walking.left_are, walking.decides, walking.gathered) walking.boxes kept)
   walking-on place walk after part (nodes.Inner cut one two) walking kept passed =
       at_parts place walk after part cut passed
-      (at_cut constraints region (cut_lines line schema list) (leaves_in schema list) (drop (place + 1) list) place (line + place) part (reverse walk.parts.items) walk.leaves cut one two
+      (at_cut constraints area (cut_lines line schema list) (leaves_in schema list) (drop (place + 1) list) place (line + place) part (reverse walk.parts.items) walk.leaves cut one two
       walking.trees (walking.long, walking.left_are, walking.decides, walking.gathered) walking.boxes kept)
 
   -- the line breaks its rule, and it is the first one
-  pub walking-broken : (place : ℕ) (walk : CutWalk) (part : Region) (node : CutNode) (at rule : ℕ) → IsBefore place node part walk → (IsKept constraints region part node → ⊥)
-      → at ≡ line + place → rule ≡ rule_of_cut node → IsCutFinding line schema constraints region list (Err (halts.Broken at rule))
+  pub walking-broken : (place : ℕ) (walk : CutWalk) (part : Region) (node : CutNode) (at rule : ℕ) → IsBefore place node part walk → (IsKept constraints area part node → ⊥)
+      → at ≡ line + place → rule ≡ rule_of_cut node → IsCutFinding line schema constraints area list (Err (halts.Broken at rule))
   walking-broken place walk part node at rule walking broken at_is rule_is = λ s asked.
       rw (at_is, rule_is)
-      (broken_line constraints region (cut_lines line schema list) (leaves_in schema list) (drop (place + 1) list) place (line + place) part (reverse walk.parts.items) walk.leaves node
+      (broken_line constraints area (cut_lines line schema list) (leaves_in schema list) (drop (place + 1) list) place (line + place) part (reverse walk.parts.items) walk.leaves node
       walking.trees (walking.long, walking.left_are, walking.decides, walking.gathered) broken s asked)
 
   pub walking-end : (place : ℕ) (items : List Region) (so_far : List Leaf) → length list ≤ place → IsAt place items so_far
-      → IsCutFinding line schema constraints region list (Ok so_far)
+      → IsCutFinding line schema constraints area list (Ok so_far)
   walking-end place items so_far past walking = λ s asked.
       let none : walking.trees ≡ [] = no_trees place walking.trees (sym (drop_all place list past) ∙ walking.left_are) in
       let demands = ap (demands_left (line + place) (reverse items)) none ∙ no_demands (line + place) (reverse items) in

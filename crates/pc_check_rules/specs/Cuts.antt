@@ -2,6 +2,7 @@
 use Rattle.std.specs.Prelude.{◌≡◌, ℕ, List, [], ◌∷◌, ◌++◌, Option, MatchOption, Result}
 use Rattle.pc_model.specs.declared.schema.Schema.{Schema}
 use Rattle.pc_model.specs.declared.region.Region.{Region}
+use Rattle.pc_model.specs.declared.area.Area.{Area}
 use Rattle.pc_model.specs.declared.constraint.Constraint.{Constraint}
 use Rattle.pc_model.specs.declared.tree.Cut.{Cut}
 use Rattle.pc_model.specs.declared.tree.LeafMark.{LeafMark}
@@ -11,7 +12,7 @@ use Rattle.pc_model.specs.declared.tree.CutNode.TheVariants as nodes
 use Rattle.pc_model.specs.Regions.{whole_region}
 use Rattle.pc_model.specs.CutTrees.{shape_of, first_part, second_part, IsProper}
 use Rattle.pc_model.specs.Cells.{IsSettledAs, leaves_in}
-use Rattle.pc_proof.specs.Setting.{Setting, region_of}
+use Rattle.pc_proof.specs.Setting.{Setting, area_of}
 use Rattle.pc_proof.specs.Demands.{Placed, cut_demands}
 use Rattle.pc_check_rules.specs.declared.cuts.CutWalk.{CutWalk}
 use Rattle.pc_check_rules.specs.declared.halt.Halt.{Halt}
@@ -19,18 +20,18 @@ use Rattle.pc_check_rules.specs.Halts.{Finds}
 
 -- ---- the whole tree
 
--- a question with these constraints, whose region is this one
-pub record IsAsked (constraints : List Constraint) (region : Region) (s : Setting) : Type 0 where
+-- a question with these constraints, whose area is this one
+pub record IsAsked (constraints : List Constraint) (area : Area) (s : Setting) : Type 0 where
   pub constraints_are : s.question.constraints ≡ constraints
-  pub region_is : region_of s.question ≡ region
+  pub area_is : area_of s.question ≡ area
 
 abbrev pub cut_lines : ℕ → Schema → List CutNode → List Placed
 cut_lines line schema list = cut_demands line (whole_region schema) (shape_of list)
 
 -- what is found of the lines of the tree, and its leaves
-abbrev pub IsCutFinding : ℕ → Schema → List Constraint → Region → List CutNode → Result (List Leaf) Halt → Type 0
-IsCutFinding line schema constraints region list result =
-    (s : Setting) → IsAsked constraints region s → Finds s (cut_lines line schema list) (λ leaves. leaves ≡ leaves_in schema list) result
+abbrev pub IsCutFinding : ℕ → Schema → List Constraint → Area → List CutNode → Result (List Leaf) Halt → Type 0
+IsCutFinding line schema constraints area list result =
+    (s : Setting) → IsAsked constraints area s → Finds s (cut_lines line schema list) (λ leaves. leaves ≡ leaves_in schema list) result
 
 -- ---- one line
 
@@ -40,9 +41,9 @@ rule_of_cut (nodes.Inner cut first second) = 3
 rule_of_cut (nodes.Leaf mark) = 4
 
 -- what a line asks over the box of its node
-abbrev pub IsKept : List Constraint → Region → Region → CutNode → Type 0
-IsKept constraints region part (nodes.Inner cut first second) = IsProper part cut
-IsKept constraints region part (nodes.Leaf mark) = IsSettledAs constraints region part mark
+abbrev pub IsKept : List Constraint → Area → Region → CutNode → Type 0
+IsKept constraints area part (nodes.Inner cut first second) = IsProper part cut
+IsKept constraints area part (nodes.Leaf mark) = IsSettledAs constraints area part mark
 
 -- past a leaf
 pub record IsGathered (part : Region) (mark : LeafMark) (before after : CutWalk) : Type 0 where
@@ -60,6 +61,6 @@ HasMoved part (nodes.Inner cut first second) before after = IsCutInTwo part cut 
 HasMoved part (nodes.Leaf mark) before after = IsGathered part mark before after
 
 -- past a line that keeps its rule, or at one that breaks it
-abbrev pub IsCutStep : List Constraint → Region → Region → CutNode → CutWalk → Option CutWalk → Type 0
-IsCutStep constraints region part node before after =
-    MatchOption after (IsKept constraints region part node → ⊥) (λ (w : CutWalk). IsKept constraints region part node × HasMoved part node before w)
+abbrev pub IsCutStep : List Constraint → Area → Region → CutNode → CutWalk → Option CutWalk → Type 0
+IsCutStep constraints area part node before after =
+    MatchOption after (IsKept constraints area part node → ⊥) (λ (w : CutWalk). IsKept constraints area part node × HasMoved part node before w)

@@ -1,7 +1,7 @@
-ghost use Rattle.std.specs.Prelude.{◌≡◌, ◌+◌, ◌<◌, ◌≤◌, ◌^◌, true, length, All, IfOk, [], ◌∷◌, ◌↔◌, IsTrue};
+ghost use Rattle.std.specs.Prelude.{◌≡◌, ◌+◌, ◌<◌, ◌≤◌, ◌^◌, length, All, IfOk, [], ◌∷◌, ◌↔◌, IsTrue};
 ghost use Rattle.pc_model.specs.Accepted.{constraint_limit};
-ghost use Rattle.pc_model.specs.Boxes.{IsServable};
-ghost use Rattle.pc_model.specs.Regions.{is_region_of, whole_region};
+ghost use Rattle.pc_model.specs.Boxes.{IsAreaOf, IsServable};
+ghost use Rattle.pc_model.specs.Regions.{whole_region};
 ghost use Rattle.pc_model.specs.WellFormed.{IsWellFormed};
 ghost use Rattle.pc_model.specs.CutTrees.{IsInPreorder, IsProper};
 ghost use Rattle.pc_box.specs.Boxes.{IsBox};
@@ -14,7 +14,7 @@ use crate::rules::{CUTS, LEAVES};
 use crate::settled::is_settled;
 use pc_box::{cut, divides};
 use pc_list::Seq;
-use pc_model::{Constraint, Cut, CutNode, Leaf, LeafMark, Region, Schema};
+use pc_model::{Area, Constraint, Cut, CutNode, Leaf, LeafMark, Region, Schema};
 use pc_num::Memory;
 use std::alloc::Global;
 
@@ -31,24 +31,24 @@ pub fn judge_cuts(
     alloc: Global,
     schema: &Schema,
     constraints: &[Constraint],
-    region: &Region,
+    area: &Area,
     nodes: &[CutNode],
     line: u64,
 ) -> Result<Seq<Leaf>, Halt>
     requires well_formed { IsWellFormed schema.now }
     requires few { length constraints.now ≤ constraint_limit }
     requires servable { All (IsServable schema.now) constraints.now }
-    requires region { is_region_of schema.now region.now ≡ true }
+    requires area { IsAreaOf schema.now area.now }
     requires preorder { IsInPreorder nodes.now }
     requires few_lines { line + length nodes.now < 2 ^ 64 }
-    ensures { IsCutFinding line schema.now constraints.now region.now nodes.now result }
+    ensures { IsCutFinding line schema.now constraints.now area.now nodes.now result }
 {
     let mut walk = at_whole(alloc, schema)?;
     for (place, node) in nodes.iter().enumerate() {
         let Some(part) = walk.parts.pop() else {
             unreachable!();
         };
-        let Some(further) = step(alloc, constraints, region, walk, part, node)? else {
+        let Some(further) = step(alloc, constraints, area, walk, part, node)? else {
             return Err(Halt::Broken {
                 line: line + place as u64,
                 rule: rule_of(node),
@@ -77,14 +77,14 @@ fn at_whole(alloc: Global, schema: &Schema) -> Result<CutWalk, Memory>
 fn step(
     alloc: Global,
     constraints: &[Constraint],
-    region: &Region,
+    area: &Area,
     walk: CutWalk,
     part: Region,
     node: &CutNode,
 ) -> Result<Option<CutWalk>, Memory>
     requires few { length constraints.now ≤ constraint_limit }
-    requires comparable { IsComparable constraints.now region.now part }
-    ensures { IfOk result (IsCutStep constraints.now region.now part node.now walk) }
+    requires comparable { IsComparable constraints.now area.now part }
+    ensures { IfOk result (IsCutStep constraints.now area.now part node.now walk) }
 {
     match node {
         CutNode::Inner { cut, .. } => {
@@ -95,7 +95,7 @@ fn step(
             Ok(Some(walk))
         }
         CutNode::Leaf { mark } => {
-            if !is_settled(constraints, region, &part, *mark) {
+            if !is_settled(constraints, area, &part, *mark) {
                 return Ok(None);
             }
             let walk = with_leaf(walk, part, *mark)?;

@@ -1,6 +1,6 @@
 //! The numbers of the rules that lines are tried by. Rule 1, that the bytes are a document, is tried by its reader.
 
-/// The query's region allows the name of a group, and the first block has a tree of its own.
+/// The query's area allows the name of a group, and the first block has a tree of its own.
 pub const NAMES_AND_TREES: u8 = 2;
 /// A cut leaves something in both parts of its node's box.
 pub const CUTS: u8 = 3;

@@ -2,27 +2,27 @@ ghost use Rattle.std.specs.Prelude.{◌↔◌, IsTrue, ℕ, ◌<◌, ◌≤◌, 
 ghost use Rattle.pc_model.specs.declared.constraint.Constraint.{Constraint};
 ghost use Rattle.pc_model.specs.Accepted.{constraint_limit};
 ghost use Rattle.pc_model.specs.Cells.{IsSettledAs, IsSettledAt, IsSettledSide, IsSettledClass, IsUnder, IsRuledOut, IsBarren, SpeaksOfNone};
-ghost use Rattle.pc_box.specs.Boxes.{AreAlike};
-ghost use Rattle.pc_check_rules.specs.CutLines.{IsAlikeTo, IsComparable};
+ghost use Rattle.pc_box.specs.Boxes.{IsAlikeTo, IsAlikeToArea};
+ghost use Rattle.pc_check_rules.specs.CutLines.{IsComparable};
 
-use pc_box::{apart, inside};
-use pc_model::{Constraint, LeafMark, Region, has_bit};
+use pc_box::{apart, apart_from_area, inside, inside_area, speaks_of_all, speaks_of_none};
+use pc_model::{Area, Constraint, LeafMark, Region, has_bit};
 
 /// Whether a mark says of a box what holds of its rows.
 pub(crate) fn is_settled(
     constraints: &[Constraint],
-    region: &Region,
+    area: &Area,
     part: &Region,
     mark: LeafMark,
 ) -> bool
     requires few { length constraints.now ≤ constraint_limit }
-    requires comparable { IsComparable constraints.now region.now part.now }
-    ensures { IsTrue result ↔ IsSettledAs constraints.now region.now part.now mark }
+    requires comparable { IsComparable constraints.now area.now part.now }
+    ensures { IsTrue result ↔ IsSettledAs constraints.now area.now part.now mark }
 {
     match mark {
         LeafMark::Barren => is_barren(constraints, part),
         LeafMark::Class { mask, chosen } => {
-            is_settled_class(constraints, region, part, mask, chosen)
+            is_settled_class(constraints, area, part, mask, chosen)
         }
     }
 }
@@ -40,10 +40,10 @@ fn is_barren(constraints: &[Constraint], part: &Region) -> bool
 
 fn is_ruled_out_by_any(constraints: &[Constraint], part: &Region) -> bool
     requires { All (IsAlikeTo part.now) constraints.now }
-    ensures { IsTrue result ↔ Any (IsRuledOut part.now) constraints.now }
+    ensures { IsTrue result ↔ Any (IsRuledOut constraints.now part.now) constraints.now }
 {
     for constraint in constraints {
-        if is_ruled_out(constraint, part) {
+        if is_ruled_out(constraints, constraint, part) {
             return true;
         }
     }
@@ -51,19 +51,20 @@ fn is_ruled_out_by_any(constraints: &[Constraint], part: &Region) -> bool
 }
 
 /// Whether the constraint speaks of all rows of the box, and none of them is in its values.
-fn is_ruled_out(constraint: &Constraint, part: &Region) -> bool
-    requires { IsAlikeTo part.now constraint.now }
-    ensures { IsTrue result ↔ IsRuledOut part.now constraint.now }
+fn is_ruled_out(constraints: &[Constraint], constraint: &Constraint, part: &Region) -> bool
+    requires own { IsAlikeTo part.now constraint.now }
+    requires each { All (IsAlikeTo part.now) constraints.now }
+    ensures { IsTrue result ↔ IsRuledOut constraints.now part.now constraint.now }
 {
-    inside(part, &constraint.when) && apart(part, &constraint.values)
+    speaks_of_all(constraints, constraint, part) && apart(part, &constraint.values)
 }
 
 fn is_spoken_of_by_none(constraints: &[Constraint], part: &Region) -> bool
     requires { All (IsAlikeTo part.now) constraints.now }
-    ensures { IsTrue result ↔ All (SpeaksOfNone part.now) constraints.now }
+    ensures { IsTrue result ↔ All (SpeaksOfNone constraints.now part.now) constraints.now }
 {
     for constraint in constraints {
-        if !apart(part, &constraint.when) {
+        if !speaks_of_none(constraints, constraint, part) {
             return false;
         }
     }
@@ -73,14 +74,14 @@ fn is_spoken_of_by_none(constraints: &[Constraint], part: &Region) -> bool
 /// Whether the rows of the box are those of a class.
 fn is_settled_class(
     constraints: &[Constraint],
-    region: &Region,
+    area: &Area,
     part: &Region,
     mask: u32,
     chosen: bool,
 ) -> bool
     requires few { length constraints.now ≤ constraint_limit }
-    requires comparable { IsComparable constraints.now region.now part.now }
-    ensures { IsTrue result ↔ IsSettledClass constraints.now region.now part.now mask chosen }
+    requires comparable { IsComparable constraints.now area.now part.now }
+    ensures { IsTrue result ↔ IsSettledClass constraints.now area.now part.now mask chosen }
 {
     if mask == 0 {
         return false;
@@ -91,7 +92,7 @@ fn is_settled_class(
     if !is_settled_at_each(constraints, part, mask) {
         return false;
     }
-    is_settled_side(region, part, chosen)
+    is_settled_side(area, part, chosen)
 }
 
 /// Whether no bit is set from a place on.
@@ -105,10 +106,10 @@ fn is_short(mask: u32, count: usize) -> bool
 fn is_settled_at_each(constraints: &[Constraint], part: &Region, mask: u32) -> bool
     requires few { length constraints.now ≤ constraint_limit }
     requires alike { All (IsAlikeTo part.now) constraints.now }
-    ensures { IsTrue result ↔ ((place : ℕ) (c : Constraint) → place < length constraints.now → IsSettledAt part.now mask place (slice_index_or constraints.now place c)) }
+    ensures { IsTrue result ↔ ((place : ℕ) (c : Constraint) → place < length constraints.now → IsSettledAt constraints.now part.now mask place (slice_index_or constraints.now place c)) }
 {
     for (place, constraint) in constraints.iter().enumerate() {
-        if !is_settled_at(constraint, part, mask, place) {
+        if !is_settled_at(constraints, constraint, part, mask, place) {
             return false;
         }
     }
@@ -117,33 +118,41 @@ fn is_settled_at_each(constraints: &[Constraint], part: &Region, mask: u32) -> b
 
 /// Whether the constraint speaks of all rows of the box, and has them in its values, or speaks of none, as its bit
 /// says.
-fn is_settled_at(constraint: &Constraint, part: &Region, mask: u32, place: usize) -> bool
+fn is_settled_at(
+    constraints: &[Constraint],
+    constraint: &Constraint,
+    part: &Region,
+    mask: u32,
+    place: usize,
+) -> bool
     requires few { place < constraint_limit }
-    requires alike { IsAlikeTo part.now constraint.now }
-    ensures { IsTrue result ↔ IsSettledAt part.now mask place constraint.now }
+    requires own { IsAlikeTo part.now constraint.now }
+    requires each { All (IsAlikeTo part.now) constraints.now }
+    ensures { IsTrue result ↔ IsSettledAt constraints.now part.now mask place constraint.now }
 {
     if has_bit(u128::from(mask), place) {
-        return is_under(constraint, part);
+        return is_under(constraints, constraint, part);
     }
-    apart(part, &constraint.when)
+    speaks_of_none(constraints, constraint, part)
 }
 
-fn is_under(constraint: &Constraint, part: &Region) -> bool
-    requires { IsAlikeTo part.now constraint.now }
-    ensures { IsTrue result ↔ IsUnder part.now constraint.now }
+fn is_under(constraints: &[Constraint], constraint: &Constraint, part: &Region) -> bool
+    requires own { IsAlikeTo part.now constraint.now }
+    requires each { All (IsAlikeTo part.now) constraints.now }
+    ensures { IsTrue result ↔ IsUnder constraints.now part.now constraint.now }
 {
-    if !inside(part, &constraint.when) {
+    if !speaks_of_all(constraints, constraint, part) {
         return false;
     }
     inside(part, &constraint.values)
 }
 
-fn is_settled_side(region: &Region, part: &Region, chosen: bool) -> bool
-    requires { AreAlike part.now region.now }
-    ensures { IsTrue result ↔ IsSettledSide part.now region.now chosen }
+fn is_settled_side(area: &Area, part: &Region, chosen: bool) -> bool
+    requires { IsAlikeToArea part.now area.now }
+    ensures { IsTrue result ↔ IsSettledSide part.now area.now chosen }
 {
     if chosen {
-        return inside(part, region);
+        return inside_area(part, area);
     }
-    apart(part, region)
+    apart_from_area(part, area)
 }

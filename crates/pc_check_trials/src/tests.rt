@@ -1,3 +1,4 @@
+mod areas;
 mod averages;
 mod blocks;
 mod checking;
@@ -13,6 +14,7 @@ mod relations;
 mod trees;
 mod worked;
 
+use areas::AREAS;
 use averages::AVERAGES;
 use blocks::BLOCKS;
 use checking::verdict;
@@ -166,6 +168,12 @@ fn splits_and_classes_of_several_leaves(rt: HostRuntime) -> Result<(), Fail> {
 #[test]
 fn several_blocks(rt: HostRuntime) -> Result<(), Fail> {
     all_pass(&rt, rt.alloc(), &BLOCKS)?;
+    Ok(())
+}
+
+#[test]
+fn areas_and_rows_outside_them(rt: HostRuntime) -> Result<(), Fail> {
+    all_pass(&rt, rt.alloc(), &AREAS)?;
     Ok(())
 }
 

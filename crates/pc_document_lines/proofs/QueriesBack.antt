@@ -7,9 +7,9 @@ use Rattle.pc_model.specs.declared.schema.Schema.{Schema}
 use Rattle.pc_model.specs.declared.query.Agg.TheVariants as aggs
 use Rattle.pc_model.specs.declared.query.Query.{Query}
 use Rattle.pc_model.specs.Accepted.{IsQuery}
-use Rattle.pc_model.specs.Regions.{whole_region}
+use Rattle.pc_model.specs.Regions.{whole_area}
 use Rattle.pc_model.specs.WellFormed.{IsWellFormed}
-use Rattle.pc_model.proofs.WholeDomain.{whole_is_region}
+use Rattle.pc_model.proofs.Areas.{whole_is_area}
 use Rattle.pc_lang_tokens.proofs.ScaledTexts.{numbers_are_spelled}
 use Rattle.pc_lang_tokens.proofs.TextBytes.{tokens_text_printed}
 use Rattle.pc_lang.specs.Canonical.{query_text}
@@ -62,13 +62,13 @@ unfolding likely_query
 line_is_query schema line query formed e = text_is_query schema (drop 6 line) query formed (some_ok (query_from schema (drop 6 line)) query e)
 
 -- the count of all rows is a query
-count_of_all : (schema : Schema) → IsWellFormed schema → IsQuery schema (record { agg = aggs.Count; column = None; chosen = whole_region schema; group = None })
-count_of_all schema formed = record { chosen = whole_is_region schema formed; measured = refl; grouped = tt }
+count_of_all : (schema : Schema) → IsWellFormed schema → IsQuery schema (record { agg = aggs.Count; column = None; chosen = whole_area schema; group = None })
+count_of_all schema formed = record { chosen = whole_is_area schema formed; measured = refl; grouped = tt }
 
 -- what is asked of a line that is written again and compared
 spelled : (schema : Schema) → IsWellFormed schema → IsSpelled (IsQuery schema) (query_line_text schema) (λ query. true) (likely_query schema)
 spelled schema formed = record {
-  some = record { agg = aggs.Count; column = None; chosen = whole_region schema; group = None };
+  some = record { agg = aggs.Count; column = None; chosen = whole_area schema; group = None };
   some_good = count_of_all schema formed;
   tested = λ query asked. refl;
   holds = λ line query e tested. line_is_query schema line query formed e;

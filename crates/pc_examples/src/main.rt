@@ -12,7 +12,7 @@ use std::rt::Files;
 use trouble::Trouble;
 
 /// The folders of the examples.
-const EXAMPLES: [&str; 15] = [
+const EXAMPLES: [&str; 17] = [
     "shop",
     "shop-prove",
     "shop-check",
@@ -21,6 +21,8 @@ const EXAMPLES: [&str; 15] = [
     "week",
     "covered",
     "uncovered",
+    "outside",
+    "parts",
     "observed",
     "overlap",
     "groups",

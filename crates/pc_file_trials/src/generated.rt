@@ -2,7 +2,7 @@ ghost use Rattle.std.specs.Prelude.{◌≡◌, ◌<◌, ◌≤◌, length, All, 
 ghost use Rattle.pc_gen.specs.Draws.{draw};
 
 use pc_gen::{generate, generated_cases_are_accepted, hidden_rows_are_possible};
-use pc_model::{Agg, Constraint, Query, Region, Side};
+use pc_model::{Agg, Area, Constraint, Query, Region, Side, When};
 use pc_num::Memory;
 use pc_rows::{Case, Rows};
 use std::alloc::{AllocError, Global};
@@ -23,9 +23,22 @@ fn put_sides(numbers: &mut Vec<i64>, region: &Region) -> Result<(), AllocError> 
     Ok(())
 }
 
+// The rows outside have no numbers.
+fn put_when(numbers: &mut Vec<i64>, when: &When) -> Result<(), AllocError> {
+    match when {
+        When::Boxes(area) => {
+            for region in area.boxes.as_slice() {
+                put_sides(numbers, region)?;
+            }
+        }
+        When::Outside => {}
+    }
+    Ok(())
+}
+
 fn numbers_of(alloc: Global, constraint: &Constraint) -> Result<Vec<i64>, AllocError> {
     let mut numbers = Vec::new(alloc);
-    put_sides(&mut numbers, &constraint.when)?;
+    put_when(&mut numbers, &constraint.when)?;
     put_sides(&mut numbers, &constraint.values)?;
     numbers.push(i64::try_from(constraint.least).unwrap_or(-1))?;
     numbers.push(i64::try_from(constraint.most).unwrap_or(-1))?;
@@ -189,20 +202,26 @@ fn cases_of_another_program(rt: HostRuntime) -> Result<(), Fail> {
     Ok(())
 }
 
+fn is_everything(area: &Area) -> bool {
+    let whole = [
+        Side::Names { bits: 15 },
+        Side::Span { low: 1, high: 31 },
+        Side::Span {
+            low: 0,
+            high: 100_000,
+        },
+    ];
+    match area.boxes.as_slice() {
+        [region] => region.sides.as_slice() == whole.as_slice(),
+        _ => false,
+    }
+}
+
 fn is_of_all(query: &Query, agg: Agg, column: Option<u8>) -> bool {
     query.agg == agg
         && query.column == column
         && query.group.is_none()
-        && query.chosen.sides.as_slice()
-            == [
-                Side::Names { bits: 15 },
-                Side::Span { low: 1, high: 31 },
-                Side::Span {
-                    low: 0,
-                    high: 100_000,
-                },
-            ]
-            .as_slice()
+        && is_everything(&query.chosen)
 }
 
 fn are_five(queries: &[Query]) -> bool {

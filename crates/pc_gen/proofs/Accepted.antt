@@ -14,12 +14,13 @@ use Rattle.pc_model.specs.declared.region.Side.{Side}
 use Rattle.pc_model.specs.declared.region.Side.TheVariants.{Span, Names}
 use Rattle.pc_model.specs.declared.region.Region.{Region}
 use Rattle.pc_model.specs.declared.constraint.Constraint.{Constraint}
-use Rattle.pc_model.specs.Accepted.{AreConstraints}
+use Rattle.pc_model.specs.Accepted.{AreConstraints, IsNameFor}
 use Rattle.pc_model.specs.Boxes.{IsServable}
 use Rattle.pc_model.specs.Membership.{has}
 use Rattle.pc_model.specs.Regions.{is_region_of, is_side_of, is_span_in, whole_side}
 use Rattle.pc_model.specs.Texts.{IsName}
 use Rattle.pc_model.proofs.Between.{between_parts, test_from_le}
+use Rattle.pc_model.proofs.Areas.{one_box_is_area}
 use Rattle.pc_model.proofs.WholeDomain.{whole_is_region}
 use Rattle.pc_gen.specs.Draws.{after, draw}
 use Rattle.pc_gen.specs.Generated.{after_rows, branch_kind, day_kind, drawn_branches, drawn_constraint, drawn_constraints, drawn_prices, drawn_span, drawn_when, generated_constraints, generated_schema, hidden_rows, is_odd, price_kind, price_of, region_of, span_over, values_over, when_draws}
@@ -116,7 +117,7 @@ servable : (hidden : List Row) → All IsOfDomain hidden → (number state : ℕ
 servable hidden allowed number state =
     let inside = filter (has (drawn_when number state)) hidden in
     record {
-      when_region = when_is number state;
+      when_area = one_box_is_area generated_schema (drawn_when number state) (when_is number state);
       value_region = values_are (map price_of (filter (has (drawn_when number state)) hidden)) (All-map IsPrice price_of (filter (has (drawn_when number state)) hidden)
           (λ k d here. is_price _ (All-filter (has (drawn_when number state)) IsOfDomain hidden allowed k d here)));
       ordered = omega arith;
@@ -162,7 +163,7 @@ accepted hidden state allowed few = record {
   few = rw (length_constraints hidden 8 0 state) (omega arith);
   servable = each_drawn hidden (IsServable generated_schema) 0 8 (λ k s from to. servable hidden allowed k s) 8 0 state (omega arith) (omega arith);
   small = each_drawn hidden (λ (c : Constraint). c.most ≤ 10000000) 0 8 (λ k s from to. small hidden few k s) 8 0 state (omega arith) (omega arith);
-  named = each_drawn hidden (λ (c : Constraint). IsName c.name) 0 8 (λ k s from to. named k (omega arith)) 8 0 state (omega arith) (omega arith);
+  named = each_drawn hidden (λ (c : Constraint). IsNameFor c.when c.name) 0 8 (λ k s from to. named k (omega arith)) 8 0 state (omega arith) (omega arith);
   own_names = own_names hidden 8 0 state (omega arith);
 }
 

@@ -1,5 +1,5 @@
 -- Constraints that are drawn one after the other, as the code makes them and as the definition says.
-use Rattle.std.proofs.Common.{◌≡◌, ◌∙◌, ℕ, zero, suc, ◌+◌, ◌-◌, ◌<◌, ◌≤◌, ◌&&◌, true, ℤ, List, [], ◌∷◌, ◌++◌, length, map, filter, Option, Some, None, All, refl, ap, sym, arith}
+use Rattle.std.proofs.Common.{◌≡◌, ◌∙◌, ℕ, zero, suc, ◌+◌, ◌-◌, ◌<◌, ◌≤◌, ◌&&◌, true, ℤ, List, [], ◌∷◌, ◌++◌, length, map, filter, Option, Some, None, All, refl, ap, sym, subst, arith}
 use Rattle.std.specs.List.{reduce}
 use Rattle.std.specs.Int.{int_min, int_max}
 use Rattle.std.proofs.Math.Bool.{and-true}
@@ -9,13 +9,16 @@ use Rattle.std.proofs.lemmas.List.Elements.{All-nil, All-cons, filter_agree}
 use Rattle.pc_model.specs.declared.row.Row.{Row}
 use Rattle.pc_model.specs.declared.region.Side.{Side}
 use Rattle.pc_model.specs.declared.region.Region.{Region}
+use Rattle.pc_model.specs.declared.area.Area.{Area}
 use Rattle.pc_model.specs.declared.constraint.Constraint.{Constraint}
+use Rattle.pc_model.specs.Regions.{one_box}
+use Rattle.pc_model.proofs.Areas.{in_one_box}
 use Rattle.pc_model.specs.declared.query.Agg.TheVariants.{Count}
 use Rattle.pc_model.specs.declared.query.Query.{Query}
 use Rattle.pc_model.specs.declared.query.Folded.{Folded}
 use Rattle.pc_model.specs.Aggregate.{kept}
 use Rattle.pc_model.specs.Folds.{IsFold, best_at}
-use Rattle.pc_model.specs.Membership.{has}
+use Rattle.pc_model.specs.Membership.{has, is_in}
 use Rattle.pc_gen.specs.Draws.{after}
 use Rattle.pc_gen.specs.Folded.{constraint_by, priced_region}
 use Rattle.pc_gen.specs.Generated.{constraint_over, drawn_branches, drawn_constraint, drawn_constraints, drawn_prices, drawn_span, drawn_when, price_column, price_draws, price_of, region_of, values_over, when_draws}
@@ -45,23 +48,26 @@ priced_is : (prices : List ℤ) → priced_region (reduce int_min prices) (reduc
 priced_is [] = refl
 priced_is (price ∷ prices) = refl
 
--- the query whose fold tells of the rows in a region
-abbrev pub query_in : Region → Query
-query_in when = record { agg = Count; column = Some price_column; chosen = when; group = None }
+-- the query whose fold tells of the rows in an area
+abbrev pub query_in : Area → Query
+query_in area = record { agg = Count; column = Some price_column; chosen = area; group = None }
 
-kept_are : (when : Region) (hidden : List Row) → kept (query_in when) None hidden ≡ filter (has when) hidden
-kept_are when hidden = filter_agree (λ found. has when found && true) (has when) (λ found. and-true (has when found)) hidden
+kept_are : (when : Region) (hidden : List Row) → kept (query_in (one_box when)) None hidden ≡ filter (has when) hidden
+kept_are when hidden = filter_agree (λ found. is_in (one_box when) found && true) (has when) (λ found. and-true (is_in (one_box when) found) ∙ in_one_box when found) hidden
 
-by_rows : (number : ℕ) (when : Region) (rows : List Row) (state count : ℕ) (least greatest : Option ℤ) → count ≡ length rows → least ≡ reduce int_min (map price_of rows) → greatest ≡ reduce int_max (map price_of rows) → constraint_by number when count least greatest state ≡ constraint_over number when rows state
+by_rows : (number : ℕ) (when : Region) (rows : List Row) (state count : ℕ) (least greatest : Option ℤ) → count ≡ length rows → least ≡ reduce int_min (map price_of rows) → greatest ≡ reduce int_max (map price_of rows) → constraint_by number (one_box when) count least greatest state ≡ constraint_over number when rows state
 by_rows number when rows state count least greatest count_is least_is greatest_is =
-    ap (λ n. constraint_by number when n least greatest state) count_is
-    ∙ ap₂ (λ low high. constraint_by number when (length rows) low high state) least_is greatest_is
+    ap (λ n. constraint_by number (one_box when) n least greatest state) count_is
+    ∙ ap₂ (λ low high. constraint_by number (one_box when) (length rows) low high state) least_is greatest_is
     ∙ ap (λ (values : Region). record (constraint_over number when rows state) { values = values }) (priced_is (map price_of rows))
 
-pub drawn_is : (hidden : List Row) (number state later : ℕ) (when : Region) (folded : Folded) → when ≡ drawn_when number state → later ≡ after (when_draws number) state → IsFold (query_in when) None hidden folded → constraint_by number when folded.count folded.least folded.greatest later ≡ drawn_constraint hidden number state
-drawn_is hidden number state later when folded when_is later_is fold =
+pub drawn_is : (hidden : List Row) (number state later : ℕ) (when : Region) (area : Area) (folded : Folded) → when ≡ drawn_when number state → area ≡ one_box when →
+    later ≡ after (when_draws number) state → IsFold (query_in area) None hidden folded → constraint_by number area folded.count folded.least folded.greatest later ≡ drawn_constraint hidden number state
+drawn_is hidden number state later when area folded when_is area_is later_is given =
+    let fold : IsFold (query_in (one_box when)) None hidden folded = subst (λ (found : Area). IsFold (query_in found) None hidden folded) area_is given in
     let inside = kept_are when hidden in
-    by_rows number when (filter (has when) hidden) later folded.count folded.least folded.greatest
+    ap (λ (found : Area). constraint_by number found folded.count folded.least folded.greatest later) area_is
+    ∙ by_rows number when (filter (has when) hidden) later folded.count folded.least folded.greatest
     (fold.count ∙ ap (λ (rows : List Row). length rows) inside) (fold.least ∙ ap (best_at int_min (Some price_column)) inside) (fold.greatest ∙ ap (best_at int_max (Some price_column)) inside)
     ∙ ap₂ (λ w s. constraint_over number w (filter (has w) hidden) s) when_is later_is
 

@@ -1,11 +1,11 @@
 -- The hidden rows in some predicate are a possible list of lost rows.
-use Rattle.std.proofs.Common.{◌≡◌, ◌∙◌, ℕ, ◌+◌, ◌*◌, ◌&&◌, true, false, ℤ, pos, ◌≤ℤ◌, List, [], ◌∷◌, length, get_or, map, filter, fold, count_by, All, refl, sym, true≢false, arith}
+use Rattle.std.proofs.Common.{◌≡◌, ◌∙◌, ℕ, ◌+◌, ◌*◌, ◌&&◌, Bool, true, false, ℤ, pos, ◌≤ℤ◌, List, [], ◌∷◌, length, get_or, map, filter, fold, count_by, All, refl, ap, sym, true≢false, arith}
 use Rattle.std.specs.Cmp.Lexicographic.{pointwise}
 use Rattle.std.specs.Int.{int_min, int_max}
 use Rattle.std.specs.List.{AllPass}
 use Rattle.std.proofs.lemmas.Bool.{and_parts, and_from}
 use Rattle.std.proofs.lemmas.Int.{fold-int_min_bounds, fold-int_max_bounds}
-use Rattle.std.proofs.lemmas.List.Elements.{All-nil, All-cons, All-filter, filter_passes}
+use Rattle.std.proofs.lemmas.List.Elements.{All-nil, All-cons, All-filter, filter_agree, filter_passes}
 use Rattle.std.proofs.lemmas.List.Folds.{list_any_at}
 use Rattle.std.proofs.lemmas.List.Sums.{length-filter}
 use Rattle.pc_model.specs.declared.schema.Schema.{Schema}
@@ -19,6 +19,7 @@ use Rattle.pc_model.specs.Possible.{IsPossible, Meets, is_covered}
 use Rattle.pc_model.specs.Regions.{whole_side}
 use Rattle.pc_model.proofs.Between.{between_from}
 use Rattle.pc_model.proofs.WholeDomain.{in_whole}
+use Rattle.pc_model.proofs.Areas.{in_one_box}
 use Rattle.pc_gen.specs.Generated.{after_rows, branch_kind, constraint_over, day_kind, drawn_constraints, generated_constraints, generated_schema, hidden_rows, price_kind, price_of, region_of, values_over}
 use Rattle.pc_gen.proofs.DrawnConstraints.{each_drawn}
 use Rattle.pc_gen.proofs.DrawnRows.{rows_allowed}
@@ -100,40 +101,45 @@ rows_in_values (first ∷ rows) =
 
 -- ---- constraints
 
-meets : (hidden : List Row) (number : ℕ) (when : Region) (state : ℕ) → All IsOfDomain hidden → Meets (constraint_over number when (filter (has when) hidden) state) hidden
-meets hidden number when state allowed =
-    let inside = filter (has when) hidden in
-    let counted : length (filter (has when) hidden) ≡ count_by (has when) hidden = length-filter (has when) hidden in
+meets : (all : List Constraint) (hidden : List Row) (number : ℕ) (when : Region) (state : ℕ) → All IsOfDomain hidden →
+    Meets all (constraint_over number when (filter (has when) hidden) state) hidden
+meets all hidden number when state allowed =
+    let speaks : Row → Bool = is_under all (constraint_over number when (filter (has when) hidden) state) in
+    let counted : length (filter (has when) hidden) ≡ count_by speaks hidden =
+    ap (λ (rows : List Row). length rows) (sym (filter_agree speaks (has when) (in_one_box when) hidden)) ∙ length-filter speaks hidden in
     let kept = if_kept (has when) (λ (found : Row). IsOfDomain found → has (values_over (map price_of (filter (has when) hidden))) found ≡ true) hidden (rows_in_values (filter (has when) hidden)) in
     record {
-      in_values = λ k d here under. kept k d here under (allowed k d here);
+      in_values = λ k d here under. kept k d here (sym (in_one_box when (get_or hidden k d)) ∙ under) (allowed k d here);
       enough = omega (arith, counted);
       not_more = omega (arith, counted);
     }
 
-all_meet : (hidden : List Row) (more number state : ℕ) → All IsOfDomain hidden → All (λ c. Meets c hidden) (drawn_constraints hidden more number state)
-all_meet hidden more number state allowed =
-    each_drawn hidden (λ c. Meets c hidden) 0 (number + more) (λ k s from to. meets hidden k _ _ allowed) more number state (omega arith) (omega arith)
+all_meet : (all : List Constraint) (hidden : List Row) (more number state : ℕ) → All IsOfDomain hidden → All (λ c. Meets all c hidden) (drawn_constraints hidden more number state)
+all_meet all hidden more number state allowed =
+    each_drawn hidden (λ c. Meets all c hidden) 0 (number + more) (λ k s from to. meets all hidden k _ _ allowed) more number state (omega arith) (omega arith)
 
 -- what keeps a constraint keeps it without the rows that no constraint covers
-still_meets : (c : Constraint) (constraints : List Constraint) (rows : List Row) → ((found : Row) → is_under c found ≡ true → is_covered constraints found ≡ true) → Meets c rows → Meets c (filter (is_covered constraints) rows)
+still_meets : (c : Constraint) (constraints : List Constraint) (rows : List Row) → ((found : Row) → is_under constraints c found ≡ true → is_covered constraints found ≡ true) →
+    Meets constraints c rows → Meets constraints c (filter (is_covered constraints) rows)
 still_meets c constraints rows covers met =
-    let same = as_many (is_under c) (is_covered constraints) covers rows in
+    let same = as_many (is_under constraints c) (is_covered constraints) covers rows in
     record {
-      in_values = All-filter (is_covered constraints) (λ (found : Row). is_under c found ≡ true → has c.values found ≡ true) rows met.in_values;
+      in_values = All-filter (is_covered constraints) (λ (found : Row). is_under constraints c found ≡ true → has c.values found ≡ true) rows met.in_values;
       enough = rw same met.enough;
       not_more = rw same met.not_more;
     }
 
-covered_are_possible : (schema : Schema) (constraints : List Constraint) (rows : List Row) → AllPass (in_domain schema) rows → All (λ c. Meets c rows) constraints → IsPossible schema constraints (filter (is_covered constraints) rows)
+covered_are_possible : (schema : Schema) (constraints : List Constraint) (rows : List Row) → AllPass (in_domain schema) rows → All (λ c. Meets constraints c rows) constraints →
+    IsPossible schema constraints (filter (is_covered constraints) rows)
 covered_are_possible schema constraints rows allowed met = record {
   allowed = All-filter (is_covered constraints) (λ (found : Row). in_domain schema found ≡ true) rows allowed;
   covered = filter_passes (is_covered constraints) rows;
-  meets = λ k d inside. still_meets (get_or constraints k d) constraints rows (λ found under. list_any_at (λ (c : Constraint). is_under c found) constraints k d inside under) (met k d inside);
+  meets = λ k d inside. still_meets (get_or constraints k d) constraints rows
+      (λ found under. list_any_at (λ (c : Constraint). is_under constraints c found) constraints k d inside under) (met k d inside);
 }
 
 pub hidden_are_possible : (seed size : ℕ) → IsPossible generated_schema (generated_constraints seed size) (filter (is_covered (generated_constraints seed size)) (hidden_rows seed size))
 hidden_are_possible seed size =
     let allowed = rows_allowed (10 * size) (after_rows (100 * size) seed) in
     covered_are_possible generated_schema (generated_constraints seed size) (hidden_rows seed size) allowed
-    (all_meet (hidden_rows seed size) 8 0 (after_rows (10 * size) (after_rows (100 * size) seed)) allowed)
+    (all_meet (generated_constraints seed size) (hidden_rows seed size) 8 0 (after_rows (10 * size) (after_rows (100 * size) seed)) allowed)

@@ -11,7 +11,7 @@ use Rattle.pc_model.specs.declared.query.Query.{Query}
 use Rattle.pc_model.specs.Accepted.{IsQuery, Measures}
 use Rattle.pc_model.specs.Texts.{IsName}
 use Rattle.pc_model.specs.WellFormed.{IsColumn, IsSpan, AreValues, IsWellFormed}
-use Rattle.pc_model.proofs.WholeDomain.{whole_is_region}
+use Rattle.pc_model.proofs.Areas.{whole_is_area}
 use Rattle.pc_gen.specs.Generated.{branch_kind, column_named, day_kind, generated_queries, generated_schema, price_column, price_kind, query_of_all}
 use Rattle.pc_model.proofs.PlainNames.{apart, are_apart, is_plain, plain_name}
 
@@ -70,7 +70,7 @@ abbrev pub IsQueryOfAll : Query → Type 0
 IsQueryOfAll query = IsQuery generated_schema query × (query.group ≡ None)
 
 of_all : (agg : Agg) (column : Option ℕ) → Measures generated_schema agg column → IsQueryOfAll (query_of_all agg column)
-of_all agg column measured = (record { chosen = whole_is_region generated_schema schema_formed; measured = measured; grouped = tt }, refl)
+of_all agg column measured = (record { chosen = whole_is_area generated_schema schema_formed; measured = measured; grouped = tt }, refl)
 
 abbrev count : Query
 count = query_of_all Count None

@@ -3,6 +3,8 @@ use Rattle.std.specs.Prelude.{ℕ, ◌+◌, ◌-◌, ℤ, min, ◌++◌, codes, 
 use Rattle.pc_model.specs.declared.region.Side.{Side}
 use Rattle.pc_model.specs.declared.region.Side.TheVariants.{Span}
 use Rattle.pc_model.specs.declared.region.Region.{Region}
+use Rattle.pc_model.specs.declared.area.Area.{Area}
+use Rattle.pc_model.specs.declared.constraint.When.TheVariants.{Boxes}
 use Rattle.pc_model.specs.declared.constraint.Constraint.{Constraint}
 use Rattle.pc_model.specs.Regions.{whole_side}
 use Rattle.pc_gen.specs.Draws.{after, draw}
@@ -18,10 +20,10 @@ abbrev pub priced_region : Option ℤ → Option ℤ → Region
 priced_region least greatest = region_of (whole_side branch_kind) (whole_side day_kind) (price_side least greatest)
 
 -- the constraint on a predicate with so many hidden rows, of such prices
-abbrev pub constraint_by : ℕ → Region → ℕ → Option ℤ → Option ℤ → ℕ → Constraint
+abbrev pub constraint_by : ℕ → Area → ℕ → Option ℤ → Option ℤ → ℕ → Constraint
 constraint_by number when count least greatest state = record {
   name = codes "g" ++ decimal number;
-  when = when;
+  when = Boxes when;
   values = priced_region least greatest;
   least = count - min count (draw 3 state);
   most = count + draw 3 (after 1 state);

@@ -9,13 +9,14 @@ use Rattle.pc_model.specs.declared.row.Row.{Row}
 use Rattle.pc_model.specs.declared.region.Side.{Side}
 use Rattle.pc_model.specs.declared.region.Side.TheVariants.{Span, Names}
 use Rattle.pc_model.specs.declared.region.Region.{Region}
+use Rattle.pc_model.specs.declared.constraint.When.TheVariants.{Boxes}
 use Rattle.pc_model.specs.declared.constraint.Constraint.{Constraint}
 use Rattle.pc_model.specs.declared.query.Agg.{Agg}
 use Rattle.pc_model.specs.declared.query.Agg.TheVariants.{Count, Sum, Min, Max, Avg}
 use Rattle.pc_model.specs.declared.query.Query.{Query}
 use Rattle.pc_model.specs.Aggregate.{number_at}
 use Rattle.pc_model.specs.Membership.{has, row_from as row}
-use Rattle.pc_model.specs.Regions.{whole_side, whole_region}
+use Rattle.pc_model.specs.Regions.{one_box, whole_area, whole_side, whole_region}
 use Rattle.pc_rows.specs.declared.case.Case.{Case}
 use Rattle.pc_gen.specs.Draws.{after, draw}
 
@@ -113,7 +114,7 @@ price_of found = number_at found price_column
 abbrev pub constraint_over : ℕ → Region → List Row → ℕ → Constraint
 constraint_over number when inside state = record {
   name = codes "g" ++ decimal number;
-  when = when;
+  when = Boxes (one_box when);
   values = values_over (map price_of inside);
   least = length inside - min (length inside) (draw 3 state);
   most = length inside + draw 3 (after 1 state);
@@ -139,7 +140,7 @@ generated_constraints seed size =
 
 -- an aggregate of all rows
 abbrev pub query_of_all : Agg → Option ℕ → Query
-query_of_all agg column = record { agg = agg; column = column; chosen = whole_region generated_schema; group = None }
+query_of_all agg column = record { agg = agg; column = column; chosen = whole_area generated_schema; group = None }
 
 abbrev pub generated_queries : List Query
 generated_queries =

@@ -7,7 +7,7 @@ ghost use Rattle.pc_gen.specs.Generated.{drawn_branches, drawn_constraint, drawn
 use crate::draws::Draws;
 use crate::schema::PRICE;
 use pc_list::{Seq, Text};
-use pc_model::{Agg, Constraint, Folded, Query, Region, Side};
+use pc_model::{Agg, Area, Constraint, Folded, Query, Region, Side, When};
 use pc_num::Memory;
 use pc_rows::Rows;
 use std::alloc::{AllocError, Global};
@@ -47,10 +47,11 @@ fn draw_constraint(
     ensures constraint { IfOk result (λ c. c ≡ drawn_constraint hidden.now number draws.old.state) }
     ensures state { OnOk result (draws.new.state ≡ after (when_draws number + 2) draws.old.state) }
 {
+    let when = draw_when(alloc, draws, number)?;
     let query = Query {
         agg: Agg::Count,
         column: Some(PRICE),
-        chosen: draw_when(alloc, draws, number)?,
+        chosen: Area::of_box(alloc, when)?,
         group: None,
     };
     let inside = hidden.fold(&query);
@@ -124,7 +125,7 @@ fn constraint_by(
     alloc: Global,
     draws: &mut Draws,
     number: u8,
-    when: Region,
+    when: Area,
     inside: Folded,
 ) -> Result<Constraint, Memory>
     requires few { inside.count ≤ row_limit }
@@ -135,7 +136,7 @@ fn constraint_by(
     let more = u64::from(draws.draw(3));
     Ok(Constraint {
         name: name_of(alloc, number)?,
-        when,
+        when: When::Boxes(when),
         values: priced_region(alloc, inside.least, inside.greatest)?,
         least: inside.count - inside.count.min(less),
         most: inside.count + more,

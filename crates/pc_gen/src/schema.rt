@@ -2,7 +2,7 @@ ghost use Rattle.std.specs.Prelude.{◌≡◌, [], ◌∷◌, codes, IfOk};
 ghost use Rattle.pc_gen.specs.Generated.{branch_kind, column_named, generated_queries, generated_schema, price_kind, query_of_all};
 
 use pc_list::{Seq, Text};
-use pc_model::{Agg, Column, Kind, Query, Schema};
+use pc_model::{Agg, Area, Column, Kind, Query, Schema};
 use pc_num::Memory;
 use std::alloc::{AllocError, Global};
 
@@ -76,7 +76,7 @@ fn query_of_all(
     Ok(Query {
         agg,
         column,
-        chosen: schema.whole(alloc)?,
+        chosen: Area::of_box(alloc, schema.whole(alloc)?)?,
         group: None,
     })
 }

@@ -5,6 +5,7 @@ use Rattle.std.specs.Cmp.Lexicographic.{pointwise}
 use Rattle.std.specs.List.{AllZip, AllPass}
 use Rattle.std.proofs.lemmas.Bool.{and_parts}
 use Rattle.std.proofs.lemmas.List.Elements.{All-nil, All-cons, All-head, All-tail}
+use Rattle.std.proofs.lemmas.List.Folds.{Any-from_list_any}
 use Rattle.std.proofs.lemmas.Option.{same_Some}
 use Rattle.pc_model.specs.declared.schema.Kind.{Kind}
 use Rattle.pc_model.specs.declared.schema.Kind.TheVariants.{Int, Dec, Cat}
@@ -14,11 +15,13 @@ use Rattle.pc_model.specs.declared.row.Row.{Row}
 use Rattle.pc_model.specs.declared.region.Side.{Side}
 use Rattle.pc_model.specs.declared.region.Side.TheVariants.{Names}
 use Rattle.pc_model.specs.declared.region.Region.{Region}
+use Rattle.pc_model.specs.declared.area.Area.{Area}
 use Rattle.pc_model.specs.declared.constraint.Constraint.{Constraint}
 use Rattle.pc_model.specs.declared.query.Query.{Query}
 use Rattle.pc_model.specs.declared.tree.CutNode.{CutNode}
 use Rattle.pc_model.specs.Accepted.{AreConstraints, IsQuery, HasNames, IsColumnWhere}
-use Rattle.pc_model.specs.CutTrees.{side_at, shape_of}
+use Rattle.pc_model.specs.Boxes.{IsAreaOf}
+use Rattle.pc_model.specs.CutTrees.{shape_of}
 use Rattle.pc_model.specs.Membership.{holds, allows, in_domain}
 use Rattle.pc_model.specs.Regions.{is_side_of, is_region_of}
 use Rattle.pc_model.specs.WellFormed.{IsWellFormed}
@@ -30,7 +33,7 @@ use Rattle.pc_proof.specs.declared.document.BlockTree.{BlockTree}
 use Rattle.pc_proof.specs.declared.document.BlockTree.TheVariants as trees
 use Rattle.pc_proof.specs.Documents.{nodes_after}
 use Rattle.pc_proof.specs.Form.{IsFormedAnswer, IsFormedBlock, IsFormedBlockTree, IsFormedCutTree, IsGroupName, IsNameOf}
-use Rattle.pc_proof.specs.Setting.{region_of}
+use Rattle.pc_proof.specs.Setting.{allows_name, area_of}
 use Rattle.pc_proof.specs.Unbroken.{AllowsName, HasForm, IsUnbroken}
 use Rattle.pc_agg_search.specs.Settings.{question_in, setting_in}
 use Rattle.pc_group.specs.Answers.{AnswersWanted}
@@ -56,15 +59,17 @@ name_at (c ∷ columns) (s ∷ sides) zero place h has held =
 name_at (c ∷ columns) (s ∷ sides) (suc column) place h has held =
     name_at columns sides column place (and_parts (is_side_of c.kind s) (pointwise (λ (x : Column). is_side_of x.kind) columns sides) h).1 has held
 
-group_at : (schema : Schema) (chosen : Region) (column place : ℕ) → is_region_of schema chosen ≡ true → IsColumnWhere HasNames schema column → holds (side_at chosen column) (pos place) ≡ true →
+group_at : (schema : Schema) (box : Region) (column place : ℕ) → is_region_of schema box ≡ true → IsColumnWhere HasNames schema column → allows_name column place box ≡ true →
     IsSomeAnd (slice_get schema.columns column) (λ (c : Column). IsNameOf place c.kind)
 unfolding is_region_of
-group_at schema chosen column place h has held = name_at schema.columns chosen.sides column place h has held
+group_at schema box column place h has held = name_at schema.columns box.sides column place h has held
 
-group_named : (schema : Schema) (chosen : Region) (group name : Option ℕ) → is_region_of schema chosen ≡ true → IfSome group (IsColumnWhere HasNames schema) → AllowsName chosen group name → IsGroupName schema group name
+group_named : (schema : Schema) (chosen : Area) (group name : Option ℕ) → IsAreaOf schema chosen → IfSome group (IsColumnWhere HasNames schema) → AllowsName chosen group name → IsGroupName schema group name
 group_named schema chosen None name h has allowed = tt
 group_named schema chosen (Some column) None h has allowed = tt
-group_named schema chosen (Some column) (Some place) h has allowed = group_at schema chosen column place h has allowed
+group_named schema chosen (Some column) (Some place) h has allowed =
+    let found = Any-from_list_any (allows_name column place) chosen.boxes allowed in
+    group_at schema found.1 column place (subst (λ (box : Region). is_region_of schema box ≡ true) found.3 (h.each found.0 found.1 found.2)) has found.4
 
 -- ---- a block
 
@@ -80,7 +85,7 @@ block_formed schema observed constraints query name nodes answer formed limited 
   named = form.named;
   name = group_named schema query.chosen query.group name well.chosen well.grouped unbroken.allowed;
   tree = tree_says schema nodes before tree
-      (tree_formed schema formed constraints limited.few (region_of (question_in schema observed constraints query name)) nodes
+      (tree_formed schema formed constraints limited.few (area_of (question_in schema observed constraints query name)) nodes
       (record { preorder = form.preorder; proper = unbroken.proper; settled = unbroken.settled }) own) says;
   answer = answered;
 }

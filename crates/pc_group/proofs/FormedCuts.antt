@@ -1,4 +1,4 @@
--- The cuts of a tree that is cut along regions are in form.
+-- The cuts of a tree that is cut along boxes are in form.
 use Rattle.std.proofs.Common.{◌≡◌, ℕ, zero, suc, ◌+◌, ◌<◌, ◌≤◌, ◌^◌, ◌&&◌, ◌==◌, nat_lt, not, Bool, true, false, true≢false, List, [], ◌∷◌, ◌++◌, length, All, Any, ◌⊎◌, inl, inr, Option, Some, None, refl, sym, ap, subst, ◌∙◌, arith, ltb-true}
 use Rattle.std.specs.Prelude.{ℤ, pos, ◌-ℤ◌, ◌≤ℤ◌, int_le, int_lt, nat_abs, slice_get, slice_index_or, IfSome, IsSomeAnd, if◌then◌else◌}
 use Rattle.std.specs.Cmp.Lexicographic.{pointwise}
@@ -17,6 +17,9 @@ use Rattle.pc_model.specs.declared.schema.Schema.{Schema}
 use Rattle.pc_model.specs.declared.region.Side.{Side}
 use Rattle.pc_model.specs.declared.region.Side.TheVariants.{Span, Names}
 use Rattle.pc_model.specs.declared.region.Region.{Region}
+use Rattle.pc_model.specs.declared.area.Area.{Area}
+use Rattle.pc_model.specs.declared.constraint.When.{When}
+use Rattle.pc_model.specs.declared.constraint.When.TheVariants.{Boxes, Outside}
 use Rattle.pc_model.specs.declared.constraint.Constraint.{Constraint}
 use Rattle.pc_model.specs.declared.tree.Cut.{Cut}
 use Rattle.pc_model.specs.declared.tree.Cut.TheVariants.{At, Among}
@@ -24,7 +27,7 @@ use Rattle.pc_model.specs.declared.tree.CutNode.{CutNode}
 use Rattle.pc_model.specs.declared.tree.CutNode.TheVariants as forms
 use Rattle.pc_model.specs.declared.tree.LeafMark.{LeafMark}
 use Rattle.pc_model.specs.declared.tree.LeafMark.TheVariants as marks
-use Rattle.pc_model.specs.Boxes.{IsServable}
+use Rattle.pc_model.specs.Boxes.{IsAreaOf, IsWhenOf, IsServable}
 use Rattle.pc_model.specs.Cells.{IsSettled, IsSettledAs, IsSettledTree}
 use Rattle.pc_model.specs.CutTrees.{CutShape, leaf, inner, size_of, nodes_from, leaves_of, shape_of, column_of, first_part, second_part, IsProper, HasProperCuts, side_at}
 use Rattle.pc_model.specs.Membership.{has}
@@ -36,14 +39,14 @@ use Rattle.pc_box.specs.Cuts.{is_first, divides_side, divides_found}
 use Rattle.pc_box.proofs.CutRows.{first_rows, second_rows, first_alike, second_alike}
 use Rattle.pc_box.proofs.Proper.{Divides-from_proper}
 use Rattle.pc_box.proofs.Schemas.{IsBox-from_schema, is_region-from_inside}
-use Rattle.pc_cells_tree.specs.Decisions.{IsCutFor, IsNeeded}
+use Rattle.pc_cells_tree.specs.Decisions.{IsCutFor, IsCutThroughWhen, IsNeeded}
 use Rattle.pc_cells_tree.specs.Linked.{IsTree, IsDone, HasKept, HasNeededCuts, box_at, node_at, is_leaf_node}
-use Rattle.pc_cells_tree.specs.Stances.{side_cut, IsAlong, IsCutThrough}
+use Rattle.pc_cells_tree.specs.Stances.{side_cut, IsAlong, IsCutThroughArea}
 use Rattle.pc_cells_tree.specs.Walking.{HasCutsAt}
 use Rattle.pc_proof.specs.Form.{IsFormedCut, IsFormedCutOf, IsFormedMarkOf, IsFormedCutNode, IsFormedCutTree}
 use Rattle.pc_group.specs.Trees.{HasBitsOf, HasOwnBits, HasOwnShape, IsOwnNode, HasOwnCuts}
 
--- ---- the bits of a cut along a region
+-- ---- the bits of a cut along a box
 
 test_bits : (names : List (List ℕ)) (column bits : ℕ) (test : Bool) (cut : Cut) → bits < 2 ^ length names → (if test then None else Some (Among column bits)) ≡ Some cut → HasBitsOf cut (Cat names)
 test_bits names column bits true cut few e = absurd (none-some cut e)
@@ -84,23 +87,34 @@ bits_at (c ∷ columns) [] place column side cut h e = absurd (true≢false (sym
 bits_at (c ∷ columns) (s ∷ sides) zero column side cut h e = side_bits c.kind side s column cut (and_parts (is_side_of c.kind s) (pointwise (λ (x : Column). is_side_of x.kind) columns sides) h).0 e
 bits_at (c ∷ columns) (s ∷ sides) (suc place) column side cut h e = bits_at columns sides place column side cut (and_parts (is_side_of c.kind s) (pointwise (λ (x : Column). is_side_of x.kind) columns sides) h).1 e
 
-along_bits : (schema : Schema) (area region : Region) (cut : Cut) → is_region_of schema region ≡ true → IsAlong area region cut → HasOwnBits schema cut
+along_bits : (schema : Schema) (part box : Region) (cut : Cut) → is_region_of schema box ≡ true → IsAlong part box cut → HasOwnBits schema cut
 unfolding is_region_of
-along_bits schema area region cut h along =
-    subst (λ (n : ℕ). IfSome (slice_get schema.columns n) (λ (c : Column). HasBitsOf cut c.kind)) (sym (column_is along.0 (side_at area along.0) (side_at region along.0) cut along.2))
-    (bits_at schema.columns region.sides along.0 along.0 (side_at area along.0) cut h along.2)
+along_bits schema part box cut h along =
+    subst (λ (n : ℕ). IfSome (slice_get schema.columns n) (λ (c : Column). HasBitsOf cut c.kind)) (sym (column_is along.0 (side_at part along.0) (side_at box along.0) cut along.2))
+    (bits_at schema.columns box.sides along.0 along.0 (side_at part along.0) cut h along.2)
 
-module _ (schema : Schema) (constraints : List Constraint) (chosen : Region) (servable : All (IsServable schema) constraints) (asked : is_region_of schema chosen ≡ true) where
-  cut_bits : (area : Region) (cut : Cut) (c : Constraint) → IsServable schema c → IsCutFor area cut c → HasOwnBits schema cut
-  cut_bits area cut c own (inl within) = along_bits schema area c.values cut own.value_region within.1.along
-  cut_bits area cut c own (inr through) = along_bits schema area c.when cut own.when_region through.along
+module _ (schema : Schema) (part : Region) (cut : Cut) where
+  -- of a box of an area
+  area_bits : (area : Area) → IsAreaOf schema area → IsCutThroughArea part area cut → HasOwnBits schema cut
+  area_bits area is_area needed =
+      let found = needed.through in
+      along_bits schema part found.1 cut (subst (λ (box : Region). is_region_of schema box ≡ true) found.3 (is_area.each found.0 found.1 found.2)) found.4.along
 
-  needed_bits : (area : Region) (cut : Cut) → IsNeeded constraints chosen area cut → HasOwnBits schema cut
-  needed_bits area cut needed = by_part needed.through
+  when_bits : (when : When) → IsWhenOf schema when → IsCutThroughWhen part when cut → HasOwnBits schema cut
+  when_bits (Boxes area) is_when through = area_bits area is_when through
+  when_bits Outside is_when through = absurd through
+
+module _ (schema : Schema) (constraints : List Constraint) (chosen : Area) (servable : All (IsServable schema) constraints) (asked : IsAreaOf schema chosen) where
+  cut_bits : (part : Region) (cut : Cut) (c : Constraint) → IsServable schema c → IsCutFor constraints part cut c → HasOwnBits schema cut
+  cut_bits part cut c own (inl within) = along_bits schema part c.values cut own.value_region within.1.along
+  cut_bits part cut c own (inr through) = when_bits schema part cut c.when own.when_area through
+
+  needed_bits : (part : Region) (cut : Cut) → IsNeeded constraints chosen part cut → HasOwnBits schema cut
+  needed_bits part cut needed = by_part needed.through
     where
-      by_part : Any (IsCutFor area cut) constraints ⊎ IsCutThrough area chosen cut → HasOwnBits schema cut
-      by_part (inl found) = cut_bits area cut found.1 (subst (IsServable schema) found.3 (servable found.0 found.1 found.2)) found.4
-      by_part (inr through) = along_bits schema area chosen cut asked through.along
+      by_part : Any (IsCutFor constraints part cut) constraints ⊎ IsCutThroughArea part chosen cut → HasOwnBits schema cut
+      by_part (inl found) = cut_bits part cut found.1 (subst (IsServable schema) found.3 (servable found.0 found.1 found.2)) found.4
+      by_part (inr through) = area_bits schema part cut chosen asked through
 
   -- a tree that is cut on has such cuts where it had them before
   pub own_more : (before after : List CutNode) → IsTree schema before → IsTree schema after → HasKept schema constraints chosen before after → HasNeededCuts schema constraints chosen before after →
@@ -199,27 +213,27 @@ all_left P xs ys each place d inside = subst P (get_or_append_left xs ys d place
 all_right : {X : Type 0} (P : X → Type 0) (xs ys : List X) → All P (xs ++ ys) → All P ys
 all_right P xs ys each place d inside = subst P (get_or-append-add xs ys place d) (each (length xs + place) d (let long = length-append xs ys in omega (arith, inside, long)))
 
-mark_formed : (constraints : List Constraint) (region box : Region) (mark : LeafMark) → length constraints ≤ 20 → IsSettledAs constraints region box mark → IsFormedMarkOf mark
-mark_formed constraints region box marks.Barren few settled = tt
-mark_formed constraints region box (marks.Class mask chosen) few settled =
+mark_formed : (constraints : List Constraint) (area : Area) (box : Region) (mark : LeafMark) → length constraints ≤ 20 → IsSettledAs constraints area box mark → IsFormedMarkOf mark
+mark_formed constraints area box marks.Barren few settled = tt
+mark_formed constraints area box (marks.Class mask chosen) few settled =
     let most : 2 ^ length constraints ≤ 2 ^ 20 = pow_mono few in
     let short = settled.short in
     omega (arith, short, most)
 
-module _ (schema : Schema) (formed : IsWellFormed schema) (constraints : List Constraint) (few : length constraints ≤ 20) (region : Region) where
-  formed_from : (k : ℕ) (box : Region) (shape : CutShape) → is_region_of schema box ≡ true → HasProperCuts box shape → HasOwnShape schema shape → All (IsSettled constraints region) (leaves_of box shape) →
+module _ (schema : Schema) (formed : IsWellFormed schema) (constraints : List Constraint) (few : length constraints ≤ 20) (area : Area) where
+  formed_from : (k : ℕ) (box : Region) (shape : CutShape) → is_region_of schema box ≡ true → HasProperCuts box shape → HasOwnShape schema shape → All (IsSettled constraints area) (leaves_of box shape) →
       All (IsFormedCutNode schema) (nodes_from k shape)
   formed_from k box (leaf mark) h proper own settled =
-      let here = All-head (IsSettled constraints region) (record { region = box; mark = mark }) [] settled in
-      All-cons (IsFormedCutNode schema) (forms.Leaf mark) [] (mark_formed constraints region box mark few here) (All-nil (IsFormedCutNode schema))
+      let here = All-head (IsSettled constraints area) (record { region = box; mark = mark }) [] settled in
+      All-cons (IsFormedCutNode schema) (forms.Leaf mark) [] (mark_formed constraints area box mark few here) (All-nil (IsFormedCutNode schema))
   formed_from k box (inner cut t u) h proper own settled =
       let parts = parts_regions schema box cut h proper.0 in
-      let first = formed_from (k + 1) (first_part box cut) t parts.0 proper.1 own.1 (all_left (IsSettled constraints region) (leaves_of (first_part box cut) t) (leaves_of (second_part box cut) u) settled) in
-      let second = formed_from (k + 1 + size_of t) (second_part box cut) u parts.1 proper.2 own.2 (all_right (IsSettled constraints region) (leaves_of (first_part box cut) t) (leaves_of (second_part box cut) u) settled) in
+      let first = formed_from (k + 1) (first_part box cut) t parts.0 proper.1 own.1 (all_left (IsSettled constraints area) (leaves_of (first_part box cut) t) (leaves_of (second_part box cut) u) settled) in
+      let second = formed_from (k + 1 + size_of t) (second_part box cut) u parts.1 proper.2 own.2 (all_right (IsSettled constraints area) (leaves_of (first_part box cut) t) (leaves_of (second_part box cut) u) settled) in
       All-cons (IsFormedCutNode schema) (forms.Inner cut (k + 1) (k + 1 + size_of t)) (nodes_from (k + 1) t ++ nodes_from (k + 1 + size_of t) u) (cut_formed schema box cut formed h proper.0 own.0)
       (All-append (IsFormedCutNode schema) (nodes_from (k + 1) t) (nodes_from (k + 1 + size_of t) u) first second)
 
-  pub tree_formed : (nodes : List CutNode) → IsSettledTree schema constraints region nodes → HasOwnShape schema (shape_of nodes) → IsFormedCutTree schema (record { nodes = nodes })
+  pub tree_formed : (nodes : List CutNode) → IsSettledTree schema constraints area nodes → HasOwnShape schema (shape_of nodes) → IsFormedCutTree schema (record { nodes = nodes })
   tree_formed nodes tree own = record {
     preorder = tree.preorder;
     nodes = subst (All (IsFormedCutNode schema)) (sym tree.preorder) (formed_from 0 (whole_region schema) (shape_of nodes) (whole_is_region schema formed) tree.proper own tree.settled);

@@ -4,20 +4,21 @@ use Rattle.std.proofs.lemmas.List.Elements.{All-more, All-weaker}
 use Rattle.pc_model.specs.declared.schema.Schema.{Schema}
 use Rattle.pc_model.specs.declared.constraint.Constraint.{Constraint}
 use Rattle.pc_model.specs.declared.region.Region.{Region}
+use Rattle.pc_model.specs.declared.area.Area.{Area}
 use Rattle.pc_model.specs.declared.tree.CutNode.{CutNode}
 use Rattle.pc_model.specs.declared.tree.CutNode.TheVariants as forms
 use Rattle.pc_cells_tree.specs.Linked.{IsTree, IsDividedFor, IsDone, HasKept, box_at, node_at}
 use Rattle.pc_cells_tree.proofs.TreeLaws.{refined_stays_divided}
 use Rattle.pc_group.specs.Trees.{IsInnerNode, KeepsInner}
 
-inner_done : (constraints : List Constraint) (chosen box : Region) (node : CutNode) → IsInnerNode node → IsDone constraints chosen box node
+inner_done : (constraints : List Constraint) (chosen : Area) (box : Region) (node : CutNode) → IsInnerNode node → IsDone constraints chosen box node
 inner_done constraints chosen box (forms.Leaf mark) inner = absurd inner
 inner_done constraints chosen box (forms.Inner cut first second) inner = tt
 
 pub keeps_itself : (nodes : List CutNode) → KeepsInner nodes nodes
 keeps_itself nodes = record { longer = omega arith; same = λ k inside inner. refl }
 
-keeps_inner : (schema : Schema) (constraints : List Constraint) (chosen : Region) (before after : List CutNode) → IsTree schema before → HasKept schema constraints chosen before after → KeepsInner before after
+keeps_inner : (schema : Schema) (constraints : List Constraint) (chosen : Area) (before after : List CutNode) → IsTree schema before → HasKept schema constraints chosen before after → KeepsInner before after
 keeps_inner schema constraints chosen before after tree kept = record {
   longer = kept.longer;
   same = λ k inside inner. kept.same tree.0 tree.1 k inside (inner_done constraints chosen (box_at tree.0 k) (node_at before k) inner);
@@ -31,14 +32,14 @@ keeps_on a b c first second = record {
       second.same k (omega (arith, inside, first.longer)) (subst IsInnerNode (sym kept) inner) ∙ kept;
 }
 
-pub keeps_more : (schema : Schema) (constraints : List Constraint) (chosen : Region) (start before after : List CutNode) → IsTree schema before → KeepsInner start before → HasKept schema constraints chosen before after → KeepsInner start after
+pub keeps_more : (schema : Schema) (constraints : List Constraint) (chosen : Area) (start before after : List CutNode) → IsTree schema before → KeepsInner start before → HasKept schema constraints chosen before after → KeepsInner start after
 keeps_more schema constraints chosen start before after tree first kept = keeps_on start before after first (keeps_inner schema constraints chosen before after tree kept)
 
--- a region more that a tree is divided for
-pub divided_more : (schema : Schema) (constraints : List Constraint) (regions : List Region) (i : ℕ) (region : Region) (before after : List CutNode) → i < length regions → region ≡ get_or regions i region →
-    IsTree schema before → HasKept schema constraints region before after → IsDividedFor schema constraints region after →
-    All (λ (r : Region). IsDividedFor schema constraints r before) (take i regions) → All (λ (r : Region). IsDividedFor schema constraints r after) (take (i + 1) regions)
-divided_more schema constraints regions i region before after inside is tree kept divided earlier =
-    let P = λ (r : Region). IsDividedFor schema constraints r after in
-    let still = All-weaker (λ (r : Region). IsDividedFor schema constraints r before) P (λ r h. refined_stays_divided schema constraints constraints region r before after tree kept h) (take i regions) earlier in
-    All-more P regions i region inside still (subst P is divided)
+-- a area more that a tree is divided for
+pub divided_more : (schema : Schema) (constraints : List Constraint) (areas : List Area) (i : ℕ) (area : Area) (before after : List CutNode) → i < length areas → area ≡ get_or areas i area →
+    IsTree schema before → HasKept schema constraints area before after → IsDividedFor schema constraints area after →
+    All (λ (r : Area). IsDividedFor schema constraints r before) (take i areas) → All (λ (r : Area). IsDividedFor schema constraints r after) (take (i + 1) areas)
+divided_more schema constraints areas i area before after inside is tree kept divided earlier =
+    let P = λ (r : Area). IsDividedFor schema constraints r after in
+    let still = All-weaker (λ (r : Area). IsDividedFor schema constraints r before) P (λ r h. refined_stays_divided schema constraints constraints area r before after tree kept h) (take i areas) earlier in
+    All-more P areas i area inside still (subst P is divided)

@@ -16,7 +16,7 @@ use Rattle.pc_proof.specs.declared.document.Block.{Block}
 use Rattle.pc_proof.specs.declared.document.BlockTree.{BlockTree}
 use Rattle.pc_proof.specs.declared.document.BlockTree.TheVariants as trees
 use Rattle.pc_proof.specs.Documents.{nodes_after}
-use Rattle.pc_group.specs.Wanted.{Wanted, region_of}
+use Rattle.pc_group.specs.Wanted.{Wanted, area_of}
 
 abbrev pub IsInnerNode : CutNode → Type 0
 IsInnerNode (forms.Leaf mark) = ⊥
@@ -27,11 +27,11 @@ pub record KeepsInner (before after : List CutNode) : Type 0 where
   pub longer : length before ≤ length after
   pub same : (k : ℕ) → k < length before → IsInnerNode (node_at before k) → node_at after k ≡ node_at before k
 
--- each leaf can be marked for the region of each block
+-- each leaf can be marked for the area of each block
 abbrev pub AreDividedFor : Schema → List Constraint → List CutNode → List Wanted → Type 0
-AreDividedFor schema constraints nodes blocks = All (λ (w : Wanted). IsDividedFor schema constraints (region_of w) nodes) blocks
+AreDividedFor schema constraints nodes blocks = All (λ (w : Wanted). IsDividedFor schema constraints (area_of w) nodes) blocks
 
--- ---- cuts along regions
+-- ---- cuts along areas
 
 -- the bits of a cut are of names of its column
 abbrev pub HasBitsOf : Cut → Kind → Type 0

@@ -1,14 +1,12 @@
 -- Which blocks queries want.
-use Rattle.std.specs.Prelude.{ℕ, zero, suc, pos, Bool, List, [], ◌∷◌, ◌++◌, length, map, filter, flat_map, Option, Some, None, slice_get}
+use Rattle.std.specs.Prelude.{ℕ, zero, suc, Bool, List, [], ◌∷◌, ◌++◌, length, map, filter, flat_map, Option, Some, None, slice_get}
 use Rattle.pc_model.specs.declared.schema.Kind.{Kind}
 use Rattle.pc_model.specs.declared.schema.Kind.TheVariants.{Int, Dec, Cat}
 use Rattle.pc_model.specs.declared.schema.Column.{Column}
 use Rattle.pc_model.specs.declared.schema.Schema.{Schema}
-use Rattle.pc_model.specs.declared.region.Region.{Region}
+use Rattle.pc_model.specs.declared.area.Area.{Area}
 use Rattle.pc_model.specs.declared.query.Query.{Query}
-use Rattle.pc_model.specs.Membership.{holds}
-use Rattle.pc_model.specs.CutTrees.{side_at}
-use Rattle.pc_proof.specs.Setting.{narrowed}
+use Rattle.pc_proof.specs.Setting.{narrowed, some_allows}
 
 -- a query, and the place of a name of its group column where it is grouped
 pub record Wanted : Type 0 where
@@ -29,11 +27,11 @@ unfoldable pub places_below : ℕ → List ℕ
 places_below zero = []
 places_below (suc n) = places_below n ++ n ∷ []
 
--- the region allows the name at a place of a column
-abbrev pub is_allowed : Region → ℕ → ℕ → Bool
-is_allowed region column place = holds (side_at region column) (pos place)
+-- the area allows the name at a place of a column
+abbrev pub is_allowed : Area → ℕ → ℕ → Bool
+is_allowed area column place = some_allows column place area
 
--- the names of the group column that the query's region allows, in the order of the schema
+-- the names of the group column that the query's area allows, in the order of the schema
 unfoldable pub allowed_names : Schema → Query → ℕ → List ℕ
 allowed_names schema query column = filter (is_allowed query.chosen column) (places_below (names_at (slice_get schema.columns column)))
 
@@ -55,6 +53,6 @@ wanted_by schema query = wanted_in schema query query.group
 unfoldable pub wanted : Schema → List Query → List Wanted
 wanted schema queries = flat_map (wanted_by schema) queries
 
--- the region of a block: the query's, of which a name of the group column keeps its part
-abbrev pub region_of : Wanted → Region
-region_of w = narrowed w.query.chosen w.query.group w.name
+-- the area of a block: the query's, of which a name of the group column keeps its part
+abbrev pub area_of : Wanted → Area
+area_of w = narrowed w.query.chosen w.query.group w.name

@@ -13,7 +13,7 @@ ghost use Rattle.pc_group.specs.Wanted.{wanted};
 
 use crate::answering::answer_queries;
 use crate::refining::refine_for_all;
-use crate::wanted::regions_of;
+use crate::wanted::areas_of;
 use pc_cells::Shared;
 use pc_model::{Constraint, Query, Schema};
 use pc_num::Memory;
@@ -46,8 +46,8 @@ pub fn answer_with(
     ensures written { IfOk result (λ document. AreWritten document.blocks) }
     ensures formed { HasOwnCuts schema.now shared.old.nodes → IfOk result (IsInForm schema.now) }
 {
-    let regions = regions_of(alloc, schema, queries)?;
-    refine_for_all(schema, constraints, regions.as_slice(), shared)?;
+    let areas = areas_of(alloc, schema, queries)?;
+    refine_for_all(schema, constraints, areas.as_slice(), shared)?;
     let written = answer_queries(alloc, schema, rows, constraints, queries, shared, nodes)?;
     Ok(Document {
         blocks: written.blocks,

@@ -6,7 +6,7 @@ use pc_num::Memory;
 use pc_proof::narrowed;
 use std::alloc::Global;
 
-/// The query without a group, over the part of its region that a name keeps.
+/// The query without a group, over the part of its area that a name keeps.
 pub(crate) fn query_for(alloc: Global, query: &Query, name: Option<u32>) -> Result<Query, Memory>
     requires { IfSome name (λ place. place < 128) }
     ensures { IfOk result (λ asked. asked ≡ query_for query.now name) }

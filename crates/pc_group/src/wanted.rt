@@ -1,80 +1,79 @@
 ghost use Rattle.std.specs.Prelude.{◌≡◌, ◌<◌, ◌≤◌, ◌++◌, ◌∷◌, [], map, All, IfOk, IfSome, Some, slice_get, if◌then◌else◌};
-ghost use Rattle.pc_model.specs.CutTrees.{side_at};
 ghost use Rattle.pc_model.specs.WellFormed.{IsWellFormed, HasFewNames};
-ghost use Rattle.pc_group.specs.Wanted.{allowed_names, is_allowed, names_at, names_in, region_of, wanted, wanted_by, wanted_of, wanted_as};
+ghost use Rattle.pc_group.specs.Wanted.{allowed_names, is_allowed, names_at, names_in, area_of, wanted, wanted_by, wanted_of, wanted_as};
 
 use pc_list::Seq;
-use pc_model::{Kind, Query, Region, Schema, Side};
+use pc_model::{Area, Kind, Query, Schema};
 use pc_num::Memory;
-use pc_proof::narrowed;
+use pc_proof::{narrowed, some_allows};
 use std::alloc::Global;
 
-/// The regions of the blocks that the queries want.
-#[tactic(auto, using(crate::proofs::Regions::by_query))]
-pub(crate) fn regions_of(
+/// The areas of the blocks that the queries want.
+#[tactic(auto, using(crate::proofs::Areas::by_query))]
+pub(crate) fn areas_of(
     alloc: Global,
     schema: &Schema,
     queries: &[Query],
-) -> Result<Seq<Region>, Memory>
+) -> Result<Seq<Area>, Memory>
     requires { IsWellFormed schema.now }
-    ensures { IfOk result (λ regions. regions ≡ map region_of (wanted schema.now queries.now)) }
+    ensures { IfOk result (λ areas. areas ≡ map area_of (wanted schema.now queries.now)) }
 {
-    let mut regions = Seq::new(alloc);
+    let mut areas = Seq::new(alloc);
     for query in queries {
-        regions = with_query(alloc, schema, query, regions)?;
+        areas = with_query(alloc, schema, query, areas)?;
     }
-    Ok(regions)
+    Ok(areas)
 }
 
-#[tactic(auto, using(crate::proofs::Regions::ungrouped, crate::proofs::Regions::grouped))]
+#[tactic(auto, using(crate::proofs::Areas::ungrouped, crate::proofs::Areas::grouped))]
 fn with_query(
     alloc: Global,
     schema: &Schema,
     query: &Query,
-    regions: Seq<Region>,
-) -> Result<Seq<Region>, Memory>
+    areas: Seq<Area>,
+) -> Result<Seq<Area>, Memory>
     requires { IsWellFormed schema.now }
-    ensures { IfOk result (λ more. more ≡ regions ++ map region_of (wanted_by schema.now query.now)) }
+    ensures { IfOk result (λ more. more ≡ areas ++ map area_of (wanted_by schema.now query.now)) }
 {
     let Some(column) = query.group else {
-        return with_region(alloc, query, None, regions);
+        return with_area(alloc, query, None, areas);
     };
     let names = allowed_names(alloc, schema, query, column)?;
-    with_names(alloc, query, names.as_slice(), regions)
+    with_names(alloc, query, names.as_slice(), areas)
 }
 
-#[tactic(auto, using(crate::proofs::Regions::by_name))]
+#[tactic(auto, using(crate::proofs::Areas::by_name))]
 fn with_names(
     alloc: Global,
     query: &Query,
     names: &[u32],
-    regions: Seq<Region>,
-) -> Result<Seq<Region>, Memory>
+    areas: Seq<Area>,
+) -> Result<Seq<Area>, Memory>
     requires { All (λ name. name < 128) names.now }
-    ensures { IfOk result (λ more. more ≡ regions ++ map region_of (map (wanted_of query.now) names.now)) }
+    ensures { IfOk result (λ more. more ≡ areas ++ map area_of (map (wanted_of query.now) names.now)) }
 {
-    let mut more = regions;
+    let mut more = areas;
     for name in names {
-        more = with_region(alloc, query, Some(*name), more)?;
+        more = with_area(alloc, query, Some(*name), more)?;
     }
     Ok(more)
 }
 
-fn with_region(
+fn with_area(
     alloc: Global,
     query: &Query,
     name: Option<u32>,
-    regions: Seq<Region>,
-) -> Result<Seq<Region>, Memory>
+    areas: Seq<Area>,
+) -> Result<Seq<Area>, Memory>
     requires { IfSome name (λ place. place < 128) }
-    ensures { IfOk result (λ more. more ≡ regions ++ region_of (wanted_as query.now name) ∷ []) }
+    ensures { IfOk result (λ more. more ≡ areas ++ area_of (wanted_as query.now name) ∷ []) }
 {
-    let mut more = regions;
+    let mut more = areas;
     more.push(narrowed(alloc, &query.chosen, query.group, name)?)?;
     Ok(more)
 }
 
-/// The places of the names of a column that the query's region allows, in their order.
+/// The places of the names of a column that the query's area allows, in their order.
 #[tactic(auto, using(crate::proofs::GroupNames::places))]
 pub(crate) fn allowed_names(
     alloc: Global,
@@ -93,30 +92,14 @@ pub(crate) fn allowed_names(
     Ok(names)
 }
 
-fn with_name(chosen: &Region, column: u8, place: u32, names: Seq<u32>) -> Result<Seq<u32>, Memory>
+fn with_name(chosen: &Area, column: u8, place: u32, names: Seq<u32>) -> Result<Seq<u32>, Memory>
     ensures { IfOk result (λ more. more ≡ names ++ (if is_allowed chosen.now column place then place ∷ [] else [])) }
 {
     let mut more = names;
-    if is_allowed(chosen, column, place) {
+    if some_allows(column, place, chosen) {
         more.push(place)?;
     }
     Ok(more)
-}
-
-fn is_allowed(chosen: &Region, column: u8, place: u32) -> bool
-    ensures { result ≡ is_allowed chosen.now column place }
-{
-    side_at(chosen, column).holds(i64::from(place))
-}
-
-/// No name where the region has no side for the column.
-fn side_at(chosen: &Region, column: u8) -> Side
-    ensures { result ≡ side_at chosen.now column }
-{
-    match chosen.sides.as_slice().get(column as usize) {
-        Some(side) => *side,
-        None => Side::Names { bits: 0 },
-    }
 }
 
 fn name_count(schema: &Schema, column: u8) -> u32

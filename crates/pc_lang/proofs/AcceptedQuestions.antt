@@ -8,22 +8,23 @@ use Rattle.pc_model.specs.declared.schema.Kind.{Kind}
 use Rattle.pc_model.specs.declared.schema.Kind.TheVariants.{Int, Dec, Cat}
 use Rattle.pc_model.specs.declared.schema.Column.{Column}
 use Rattle.pc_model.specs.declared.schema.Schema.{Schema}
-use Rattle.pc_model.specs.declared.region.Region.{Region}
+use Rattle.pc_model.specs.declared.area.Area.{Area}
 use Rattle.pc_model.specs.declared.query.Agg.{Agg}
 use Rattle.pc_model.specs.declared.query.Agg.TheVariants as aggs
 use Rattle.pc_model.specs.declared.query.Query.{Query}
 use Rattle.pc_model.specs.Accepted.{HasNames, IsColumnWhere, IsNumeric, IsQuery, Measures}
+use Rattle.pc_model.specs.Boxes.{IsAreaOf}
 use Rattle.pc_model.specs.Refusals.{◌>>=◌, Answers}
-use Rattle.pc_model.specs.Regions.{is_region_of, whole_region}
+use Rattle.pc_model.specs.Regions.{whole_area}
 use Rattle.pc_model.specs.WellFormed.{IsWellFormed}
-use Rattle.pc_lang_grammar.specs.declared.syntax.Part.{Part}
+use Rattle.pc_lang_grammar.specs.declared.syntax.Ways.{Ways}
 use Rattle.pc_lang_grammar.specs.declared.syntax.Measure.{Measure}
 use Rattle.pc_lang_grammar.specs.declared.syntax.Measure.TheVariants as measures
 use Rattle.pc_lang_grammar.specs.declared.syntax.Question.{Question}
 use Rattle.pc_lang.specs.Meaning.{chosen_of, grouping_of, has_names, is_numeric, measured, names_place, numeric_place, of_column, place_from, query, query_of, some_place}
 use Rattle.pc_lang.proofs.Bound.{bound, granted}
-use Rattle.pc_model.proofs.WholeDomain.{whole_is_region}
-use Rattle.pc_lang.proofs.RegionsOfParts.{is_region}
+use Rattle.pc_model.proofs.Areas.{whole_is_area}
+use Rattle.pc_lang.proofs.AreasOfParts.{is_area}
 
 -- a place among these columns, counted from a number, of a column of such a kind
 abbrev Within : (Kind → Type 0) → ℕ → List Column → ℕ → Type 0
@@ -84,9 +85,9 @@ is_measure schema (measures.Min name) found e = let p = of_numbers schema aggs.M
 is_measure schema (measures.Max name) found e = let p = of_numbers schema aggs.Max name found e in rw p.0 p.1
 is_measure schema (measures.Avg name) found e = let p = of_numbers schema aggs.Avg name found e in rw p.0 p.1
 
-is_chosen : (schema : Schema) (part : Option Part) (region : Region) → IsWellFormed schema → chosen_of schema part ≡ Ok region → is_region_of schema region ≡ true
-is_chosen schema None region formed e = let same : whole_region schema ≡ region = cc in subst (λ (r : Region). is_region_of schema r ≡ true) same (whole_is_region schema formed)
-is_chosen schema (Some part) region formed e = is_region schema part region formed e
+is_chosen : (schema : Schema) (ways : Option Ways) (found : Area) → IsWellFormed schema → chosen_of schema ways ≡ Ok found → IsAreaOf schema found
+is_chosen schema None found formed e = let same : whole_area schema ≡ found = cc in subst (IsAreaOf schema) same (whole_is_area schema formed)
+is_chosen schema (Some ways) found formed e = is_area schema ways found formed e
 
 is_group : (schema : Schema) (name : Option (List ℕ)) (group : Option ℕ) → grouping_of schema name ≡ Ok group → IfSome group (IsColumnWhere HasNames schema)
 is_group schema None group e = let same : None ≡ group = cc in subst (λ (g : Option ℕ). IfSome g (IsColumnWhere HasNames schema)) same tt
@@ -95,7 +96,7 @@ is_group schema (Some name) group e =
     let same : Some b.value ≡ group = (let gives = b.gives in cc) in
     subst (λ (g : Option ℕ). IfSome g (IsColumnWhere HasNames schema)) same (place_is has_names HasNames have_names schema name b.value b.is)
 
-abbrev after_chosen : Schema → Question → Agg × Option ℕ → Region → Result Query Reason
+abbrev after_chosen : Schema → Question → Agg × Option ℕ → Area → Result Query Reason
 after_chosen schema question measure chosen = grouping_of schema question.group >>= query measure chosen
 
 abbrev after_measure : Schema → Question → Agg × Option ℕ → Result Query Reason

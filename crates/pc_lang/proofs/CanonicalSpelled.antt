@@ -4,9 +4,8 @@ use Rattle.pc_num.specs.Put.{scaled_text}
 use Rattle.pc_model.specs.declared.schema.Schema.{Schema}
 use Rattle.pc_model.specs.declared.constraint.Constraint.{Constraint}
 use Rattle.pc_model.specs.declared.query.Query.{Query}
-use Rattle.pc_model.specs.Accepted.{AreConstraints, IsQuery, frequency_limit}
+use Rattle.pc_model.specs.Accepted.{AreConstraints, IsNameFor, IsQuery, frequency_limit}
 use Rattle.pc_model.specs.Boxes.{IsServable}
-use Rattle.pc_model.specs.Texts.{IsName}
 use Rattle.pc_model.specs.WellFormed.{IsSmall, IsWellFormed}
 use Rattle.pc_lang_tokens.specs.Texts.{are_spelled, is_number, is_spelled}
 use Rattle.pc_lang_grammar.specs.Grammar.{line_tokens, question_tokens}
@@ -14,7 +13,7 @@ use Rattle.pc_lang.specs.Canonical.{line_for, question_for}
 use Rattle.pc_lang.proofs.CanonicalTokens.{line_fits, lines_fit, question_fits}
 
 module _ (numbers : (value : ℤ) (scale : ℕ) → IsSmall value → is_number (scaled_text value scale) ≡ true) where
-  pub line_spelled : (schema : Schema) (c : Constraint) → IsWellFormed schema → IsServable schema c → c.most ≤ frequency_limit → IsName c.name → are_spelled (line_tokens (line_for schema c)) ≡ true
+  pub line_spelled : (schema : Schema) (c : Constraint) → IsWellFormed schema → IsServable schema c → c.most ≤ frequency_limit → IsNameFor c.when c.name → are_spelled (line_tokens (line_for schema c)) ≡ true
   unfolding are_spelled
   line_spelled = line_fits is_spelled (λ which. refl) (λ word. refl) (λ name is. is) (λ value scale small few. numbers value scale small)
 

@@ -1,6 +1,6 @@
 -- What holds of symbols, of words, of names and of the texts of small numbers, holds of all tokens of canonical lines and
 -- questions.
-use Rattle.std.proofs.Common.{◌≡◌, ℕ, zero, suc, ◌+◌, ◌≤◌, ◌++◌, Bool, true, List, [], ◌∷◌, length, get_or, All, ℤ, pos, refl, ◌∙◌, inl, inr, arith, Option, Some, None}
+use Rattle.std.proofs.Common.{◌≡◌, ℕ, zero, suc, ◌+◌, ◌≤◌, ◌++◌, Bool, true, List, [], ◌∷◌, length, get_or, map, All, ℤ, pos, refl, ◌∙◌, inl, inr, arith, Option, Some, None}
 use Rattle.std.specs.Prelude.{IfSome, IsSomeAnd, slice_get}
 use Rattle.std.specs.List.{list_all}
 use Rattle.std.specs.Cmp.Lexicographic.{pointwise}
@@ -16,12 +16,15 @@ use Rattle.pc_model.specs.declared.schema.Schema.{Schema}
 use Rattle.pc_model.specs.declared.region.Side.{Side}
 use Rattle.pc_model.specs.declared.region.Side.TheVariants.{Span, Names}
 use Rattle.pc_model.specs.declared.region.Region.{Region}
+use Rattle.pc_model.specs.declared.area.Area.{Area}
+use Rattle.pc_model.specs.declared.constraint.When.{When}
+use Rattle.pc_model.specs.declared.constraint.When.TheVariants.{Boxes, Outside}
 use Rattle.pc_model.specs.declared.constraint.Constraint.{Constraint}
 use Rattle.pc_model.specs.declared.query.Agg.{Agg}
 use Rattle.pc_model.specs.declared.query.Agg.TheVariants as aggs
 use Rattle.pc_model.specs.declared.query.Query.{Query}
-use Rattle.pc_model.specs.Accepted.{AreConstraints, HasNames, IsColumnWhere, IsNumeric, IsQuery, Measures, frequency_limit}
-use Rattle.pc_model.specs.Boxes.{IsServable}
+use Rattle.pc_model.specs.Accepted.{AreConstraints, HasNames, IsColumnWhere, IsNameFor, IsNumeric, IsQuery, Measures, frequency_limit}
+use Rattle.pc_model.specs.Boxes.{IsAreaOf, IsServable, IsWhenOf}
 use Rattle.pc_model.specs.Places.{is_place_of}
 use Rattle.pc_model.specs.Regions.{is_region_of, is_side_of, whole_side}
 use Rattle.pc_model.specs.Texts.{IsName, is_name}
@@ -34,8 +37,9 @@ use Rattle.pc_lang_tokens.specs.declared.token.Word.TheVariants as words
 use Rattle.pc_lang_tokens.specs.declared.token.Token.{Token}
 use Rattle.pc_lang_tokens.specs.declared.token.Token.TheVariants as tokens
 use Rattle.pc_lang_grammar.specs.declared.syntax.Atom.{Atom}
-use Rattle.pc_lang_grammar.specs.Grammar.{aggregate_tokens, atom_tokens, claim_tokens, frequency_tokens, further_atoms, further_names, group_tokens, joined_atoms, line_tokens, measure_tokens, part_tokens, question_tokens, where_tokens}
-use Rattle.pc_lang.specs.Canonical.{atoms_for, count_text, group_for, line_for, measure_for, name_at, names_claim, names_from, part_for, question_for, same_side, side_atoms, side_claim, span_claim, unless_whole}
+use Rattle.pc_lang_grammar.specs.Grammar.{aggregate_tokens, atom_tokens, claim_tokens, frequency_tokens, further_atoms, further_names, further_parts, group_tokens, head_tokens, joined_atoms, line_tokens, measure_tokens, part_tokens, question_tokens, ways_tokens, where_tokens}
+use Rattle.pc_lang.specs.Canonical.{are_whole, atoms_for, chosen_for, count_text, group_for, head_for, line_for, measure_for, name_at, names_claim, names_from, part_for, question_for, same_side, side_atoms, side_claim, span_claim, ways_for}
+use Rattle.pc_lang.proofs.AreasOfParts.{AreRegions}
 use Rattle.pc_lang.proofs.NamedSets.{some_name}
 use Rattle.pc_lang.proofs.QueriesAgain.{name_at-suc, name_at-zero}
 use Rattle.pc_lang.proofs.SidesAgain.{ends_small, set_of_test}
@@ -157,22 +161,47 @@ module _ (fits : Token → Bool) (of_symbol : (which : Symbol) → fits (tokens.
   unfolding is_region_of part_tokens
   part_fits schema region is e = joined_fit (atoms_for schema.columns region.sides) (atoms_fit schema.columns region.sides is.columns.all e)
 
+  further_parts_fit : (schema : Schema) (boxes : List Region) → IsWellFormed schema → AreRegions schema boxes → AllFit (further_parts (map (part_for schema) boxes))
+  further_parts_fit schema [] is are = unfold AllFit in refl
+  further_parts_fit schema (box ∷ rest) is are =
+      let first = part_tokens (part_for schema box) in
+      let others = further_parts (map (part_for schema) rest) in
+      let here = All-head (λ (b : Region). is_region_of schema b ≡ true) box rest are in
+      let later = All-tail (λ (b : Region). is_region_of schema b ≡ true) box rest are in
+      AllFit-word words.Or (first ++ others) (AllFit-append first others (part_fits schema box is here) (further_parts_fit schema rest is later))
+
+  boxes_fit : (schema : Schema) (boxes : List Region) → IsWellFormed schema → 1 ≤ length boxes → AreRegions schema boxes → AllFit (ways_tokens (ways_for schema boxes))
+  unfolding ways_tokens ways_for
+  boxes_fit schema [] is some are = absurd (omega arith)
+  boxes_fit schema (box ∷ rest) is some are =
+      let here = All-head (λ (b : Region). is_region_of schema b ≡ true) box rest are in
+      let later = All-tail (λ (b : Region). is_region_of schema b ≡ true) box rest are in
+      AllFit-append (part_tokens (part_for schema box)) (further_parts (map (part_for schema) rest)) (part_fits schema box is here) (further_parts_fit schema rest is later)
+
+  ways_fit : (schema : Schema) (area : Area) → IsWellFormed schema → IsAreaOf schema area → AllFit (ways_tokens (ways_for schema area.boxes))
+  ways_fit schema area is of = boxes_fit schema area.boxes is of.some of.each
+
+  head_fits : (schema : Schema) (name : List ℕ) (when : When) → IsWellFormed schema → IsWhenOf schema when → IsNameFor when name → AllFit (head_tokens (head_for schema name when))
+  unfolding head_tokens head_for
+  head_fits schema name (Boxes area) is of named =
+      let ways = ways_tokens (ways_for schema area.boxes) in
+      AllFit-name name (tokens.Symbol symbols.Colon ∷ ways) (is_name_of name named) (AllFit-symbol symbols.Colon ways (ways_fit schema area is of))
+  head_fits schema name Outside is of named = AllFit-word words.Outside [] (unfold AllFit in refl)
+
   counts_fit : (least most : ℕ) → least ≤ frequency_limit → most ≤ frequency_limit → AllFit (frequency_tokens (count_text least) (count_text most))
   unfolding AllFit
   counts_fit least most small_least small_most =
       rw (of_symbol symbols.Comma, of_number (pos least) 0 (omega arith) (omega arith), of_symbol symbols.Dots, of_number (pos most) 0 (omega arith) (omega arith)) refl
 
-  pub line_fits : (schema : Schema) (c : Constraint) → IsWellFormed schema → IsServable schema c → c.most ≤ frequency_limit → IsName c.name → list_all fits (line_tokens (line_for schema c)) ≡ true
+  pub line_fits : (schema : Schema) (c : Constraint) → IsWellFormed schema → IsServable schema c → c.most ≤ frequency_limit → IsNameFor c.when c.name → list_all fits (line_tokens (line_for schema c)) ≡ true
   unfolding AllFit line_tokens line_for
   line_fits schema c is servable small named =
       let ordered = servable.ordered in
-      let when = part_tokens (part_for schema c.when) in
+      let head = head_tokens (head_for schema c.name c.when) in
       let values = part_tokens (part_for schema c.values) in
       let counts = frequency_tokens (count_text c.least) (count_text c.most) in
-      let parts = AllFit-append when (tokens.Symbol symbols.Arrow ∷ values) (part_fits schema c.when is servable.when_region) (AllFit-symbol symbols.Arrow values (part_fits schema c.values is servable.value_region)) in
-      AllFit-name c.name (tokens.Symbol symbols.Colon ∷ (when ++ tokens.Symbol symbols.Arrow ∷ values) ++ counts) (is_name_of c.name named)
-      (AllFit-symbol symbols.Colon ((when ++ tokens.Symbol symbols.Arrow ∷ values) ++ counts)
-      (AllFit-append (when ++ tokens.Symbol symbols.Arrow ∷ values) counts parts (counts_fit c.least c.most (omega (arith, ordered)) small)))
+      let body = AllFit-append head (tokens.Symbol symbols.Arrow ∷ values) (head_fits schema c.name c.when is servable.when_area named) (AllFit-symbol symbols.Arrow values (part_fits schema c.values is servable.value_region)) in
+      AllFit-append (head ++ tokens.Symbol symbols.Arrow ∷ values) counts body (counts_fit c.least c.most (omega (arith, ordered)) small)
 
   -- the lines of constraints
   pub lines_fit : (schema : Schema) (constraints : List Constraint) → IsWellFormed schema → AreConstraints schema constraints → All (λ (c : Constraint). list_all fits (line_tokens (line_for schema c)) ≡ true) constraints
@@ -194,14 +223,12 @@ module _ (fits : Token → Bool) (of_symbol : (which : Symbol) → fits (tokens.
   measure_fits schema aggs.Max None is at = absurd at
   measure_fits schema aggs.Avg None is at = absurd at
 
-  where_fits : (atoms : List Atom) → AtomsFit atoms → AllFit (where_tokens (unless_whole atoms))
-  unfolding part_tokens
-  where_fits [] e = unfold AllFit in refl
-  where_fits (atom ∷ rest) e = AllFit-word words.Where (joined_atoms (atom ∷ rest)) (joined_fit (atom ∷ rest) e)
-
-  chosen_fits : (schema : Schema) (region : Region) → IsWellFormed schema → is_region_of schema region ≡ true → AllFit (where_tokens (unless_whole (atoms_for schema.columns region.sides)))
-  unfolding is_region_of
-  chosen_fits schema region is e = where_fits (atoms_for schema.columns region.sides) (atoms_fit schema.columns region.sides is.columns.all e)
+  chosen_fits : (schema : Schema) (area : Area) → IsWellFormed schema → IsAreaOf schema area → AllFit (where_tokens (chosen_for schema area))
+  chosen_fits schema area is of =
+      elim (cases_Bool (are_whole schema area.boxes)) [
+        | inl whole ↦ rw whole (unfold AllFit in refl)
+        | inr part ↦ rw part (AllFit-word words.Where (ways_tokens (ways_for schema area.boxes)) (ways_fit schema area is of))
+      ]
 
   group_fits : (schema : Schema) (group : Option ℕ) → IsWellFormed schema → IfSome group (IsColumnWhere HasNames schema) → AllFit (group_tokens (group_for schema group))
   unfolding AllFit
@@ -212,7 +239,7 @@ module _ (fits : Token → Bool) (of_symbol : (which : Symbol) → fits (tokens.
   unfolding AllFit question_tokens question_for
   question_fits schema q is asked =
       let measure = measure_tokens (measure_for schema q.agg q.column) in
-      let chosen = where_tokens (unless_whole (atoms_for schema.columns q.chosen.sides)) in
+      let chosen = where_tokens (chosen_for schema q.chosen) in
       let group = group_tokens (group_for schema q.group) in
       AllFit-append (measure ++ chosen) group
       (AllFit-append measure chosen (measure_fits schema q.agg q.column is asked.measured) (chosen_fits schema q.chosen is asked.chosen))

@@ -10,12 +10,13 @@ use Rattle.std.proofs.lemmas.List.Folds.{list_all-append}
 use Rattle.pc_num.specs.Put.{scaled_text}
 use Rattle.pc_model.specs.declared.schema.Schema.{Schema}
 use Rattle.pc_model.specs.declared.constraint.Constraint.{Constraint}
-use Rattle.pc_model.specs.Accepted.{AreConstraints, constraint_limit, frequency_limit}
+use Rattle.pc_model.specs.Accepted.{AreConstraints, IsNameFor, constraint_limit, frequency_limit}
 use Rattle.pc_model.specs.Boxes.{IsServable}
 use Rattle.pc_model.specs.WellFormed.{IsSmall, IsWellFormed}
 use Rattle.pc_lang.specs.Canonical.{count_text, line_for}
-use Rattle.pc_lang.specs.Meaning.{constraint_of, count_of, has_name, new_constraint}
+use Rattle.pc_lang.specs.Meaning.{constraint_of, count_of, has_name, name_of, new_constraint}
 use Rattle.pc_model.proofs.Lists.{AllPairs-head, AllPairs-tail, bytes_eq-other}
+use Rattle.pc_lang.proofs.AreasAgain.{head_named, when_again}
 use Rattle.pc_lang.proofs.RegionsAgain.{region_again}
 use Rattle.pc_model.proofs.NumberTexts.{number_again}
 
@@ -49,11 +50,18 @@ count_again n small =
     let is_small : IsSmall (pos n) = omega arith in
     rw (count_digits n small, number_again 0 (pos n) is_small, le-ltb frequency_limit n small) refl
 
-pub constraint_again : (schema : Schema) (c : Constraint) → IsWellFormed schema → IsServable schema c → c.most ≤ frequency_limit → new_constraint schema (line_for schema c) ≡ Ok c
+pub constraint_again : (schema : Schema) (c : Constraint) → IsWellFormed schema → IsServable schema c → c.most ≤ frequency_limit → IsNameFor c.when c.name → new_constraint schema (line_for schema c) ≡ Ok c
 unfolding new_constraint line_for
-constraint_again schema c is servable small =
+constraint_again schema c is servable small named =
     let ordered = servable.ordered in
-    rw (region_again schema c.when is servable.when_region, region_again schema c.values is servable.value_region, count_again c.least (omega (arith, ordered)), count_again c.most small, le-ltb c.most c.least ordered) refl
+    rw (
+      when_again schema c.name c.when is servable.when_area,
+      region_again schema c.values is servable.value_region,
+      count_again c.least (omega (arith, ordered)),
+      count_again c.most small,
+      le-ltb c.most c.least ordered,
+      head_named schema c.name c.when named,
+    ) refl
 
 All-middle : {X : Type 0} (P : X → Type 0) (before : List X) (x : X) (after : List X) → All P (before ++ x ∷ after) → P x
 All-middle P [] x after all = All-head P x after all
@@ -75,6 +83,7 @@ constraints_again schema before c after is are =
     let few = are.few in
     let size = length-append before (c ∷ after) in
     let room : nat_le constraint_limit (length before) ≡ false = lt-leb constraint_limit (length before) (omega (arith, few, size)) in
-    let own : has_name before (line_for schema c).name ≡ false = unfold line_for in new_name before c after are.own_names in
-    let again = constraint_again schema c is (All-middle (IsServable schema) before c after are.servable) (All-middle (λ (d : Constraint). d.most ≤ frequency_limit) before c after are.small) in
+    let named = All-middle (λ (d : Constraint). IsNameFor d.when d.name) before c after are.named in
+    let own : has_name before (name_of (line_for schema c).head) ≡ false = unfold line_for in rw (head_named schema c.name c.when named) (new_name before c after are.own_names) in
+    let again = constraint_again schema c is (All-middle (IsServable schema) before c after are.servable) (All-middle (λ (d : Constraint). d.most ≤ frequency_limit) before c after are.small) named in
     rw (room, own, again) refl

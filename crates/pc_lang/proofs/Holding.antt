@@ -1,18 +1,28 @@
--- A part means that all of its atoms hold.
-use Rattle.std.proofs.Common.{◌≡◌, ◌&&◌, Bool, true, false, ℤ, List, [], ◌∷◌, bytes_eq, Ok, refl, sym, ◌∙◌}
-use Rattle.std.specs.List.{list_all}
+-- A part means that all of its atoms hold, and parts joined by `or` that one of them does.
+use Rattle.std.proofs.Common.{◌≡◌, ◌&&◌, ◌||◌, Bool, true, false, ℤ, List, [], ◌∷◌, ◌++◌, bytes_eq, nat_le, length, Ok, refl, sym, ◌∙◌}
+use Rattle.std.specs.List.{list_all, list_any}
 use Rattle.std.specs.Cmp.Lexicographic.{pointwise}
 use Rattle.std.proofs.lemmas.Bool.{and_parts}
+use Rattle.std.proofs.lemmas.List.Folds.{list_any-append}
+use Rattle.pc_model.specs.declared.fault.Reason.TheVariants as reasons
 use Rattle.pc_model.specs.declared.schema.Column.{Column}
+use Rattle.pc_model.specs.declared.schema.Schema.{Schema}
+use Rattle.pc_model.specs.declared.row.Row.{Row}
 use Rattle.pc_model.specs.declared.region.Side.{Side}
+use Rattle.pc_model.specs.declared.region.Region.{Region}
+use Rattle.pc_model.specs.Boxes.{box_limit}
+use Rattle.pc_model.specs.Refusals.{◌>>=◌}
+use Rattle.pc_model.specs.WellFormed.{IsWellFormed}
 use Rattle.pc_model.specs.Membership.{has, holds, in_domain}
 use Rattle.pc_model.specs.Regions.{is_side_of, whole_region}
 use Rattle.pc_lang_grammar.specs.declared.syntax.Atom.{Atom}
+use Rattle.pc_lang_grammar.specs.declared.syntax.Part.{Part}
 use Rattle.pc_model.proofs.Bools.{and_last}
 use Rattle.pc_model.proofs.WholeDomain.{domain_holds, whole_are_sides}
-use Rattle.pc_lang.specs.Holding.{PartsHold, cells_hold, states}
+use Rattle.pc_lang.specs.Areas.{all_parts, area, area_of, regions_from}
+use Rattle.pc_lang.specs.Holding.{PartsHold, WaysHold, cells_hold, part_holds, states}
 use Rattle.pc_lang.specs.Parts.{narrowed, narrowed_by, narrowed_side, region, region_of}
-use Rattle.pc_lang.proofs.Bound.{bound}
+use Rattle.pc_lang.proofs.Bound.{bound, passed}
 use Rattle.pc_lang.proofs.Narrowing.{narrowed_induction}
 use Rattle.pc_lang.proofs.RegionsOfParts.{AreSides, narrowed_are_sides}
 use Rattle.pc_lang.proofs.StatedCells.{left_holds}
@@ -59,3 +69,35 @@ parts_hold schema part found formed e row =
     let same : record { sides = b.value } ≡ found = (let gives = b.gives in cc) in
     rw (← same) (atoms_hold schema.columns part.atoms (whole_region schema).sides b.value b.is (whole_are_sides schema.columns formed.columns.all) row.cells
     ∙ rw (domain_holds schema.columns row.cells) refl)
+
+or_none : (x d : Bool) → x ≡ (x || (d && false))
+or_none true d = refl
+or_none false true = refl
+or_none false false = refl
+
+or_one : (x d p q : Bool) → ((x || ((d && p) || false)) || (d && q)) ≡ (x || (d && (p || q)))
+or_one true d p q = refl
+or_one false true true q = refl
+or_one false true false q = refl
+or_one false false p q = refl
+
+abbrev some_has : List Region → Row → Bool
+some_has boxes row = list_any (λ (box : Region). has box row) boxes
+
+-- rows of the regions before, or rows of the domain of which some part holds
+regions_hold : (schema : Schema) (before : List Region) (parts : List Part) (found : List Region) → IsWellFormed schema → regions_from schema before parts ≡ Ok found → (row : Row) → some_has found row ≡ (some_has before row || (in_domain schema row && list_any (λ part. part_holds schema part row) parts))
+unfolding regions_from
+regions_hold schema before [] found formed e row = let same : before ≡ found = cc in rw (← same) (or_none (some_has before row) (in_domain schema row))
+regions_hold schema before (part ∷ rest) found formed e row =
+    let b = bound (λ (box : Region). regions_from schema (before ++ box ∷ []) rest) (region_of schema part) found e in
+    regions_hold schema (before ++ b.value ∷ []) rest found formed b.gives row
+    ∙ rw (list_any-append (λ (box : Region). has box row) before (b.value ∷ []), parts_hold schema part b.value formed b.is row)
+    (or_one (some_has before row) (in_domain schema row) (part_holds schema part row) (list_any (λ part. part_holds schema part row) rest))
+
+pub ways_hold : WaysHold
+unfolding area_of
+ways_hold schema ways found formed e row =
+    let few = passed (nat_le box_limit (length ways.others)) reasons.TooMany (regions_from schema [] (all_parts ways) >>= area) found e in
+    let b = bound area (regions_from schema [] (all_parts ways)) found few.1 in
+    let same : record { boxes = b.value } ≡ found = (let gives = b.gives in cc) in
+    rw (← same) (regions_hold schema [] (all_parts ways) b.value formed b.is row)

@@ -17,6 +17,9 @@ pub mod Bound
 pub mod Meeting
 pub mod Narrowing
 pub mod RegionsOfParts
+pub mod AreaPieces
+pub mod AreasOfParts
+pub mod AreasAgain
 pub mod AcceptedLines
 pub mod AcceptedQuestions
 pub mod Places

@@ -11,12 +11,10 @@ use Rattle.pc_model.specs.declared.query.Agg.TheVariants as aggs
 use Rattle.pc_model.specs.declared.query.Query.{Query}
 use Rattle.pc_model.specs.Accepted.{HasNames, IsColumnWhere, IsNumeric, IsQuery, Measures}
 use Rattle.pc_model.specs.WellFormed.{IsWellFormed}
-use Rattle.pc_lang_grammar.specs.declared.syntax.Atom.{Atom}
-use Rattle.pc_lang.specs.Canonical.{atoms_for, group_for, measure_for, name_at, question_for, unless_whole}
-use Rattle.pc_lang.specs.Meaning.{chosen_of, grouping_of, has_names, is_numeric, measured, names_place, numeric_place, place_from, query_of}
-use Rattle.pc_lang.specs.Parts.{narrowed_by, region_of}
+use Rattle.pc_lang.specs.Canonical.{group_for, measure_for, name_at, question_for}
+use Rattle.pc_lang.specs.Meaning.{grouping_of, has_names, is_numeric, measured, names_place, numeric_place, place_from, query_of}
 use Rattle.pc_model.proofs.Lists.{AllPairs-head, AllPairs-tail, bytes_eq-other, bytes_eq-same}
-use Rattle.pc_lang.proofs.RegionsAgain.{region_again}
+use Rattle.pc_lang.proofs.AreasAgain.{chosen_again}
 
 abbrev HaveOwnNames : Column → Column → Type 0
 HaveOwnNames a b = a.name ≢ b.name
@@ -101,15 +99,7 @@ grouped_again : (schema : Schema) (group : Option ℕ) → IsWellFormed schema �
 grouped_again schema None is at = refl
 grouped_again schema (Some place) is at = rw (names_again schema place is at) refl
 
--- no part is left out but one without an atom
-chosen_unless_whole : (schema : Schema) (atoms : List Atom) → chosen_of schema (unless_whole atoms) ≡ region_of schema (record { atoms = atoms })
-unfolding region_of
-chosen_unless_whole schema [] = unfold narrowed_by in refl
-chosen_unless_whole schema (atom ∷ rest) = refl
-
 pub query_again : (schema : Schema) (q : Query) → IsWellFormed schema → IsQuery schema q → query_of schema (question_for schema q) ≡ Ok q
 unfolding query_of question_for
 query_again schema q is asked =
-    let chosen : chosen_of schema (unless_whole (atoms_for schema.columns q.chosen.sides)) ≡ Ok q.chosen =
-    chosen_unless_whole schema (atoms_for schema.columns q.chosen.sides) ∙ region_again schema q.chosen is asked.chosen in
-    rw (measured_again schema q.agg q.column is asked.measured, chosen, grouped_again schema q.group is asked.grouped) refl
+    rw (measured_again schema q.agg q.column is asked.measured, chosen_again schema q.chosen is asked.chosen, grouped_again schema q.group is asked.grouped) refl

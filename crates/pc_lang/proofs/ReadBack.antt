@@ -11,20 +11,23 @@ use Rattle.std.proofs.lemmas.List.Splits.{slice_split-cons_yes, slice_split-cons
 use Rattle.std.proofs.lemmas.Str.{is_utf8-from_IsUtf8, IsUtf8-from_is_utf8, IsUtf8-append, IsUtf8-from_ascii, IsUtf8-nil}
 use Rattle.std.proofs.lemmas.Str.Ascii.{IsAscii-cons, IsAscii-nil}
 use Rattle.pc_model.specs.declared.schema.Schema.{Schema}
+use Rattle.pc_model.specs.declared.constraint.When.{When}
+use Rattle.pc_model.specs.declared.constraint.When.TheVariants.{Boxes, Outside}
 use Rattle.pc_model.specs.declared.constraint.Constraint.{Constraint}
 use Rattle.pc_model.specs.declared.query.Query.{Query}
 use Rattle.pc_model.specs.Accepted.{AreConstraints, IsQuery}
 use Rattle.pc_model.specs.Texts.{file_limit, text_of, without_mark}
 use Rattle.pc_model.specs.WellFormed.{IsWellFormed}
+use Rattle.pc_lang_tokens.specs.declared.token.Token.{Token}
 use Rattle.pc_lang_tokens.specs.Texts.{are_spelled, tokens_text}
-use Rattle.pc_lang_tokens.proofs.FirstBytes.{BeginsPlainly, tokens_text_begins}
+use Rattle.pc_lang_tokens.proofs.FirstBytes.{BeginsPlainly, outside_begins, tokens_text_begins}
 use Rattle.pc_lang_tokens.proofs.ScaledTexts.{numbers_are_spelled}
 use Rattle.pc_lang_tokens.proofs.TextBytes.{tokens_text_printed, tokens_text_is_text}
 use Rattle.pc_lang_tokens.proofs.TextSizes.{is_short, tokens_text_short, name_is_short, number_is_short, symbol_is_short, word_is_short}
 use Rattle.pc_lang_tokens.proofs.TokensBack.{tokens_read_back}
-use Rattle.pc_lang_grammar.specs.Grammar.{line_tokens, question_tokens}
+use Rattle.pc_lang_grammar.specs.Grammar.{head_tokens, line_tokens, question_tokens}
 use Rattle.pc_lang_grammar.proofs.Complete.{line_again, question_again}
-use Rattle.pc_lang.specs.Canonical.{constraint_text, constraints_text, line_for, query_text, question_for}
+use Rattle.pc_lang.specs.Canonical.{constraint_text, constraints_text, head_for, line_for, query_text, question_for}
 use Rattle.pc_lang.specs.Files.{line_from, question_from, constraint_from, constraints_from, constraints_of, is_passed_over, lines_of, query_from, with_line, without_return, ends_with_return}
 use Rattle.pc_lang.proofs.Appending.{text_none, text_more}
 use Rattle.pc_lang.proofs.CanonicalTokens.{lines_fit}
@@ -61,9 +64,14 @@ unfolding constraint_from line_from
 constraint_reads_back schema before c after formed accepted spelled =
     rw (tokens_read_back (line_tokens (line_for schema c)) spelled, line_again (line_for schema c)) (constraints_again schema before c after formed accepted)
 
+head_begins : (schema : Schema) (name : List ℕ) (when : When) (body rest : List Token) → BeginsPlainly (tokens_text ((head_tokens (head_for schema name when) ++ body) ++ rest))
+unfolding head_for head_tokens
+head_begins schema name (Boxes area) body rest = tokens_text_begins name _
+head_begins schema name Outside body rest = outside_begins _
+
 line_begins : (schema : Schema) (c : Constraint) → BeginsPlainly (line_text schema c)
 unfolding line_for line_tokens
-line_begins schema c = tokens_text_begins c.name _
+line_begins schema c = head_begins schema c.name c.when _ _
 
 not_passed_over : (text : List ℕ) → BeginsPlainly text → is_passed_over text ≡ false
 unfolding is_passed_over
@@ -146,10 +154,10 @@ unfolding without_mark constraint_text
 no_mark schema [] = rw (text_none schema) refl
 no_mark schema (c ∷ rest) = rw (text_more schema c rest, append_assoc) (plain_keeps (line_text schema c) (line_begins schema c) (10 ∷ constraints_text schema rest))
 
-short_lines : (schema : Schema) (constraints : List Constraint) → IsWellFormed schema → AreConstraints schema constraints → All (λ (c : Constraint). length (constraint_text schema c) ≤ 1000000) constraints
+short_lines : (schema : Schema) (constraints : List Constraint) → IsWellFormed schema → AreConstraints schema constraints → All (λ (c : Constraint). length (constraint_text schema c) ≤ 3000000) constraints
 short_lines schema constraints formed accepted =
     let short = lines_fit is_short symbol_is_short word_is_short name_is_short (λ value scale small few. number_is_short value scale few) schema constraints formed accepted in
-    λ k d inside. line_text_length schema (get_or constraints k d) formed (tokens_text_short (line_tokens (line_for schema (get_or constraints k d))) (short k d inside))
+    λ k d inside. line_text_length schema (get_or constraints k d) formed (accepted.servable k d inside) (tokens_text_short (line_tokens (line_for schema (get_or constraints k d))) (short k d inside))
 
 file_again : (schema : Schema) (constraints : List Constraint) → IsWellFormed schema → AreConstraints schema constraints → text_of (constraints_text schema constraints) ≡ Ok (constraints_text schema constraints)
 unfolding text_of

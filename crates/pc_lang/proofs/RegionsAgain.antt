@@ -21,7 +21,7 @@ use Rattle.pc_lang.specs.Parts.{narrowed, narrowed_by, region_of}
 use Rattle.pc_model.proofs.Lists.{AllPairs-head, AllPairs-tail, bytes_eq-other, bytes_eq-same}
 use Rattle.pc_lang.proofs.SidesAgain.{narrowed_again}
 
-abbrev whole_of : Column → Side
+abbrev pub whole_of : Column → Side
 whole_of column = whole_side column.kind
 
 abbrev is_side_in : Column → Side → Bool

@@ -1,5 +1,5 @@
 -- The canonical text of constraints and queries.
-use Rattle.std.specs.Prelude.{ℕ, ◌+◌, ◌-◌, ◌==◌, ◌&&◌, Bool, false, ℤ, pos, List, [], ◌∷◌, ◌++◌, flat_map, Option, Some, None, if◌then◌else◌}
+use Rattle.std.specs.Prelude.{ℕ, ◌+◌, ◌-◌, ◌==◌, ◌&&◌, Bool, false, ℤ, pos, List, [], ◌∷◌, ◌++◌, flat_map, map, Option, Some, None, if◌then◌else◌}
 use Rattle.std.specs.Cmp.Lexicographic.{pointwise}
 use Rattle.std.specs.Ordering.{int_eq}
 use Rattle.pc_num.specs.Put.{scaled_text}
@@ -10,6 +10,9 @@ use Rattle.pc_model.specs.declared.schema.Schema.{Schema}
 use Rattle.pc_model.specs.declared.region.Side.{Side}
 use Rattle.pc_model.specs.declared.region.Side.TheVariants.{Span, Names}
 use Rattle.pc_model.specs.declared.region.Region.{Region}
+use Rattle.pc_model.specs.declared.area.Area.{Area}
+use Rattle.pc_model.specs.declared.constraint.When.{When}
+use Rattle.pc_model.specs.declared.constraint.When.TheVariants.{Boxes, Outside}
 use Rattle.pc_model.specs.declared.constraint.Constraint.{Constraint}
 use Rattle.pc_model.specs.declared.query.Agg.{Agg}
 use Rattle.pc_model.specs.declared.query.Agg.TheVariants as aggs
@@ -21,6 +24,9 @@ use Rattle.pc_lang_grammar.specs.declared.syntax.Claim.{Claim}
 use Rattle.pc_lang_grammar.specs.declared.syntax.Claim.TheVariants as claims
 use Rattle.pc_lang_grammar.specs.declared.syntax.Atom.{Atom}
 use Rattle.pc_lang_grammar.specs.declared.syntax.Part.{Part}
+use Rattle.pc_lang_grammar.specs.declared.syntax.Ways.{Ways}
+use Rattle.pc_lang_grammar.specs.declared.syntax.Head.{Head}
+use Rattle.pc_lang_grammar.specs.declared.syntax.Head.TheVariants as heads
 use Rattle.pc_lang_grammar.specs.declared.syntax.Line.{Line}
 use Rattle.pc_lang_grammar.specs.declared.syntax.Measure.{Measure}
 use Rattle.pc_lang_grammar.specs.declared.syntax.Measure.TheVariants as measures
@@ -76,11 +82,20 @@ atoms_for (column ∷ columns) (side ∷ sides) = side_atoms column side ++ atom
 abbrev pub part_for : Schema → Region → Part
 part_for schema region = record { atoms = atoms_for schema.columns region.sides }
 
+-- the part of each box; no area is without one
+unfoldable pub ways_for : Schema → List Region → Ways
+ways_for schema [] = record { first = record { atoms = [] }; others = [] }
+ways_for schema (first ∷ others) = record { first = part_for schema first; others = map (part_for schema) others }
+
+unfoldable pub head_for : Schema → List ℕ → When → Head
+head_for schema name (Boxes area) = heads.Named name (ways_for schema area.boxes)
+head_for schema name Outside = heads.Outside
+
 abbrev pub count_text : ℕ → List ℕ
 count_text n = scaled_text (pos n) 0
 
 unfoldable pub line_for : Schema → Constraint → Line
-line_for schema c = record { name = c.name; when = part_for schema c.when; values = part_for schema c.values; least = count_text c.least; most = count_text c.most }
+line_for schema c = record { head = head_for schema c.name c.when; values = part_for schema c.values; least = count_text c.least; most = count_text c.most }
 
 -- a constraint is one line
 unfoldable pub constraint_text : Schema → Constraint → List ℕ
@@ -105,13 +120,15 @@ measure_for schema aggs.Min column = measures.Min (measured_name schema column)
 measure_for schema aggs.Max column = measures.Max (measured_name schema column)
 measure_for schema aggs.Avg column = measures.Avg (measured_name schema column)
 
--- a part, unless it has no atom
-abbrev pub unless_whole : List Atom → Option Part
-unless_whole [] = None
-unless_whole (atom ∷ atoms) = Some (record { atoms = atom ∷ atoms })
+-- one box, which is the whole domain
+abbrev pub are_whole : Schema → List Region → Bool
+are_whole schema [] = false
+are_whole schema (first ∷ []) = is_whole schema first
+are_whole schema (first ∷ second ∷ others) = false
 
-abbrev pub chosen_for : Schema → Region → Option Part
-chosen_for schema region = unless_whole (atoms_for schema.columns region.sides)
+-- the parts of an area that is not written as the whole domain
+abbrev pub chosen_for : Schema → Area → Option Ways
+chosen_for schema area = if are_whole schema area.boxes then None else Some (ways_for schema area.boxes)
 
 abbrev pub group_for : Schema → Option ℕ → Option (List ℕ)
 group_for schema None = None

@@ -1,6 +1,6 @@
 -- When an atom holds of a row, in plain words.
 use Rattle.std.specs.Prelude.{◌≡◌, ℕ, ◌&&◌, Bool, false, ℤ, pos, negsuc, int_le, int_lt, List, [], ◌∷◌, bytes_eq, slice_get, Option, Some, None, Result, Ok, Err, if◌then◌else◌}
-use Rattle.std.specs.List.{list_all}
+use Rattle.std.specs.List.{list_all, list_any}
 use Rattle.std.specs.Ordering.{int_eq}
 use Rattle.pc_model.specs.declared.fault.Reason.{Reason}
 use Rattle.pc_model.specs.declared.schema.Kind.{Kind}
@@ -9,13 +9,16 @@ use Rattle.pc_model.specs.declared.schema.Column.{Column}
 use Rattle.pc_model.specs.declared.schema.Schema.{Schema}
 use Rattle.pc_model.specs.declared.row.Row.{Row}
 use Rattle.pc_model.specs.declared.region.Region.{Region}
-use Rattle.pc_model.specs.Membership.{has, in_domain}
+use Rattle.pc_model.specs.declared.area.Area.{Area}
+use Rattle.pc_model.specs.Membership.{has, in_domain, is_in}
 use Rattle.pc_model.specs.Numbers.{number_of}
 use Rattle.pc_model.specs.WellFormed.{IsWellFormed}
 use Rattle.pc_lang_grammar.specs.declared.syntax.Claim.{Claim}
 use Rattle.pc_lang_grammar.specs.declared.syntax.Claim.TheVariants as claims
 use Rattle.pc_lang_grammar.specs.declared.syntax.Atom.{Atom}
 use Rattle.pc_lang_grammar.specs.declared.syntax.Part.{Part}
+use Rattle.pc_lang_grammar.specs.declared.syntax.Ways.{Ways}
+use Rattle.pc_lang.specs.Areas.{all_parts, area_of}
 use Rattle.pc_lang.specs.Claims.{is_among}
 use Rattle.pc_lang.specs.Parts.{region_of}
 
@@ -73,8 +76,18 @@ cells_hold (column ∷ columns) atom (cell ∷ cells) =
 abbrev pub atom_holds : Schema → Atom → Row → Bool
 atom_holds schema atom row = cells_hold schema.columns atom row.cells
 
--- the region of a part has the rows of the domain of which all atoms of the part hold
+-- all atoms of a part hold of the row
+abbrev pub part_holds : Schema → Part → Row → Bool
+part_holds schema part row = list_all (λ atom. atom_holds schema atom row) part.atoms
+
+-- the region of a part has the rows of the domain of which the part holds
 abbrev pub PartsHold : Type 0
 PartsHold =
     (schema : Schema) (part : Part) (region : Region) → IsWellFormed schema → region_of schema part ≡ Ok region →
-    (row : Row) → has region row ≡ (in_domain schema row && list_all (λ atom. atom_holds schema atom row) part.atoms)
+    (row : Row) → has region row ≡ (in_domain schema row && part_holds schema part row)
+
+-- the area of parts has the rows of the domain of which some part holds
+abbrev pub WaysHold : Type 0
+WaysHold =
+    (schema : Schema) (ways : Ways) (area : Area) → IsWellFormed schema → area_of schema ways ≡ Ok area →
+    (row : Row) → is_in area row ≡ (in_domain schema row && list_any (λ part. part_holds schema part row) (all_parts ways))

@@ -1,5 +1,6 @@
 pub mod Claims
 pub mod Parts
+pub mod Areas
 pub mod Meaning
 pub mod Files
 pub mod Canonical

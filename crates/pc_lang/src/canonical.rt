@@ -1,11 +1,12 @@
-ghost use Rattle.std.specs.Prelude.{◌≡◌, IfOk, Option};
-ghost use Rattle.pc_model.specs.WellFormed.{IsWellFormed};
-ghost use Rattle.pc_lang.specs.Canonical.{chosen_for, count_text, group_for, line_for, measure_for, measured_name, name_at, question_for, unless_whole};
+ghost use Rattle.std.specs.Prelude.{◌≡◌, IfOk, Option, map};
+ghost use Rattle.pc_model.specs.WellFormed.{HaveFewNames, IsWellFormed};
+ghost use Rattle.pc_lang.specs.Canonical.{are_whole, chosen_for, count_text, group_for, head_for, line_for, measure_for, measured_name, name_at, part_for, question_for, ways_for};
 
 use crate::canonical_part::{no_text, number_text, part_for};
-use pc_lang_grammar::{Line, Measure, Part, Question};
+use crate::whole::is_whole;
+use pc_lang_grammar::{Head, Line, Measure, Part, Question, Ways};
 use pc_list::{Seq, Text};
-use pc_model::{Agg, Column, Constraint, Query, Region, Schema};
+use pc_model::{Agg, Area, Column, Constraint, Query, Region, Schema, When};
 use pc_num::Memory;
 use std::alloc::Global;
 
@@ -20,12 +21,57 @@ pub(crate) fn line_for(
     ensures { IfOk result (λ line. line ≡ line_for schema.now constraint.now) }
 {
     Ok(Line {
-        name: constraint.name.clone()?,
-        when: part_for(alloc, schema, &constraint.when)?,
+        head: head_for(alloc, schema, &constraint.name, &constraint.when)?,
         values: part_for(alloc, schema, &constraint.values)?,
         least: count_text(alloc, constraint.least)?,
         most: count_text(alloc, constraint.most)?,
     })
+}
+
+#[tactic(auto, unfolding(crate::specs::Canonical::head_for))]
+fn head_for(alloc: Global, schema: &Schema, name: &Text, when: &When) -> Result<Head, Memory>
+    requires { IsWellFormed schema.now }
+    ensures { IfOk result (λ head. head ≡ head_for schema.now name.now when.now) }
+{
+    match when {
+        When::Boxes(area) => Ok(Head::Named {
+            name: name.clone()?,
+            when: ways_for(alloc, schema, area.boxes.as_slice())?,
+        }),
+        When::Outside => Ok(Head::Outside),
+    }
+}
+
+// The part of each box.
+#[tactic(auto, unfolding(crate::specs::Canonical::ways_for))]
+fn ways_for(alloc: Global, schema: &Schema, boxes: &[Region]) -> Result<Ways, Memory>
+    requires { IsWellFormed schema.now }
+    ensures { IfOk result (λ ways. ways ≡ ways_for schema.now boxes.now) }
+{
+    match boxes {
+        [first, others @ ..] => Ok(Ways {
+            first: part_for(alloc, schema, first)?,
+            others: parts_for(alloc, schema, others)?,
+        }),
+        [] => Ok(Ways {
+            first: Part {
+                atoms: Seq::new(alloc),
+            },
+            others: Seq::new(alloc),
+        }),
+    }
+}
+
+#[tactic(auto, using(crate::proofs::Appending::part_steps))]
+fn parts_for(alloc: Global, schema: &Schema, boxes: &[Region]) -> Result<Seq<Part>, Memory>
+    requires { IsWellFormed schema.now }
+    ensures { IfOk result (λ parts. parts ≡ map (part_for schema.now) boxes.now) }
+{
+    let mut parts = Seq::new(alloc);
+    for region in boxes {
+        parts.push(part_for(alloc, schema, region)?)?;
+    }
+    Ok(parts)
 }
 
 fn count_text(alloc: Global, count: u64) -> Result<Seq<u8>, Memory>
@@ -78,22 +124,27 @@ fn measured_name(alloc: Global, schema: &Schema, column: Option<u8>) -> Result<T
     }
 }
 
-// A part, unless the region is the whole domain.
-fn chosen_for(alloc: Global, schema: &Schema, region: &Region) -> Result<Option<Part>, Memory>
+// The parts of an area that is not written as the whole domain.
+#[tactic(auto, using(pc_model::proofs::FewNames::have_few_names))]
+fn chosen_for(alloc: Global, schema: &Schema, area: &Area) -> Result<Option<Ways>, Memory>
     requires { IsWellFormed schema.now }
-    ensures { IfOk result (λ chosen. chosen ≡ chosen_for schema.now region.now) }
+    ensures { IfOk result (λ chosen. chosen ≡ chosen_for schema.now area.now) }
 {
-    let part = part_for(alloc, schema, region)?;
-    Ok(unless_whole(part))
+    let boxes = area.boxes.as_slice();
+    if are_whole(schema, boxes) {
+        return Ok(None);
+    }
+    Ok(Some(ways_for(alloc, schema, boxes)?))
 }
 
-fn unless_whole(part: Part) -> Option<Part>
-    ensures { result ≡ unless_whole part.atoms }
+fn are_whole(schema: &Schema, boxes: &[Region]) -> bool
+    requires { HaveFewNames schema.now.columns }
+    ensures { result ≡ are_whole schema.now boxes.now }
 {
-    if part.atoms.is_empty() {
-        return None;
+    match boxes {
+        [region] => is_whole(schema, region),
+        _ => false,
     }
-    Some(part)
 }
 
 fn group_for(alloc: Global, schema: &Schema, group: Option<u8>) -> Result<Option<Text>, Memory>

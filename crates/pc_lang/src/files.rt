@@ -3,7 +3,7 @@ ghost use Rattle.pc_model.specs.Accepted.{AreConstraints, IsQuery};
 ghost use Rattle.pc_model.specs.Refusals.{Answers, Gives};
 ghost use Rattle.pc_model.specs.WellFormed.{IsWellFormed};
 ghost use Rattle.pc_lang.specs.Files.{without_return, is_passed_over, line_from, question_from, constraint_from, with_line, with_line_at, constraints_from, lines_of, constraints_of, query_from, query_at, line_number, constraint_lines, left_after};
-ghost use Rattle.pc_model.specs.Texts.{is_name};
+ghost use Rattle.pc_lang.specs.Meaning.{IsNamed};
 ghost use Rattle.pc_lang_tokens.specs.Lexing.{is_blank};
 
 use crate::meaning::constraint_of;
@@ -178,7 +178,7 @@ fn constraint_from(
 #[tactic(auto, using(crate::proofs::ReadTexts::line_steps), unfolding(crate::specs::Files::line_from))]
 fn line_from(alloc: Global, text: &[u8]) -> Result<Line, ReadStop>
     ensures answers { Answers result (line_from text.now) }
-    ensures named { IfOk result (λ line. is_name line.name ≡ true) }
+    ensures named { IfOk result (λ line. IsNamed line.head) }
 {
     let tokens = read_tokens(alloc, text)?;
     read_line(alloc, tokens.as_slice())

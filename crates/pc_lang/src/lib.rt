@@ -1,6 +1,7 @@
 //! The constraint language: what constraint files and queries stand for, and their canonical text.
 #![tactic(auto)]
 
+mod area;
 mod canonical;
 mod canonical_part;
 mod claim;
@@ -13,7 +14,7 @@ mod query;
 mod whole;
 
 pub use files::{line_number, read_constraints, read_query};
-pub use law::parts_hold;
+pub use law::{parts_hold, ways_hold};
 pub use pc_lang_tokens::{front_name, put_name};
 pub use put::{put_constraints, put_query};
 pub use whole::is_whole;

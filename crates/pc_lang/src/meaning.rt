@@ -3,12 +3,14 @@ ghost use Rattle.std.specs.Char.{is_ascii_digit};
 ghost use Rattle.std.specs.List.{list_all};
 ghost use Rattle.pc_model.specs.Refusals.{Answers};
 ghost use Rattle.pc_model.specs.WellFormed.{IsWellFormed};
-ghost use Rattle.pc_lang.specs.Meaning.{IsAcceptedAfter, at_most_limit, constraint_of, count_of, has_name, in_order, new_constraint};
+ghost use Rattle.pc_lang.specs.Meaning.{IsAcceptedAfter, at_most_limit, constraint_of, count_of, has_name, in_order, name_of, new_constraint, when_of};
 
+use crate::area::area_of;
+use crate::canonical_part::no_text;
 use crate::part::region_of;
-use pc_lang_grammar::Line;
+use pc_lang_grammar::{Head, Line};
 use pc_list::Text;
-use pc_model::{Constraint, ReadStop, Reason, Region, Schema, read_number};
+use pc_model::{Constraint, ReadStop, Reason, Region, Schema, When, read_number};
 use std::alloc::Global;
 
 const MOST_CONSTRAINTS: usize = 20;
@@ -43,10 +45,20 @@ fn checked_constraint(
     if MOST_CONSTRAINTS <= before.len() {
         return Err(ReadStop::Reason(Reason::TooMany));
     }
-    if has_name(before, line.name.as_bytes()) {
+    if is_named_already(before, &line.head) {
         return Err(ReadStop::Reason(Reason::RepeatedName));
     }
     new_constraint(alloc, schema, line)
+}
+
+// Whether the name of a line stands before it. That of the rows outside is the empty text.
+fn is_named_already(before: &[Constraint], head: &Head) -> bool
+    ensures { result ≡ has_name before.now (name_of head.now) }
+{
+    match head {
+        Head::Named { name, .. } => has_name(before, name.as_bytes()),
+        Head::Outside => has_name(before, &[]),
+    }
 }
 
 fn has_name(constraints: &[Constraint], name: &[u8]) -> bool
@@ -62,16 +74,36 @@ fn new_constraint(alloc: Global, schema: &Schema, line: Line) -> Result<Constrai
     requires well_formed { IsWellFormed schema.now }
     ensures { Answers result (new_constraint schema.now line) }
 {
-    let when = region_of(alloc, schema, &line.when)?;
+    let when = when_of(alloc, schema, &line.head)?;
     let values = region_of(alloc, schema, &line.values)?;
     let least = count_of(line.least.as_slice())?;
     let most = count_of(line.most.as_slice())?;
-    Ok(in_order(line.name, when, values, least, most)?)
+    Ok(in_order(own_name(alloc, line.head), when, values, least, most)?)
+}
+
+#[tactic(auto, unfolding(crate::specs::Meaning::when_of))]
+fn when_of(alloc: Global, schema: &Schema, head: &Head) -> Result<When, ReadStop>
+    requires { IsWellFormed schema.now }
+    ensures { Answers result (when_of schema.now head.now) }
+{
+    match head {
+        Head::Named { when, .. } => Ok(When::Boxes(area_of(alloc, schema, when)?)),
+        Head::Outside => Ok(When::Outside),
+    }
+}
+
+fn own_name(alloc: Global, head: Head) -> Text
+    ensures { result ≡ name_of head }
+{
+    match head {
+        Head::Named { name, .. } => name,
+        Head::Outside => no_text(alloc),
+    }
 }
 
 fn in_order(
     name: Text,
-    when: Region,
+    when: When,
     values: Region,
     least: u64,
     most: u64,

@@ -4,10 +4,10 @@ ghost use Rattle.pc_model.specs.Refusals.{Answers};
 ghost use Rattle.pc_model.specs.WellFormed.{IsWellFormed};
 ghost use Rattle.pc_lang.specs.Meaning.{chosen_of, grouping_of, has_names_as, measured, names_place, numeric_place, place_from, query_of};
 
-use crate::part::region_of;
-use pc_lang_grammar::{Measure, Part, Question};
+use crate::area::{area_of, whole_area};
+use pc_lang_grammar::{Measure, Question, Ways};
 use pc_list::Text;
-use pc_model::{Agg, Kind, Query, ReadStop, Reason, Region, Schema};
+use pc_model::{Agg, Area, Kind, Query, ReadStop, Reason, Schema};
 use std::alloc::Global;
 
 /// The query that a question stands for.
@@ -98,13 +98,13 @@ fn has_names_as(kind: &Kind, asked: bool) -> bool
 }
 
 #[tactic(auto, using(pc_model::proofs::FewNames::have_few_names))]
-fn chosen_of(alloc: Global, schema: &Schema, part: &Option<Part>) -> Result<Region, ReadStop>
+fn chosen_of(alloc: Global, schema: &Schema, ways: &Option<Ways>) -> Result<Area, ReadStop>
     requires well_formed { IsWellFormed schema.now }
-    ensures { Answers result (chosen_of schema.now part.now) }
+    ensures { Answers result (chosen_of schema.now ways.now) }
 {
-    match part {
-        Some(part) => region_of(alloc, schema, part),
-        None => schema.whole(alloc).map_err(|_| ReadStop::Memory),
+    match ways {
+        Some(ways) => area_of(alloc, schema, ways),
+        None => whole_area(alloc, schema).map_err(|_| ReadStop::Memory),
     }
 }
 

@@ -1,5 +1,5 @@
 -- What is spelled is read again.
-use Rattle.std.proofs.Common.{◌≡◌, ℕ, ◌-◌, Bool, true, false, List, [], ◌∷◌, ◌++◌, length, take, drop, Option, Some, None, Ok, refl, sym, ap, ◌∙◌, add-one, arith, append_assoc}
+use Rattle.std.proofs.Common.{◌≡◌, ℕ, ◌-◌, Bool, true, false, List, [], ◌∷◌, ◌++◌, length, drop, Option, Some, None, Ok, refl, sym, ap, ◌∙◌, add-one, arith, append_assoc}
 use Rattle.std.specs.List.{All, slice_split}
 use Rattle.std.proofs.lemmas.Bool.{false≢true}
 use Rattle.std.proofs.lemmas.List.{append-nil}
@@ -15,12 +15,15 @@ use Rattle.pc_lang_grammar.specs.declared.syntax.Claim.{Claim}
 use Rattle.pc_lang_grammar.specs.declared.syntax.Claim.TheVariants as claims
 use Rattle.pc_lang_grammar.specs.declared.syntax.Atom.{Atom}
 use Rattle.pc_lang_grammar.specs.declared.syntax.Part.{Part}
+use Rattle.pc_lang_grammar.specs.declared.syntax.Ways.{Ways}
+use Rattle.pc_lang_grammar.specs.declared.syntax.Head.{Head}
+use Rattle.pc_lang_grammar.specs.declared.syntax.Head.TheVariants as heads
 use Rattle.pc_lang_grammar.specs.declared.syntax.Line.{Line}
 use Rattle.pc_lang_grammar.specs.declared.syntax.Measure.{Measure}
 use Rattle.pc_lang_grammar.specs.declared.syntax.Measure.TheVariants as measures
 use Rattle.pc_lang_grammar.specs.declared.syntax.Question.{Question}
-use Rattle.pc_lang_grammar.specs.Grammar.{atom_tokens, claim_tokens, frequency_tokens, further_atoms, further_names, group_tokens, joined_atoms, line_tokens, measure_tokens, part_tokens, question_tokens, where_tokens}
-use Rattle.pc_lang_grammar.specs.Parsing.{aggregate, aggregate_at, atom_of, atoms_from, before_group, claim_of, frequency_of, group_of, halves_of, is_and, is_arrow, line_from, line_of, measure_at, names_after, part, part_of, question_from, question_of, where_of}
+use Rattle.pc_lang_grammar.specs.Grammar.{atom_tokens, claim_tokens, frequency_tokens, further_atoms, further_names, further_parts, group_tokens, head_tokens, joined_atoms, line_tokens, measure_tokens, part_tokens, question_tokens, ways_tokens, where_tokens}
+use Rattle.pc_lang_grammar.specs.Parsing.{aggregate, aggregate_at, atom_of, atoms_from, before_group, claim_of, frequency_of, group_of, halves_of, head_of, is_and, is_arrow, is_or, line_from, line_of, measure_at, names_after, part, part_of, parts_from, question_from, question_of, ways_from, ways_of, where_of}
 use Rattle.pc_lang_grammar.proofs.Splits.{drop_past, front_size, place_after}
 
 -- the tokens that an atom may have
@@ -51,13 +54,9 @@ no_and : (token : Token) → in_atom token ≡ true → is_and token ≡ false
 no_and (tokens.Reserved words.And) e = cc
 no_and other e = refl
 
-no_arrow : (token : Token) → in_part token ≡ true → is_arrow token ≡ false
-no_arrow (tokens.Symbol symbols.Arrow) e = cc
-no_arrow other e = refl
-
-no_by : (token : Token) → in_part token ≡ true → is_by token ≡ false
-no_by (tokens.Reserved words.By) e = cc
-no_by other e = refl
+no_or : (token : Token) → in_part token ≡ true → is_or token ≡ false
+no_or (tokens.Reserved words.Or) e = cc
+no_or other e = refl
 
 atom_in_part : (token : Token) → in_atom token ≡ true → in_part token ≡ true
 atom_in_part (tokens.Symbol symbols.Arrow) e = e
@@ -114,13 +113,57 @@ joined_in : (atoms : List Atom) → All InPart (joined_atoms atoms)
 joined_in [] = All-cons InPart (tokens.Reserved words.True) [] refl (All-nil InPart)
 joined_in (first ∷ others) = All-append InPart (atom_tokens first) (further_atoms others) (atom_in first) (further_in others)
 
-without_arrow : (part : Part) → All (λ token. is_arrow token ≡ false) (part_tokens part)
+part_in : (part : Part) → All InPart (part_tokens part)
 unfolding part_tokens
-without_arrow part = All-weaker InPart (λ token. is_arrow token ≡ false) no_arrow (joined_atoms part.atoms) (joined_in part.atoms)
+part_in part = joined_in part.atoms
 
-without_by : (part : Part) → All (λ token. is_by token ≡ false) (part_tokens part)
-unfolding part_tokens
-without_by part = All-weaker InPart (λ token. is_by token ≡ false) no_by (joined_atoms part.atoms) (joined_in part.atoms)
+without_or : (part : Part) → All (λ token. is_or token ≡ false) (part_tokens part)
+without_or part = All-weaker InPart (λ token. is_or token ≡ false) no_or (part_tokens part) (part_in part)
+
+-- the tokens that parts joined by `or` may have
+abbrev in_ways : Token → Bool
+in_ways (tokens.Reserved words.Or) = true
+in_ways other = in_part other
+
+abbrev InWays : Token → Type 0
+InWays token = in_ways token ≡ true
+
+part_in_ways : (token : Token) → in_part token ≡ true → in_ways token ≡ true
+part_in_ways (tokens.Reserved words.Or) e = refl
+part_in_ways other e = e
+
+ways_no_arrow : (token : Token) → in_ways token ≡ true → is_arrow token ≡ false
+ways_no_arrow (tokens.Symbol symbols.Arrow) e = cc
+ways_no_arrow other e = refl
+
+ways_no_by : (token : Token) → in_ways token ≡ true → is_by token ≡ false
+ways_no_by (tokens.Reserved words.By) e = cc
+ways_no_by other e = refl
+
+part_ways : (part : Part) → All InWays (part_tokens part)
+part_ways part = All-weaker InPart InWays part_in_ways (part_tokens part) (part_in part)
+
+further_ways : (parts : List Part) → All InWays (further_parts parts)
+further_ways [] = All-nil InWays
+further_ways (part ∷ parts) = All-append InWays (tokens.Reserved words.Or ∷ part_tokens part) (further_parts parts) (All-cons InWays (tokens.Reserved words.Or) (part_tokens part) refl (part_ways part)) (further_ways parts)
+
+ways_in : (ways : Ways) → All InWays (ways_tokens ways)
+unfolding ways_tokens
+ways_in ways = All-append InWays (part_tokens ways.first) (further_parts ways.others) (part_ways ways.first) (further_ways ways.others)
+
+abbrev NoArrow : Token → Type 0
+NoArrow token = is_arrow token ≡ false
+
+without_arrow : (head : Head) → All NoArrow (head_tokens head)
+unfolding head_tokens
+without_arrow (heads.Named name when) =
+    All-append NoArrow (tokens.Name name ∷ tokens.Symbol symbols.Colon ∷ []) (ways_tokens when)
+    (All-cons NoArrow (tokens.Name name) (tokens.Symbol symbols.Colon ∷ []) refl (All-cons NoArrow (tokens.Symbol symbols.Colon) [] refl (All-nil NoArrow)))
+    (All-weaker InWays NoArrow ways_no_arrow (ways_tokens when) (ways_in when))
+without_arrow heads.Outside = All-cons NoArrow (tokens.Reserved words.Outside) [] refl (All-nil NoArrow)
+
+without_by : (ways : Ways) → All (λ token. is_by token ≡ false) (ways_tokens ways)
+without_by ways = All-weaker InWays (λ token. is_by token ≡ false) ways_no_by (ways_tokens ways) (ways_in ways)
 
 names_again : (before names : List (List ℕ)) → names_after before (further_names names ++ (tokens.Symbol symbols.CloseSet ∷ [])) ≡ Ok (before ++ names)
 unfolding names_after
@@ -166,32 +209,50 @@ part_again : (part : Part) → part_of (part_tokens part) ≡ Ok part
 unfolding part_tokens
 part_again part = joined_again part.atoms
 
-halves_again : (when : Part) (after : List Token) → halves_of (part_tokens when ++ tokens.Symbol symbols.Arrow ∷ after) ≡ Ok (part_tokens when, after)
+parts_again : (before : List Part) (next : Part) (others : List Part) → parts_from before (slice_split is_or (part_tokens next ++ further_parts others)) ≡ Ok (before ++ next ∷ others)
+unfolding parts_from
+parts_again before next [] = rw (append-nil (part_tokens next), slice_split_none is_or (part_tokens next) (without_or next), part_again next) refl
+parts_again before next (after ∷ others) =
+    rw (slice_split_at is_or (part_tokens next) (tokens.Reserved words.Or) (part_tokens after ++ further_parts others) (without_or next) refl, part_again next)
+    (parts_again (before ++ next ∷ []) after others ∙ rw (append_assoc before (next ∷ []) (after ∷ others)) refl)
+
+pieces_again : (first : Part) (others : List Part) → ways_from (slice_split is_or (part_tokens first ++ further_parts others)) ≡ Ok (record { first = first; others = others })
+unfolding ways_from parts_from
+pieces_again first [] = rw (append-nil (part_tokens first), slice_split_none is_or (part_tokens first) (without_or first), part_again first) refl
+pieces_again first (next ∷ others) =
+    rw (slice_split_at is_or (part_tokens first) (tokens.Reserved words.Or) (part_tokens next ++ further_parts others) (without_or first) refl, part_again first, parts_again [] next others) refl
+
+ways_again : (ways : Ways) → ways_of (ways_tokens ways) ≡ Ok ways
+unfolding ways_of ways_tokens
+ways_again ways = pieces_again ways.first ways.others
+
+head_again : (head : Head) → head_of (head_tokens head) ≡ Ok head
+unfolding head_of head_tokens
+head_again (heads.Named name when) = rw (ways_again when) refl
+head_again heads.Outside = refl
+
+halves_again : (head : Head) (after : List Token) → halves_of (head_tokens head ++ tokens.Symbol symbols.Arrow ∷ after) ≡ Ok (head_tokens head, after)
 unfolding halves_of
-halves_again when after =
-    let place = place_after is_arrow (part_tokens when) (tokens.Symbol symbols.Arrow) after (without_arrow when) refl in
-    rw (place, take-append_seam (part_tokens when) (tokens.Symbol symbols.Arrow ∷ after), add-one, drop_past (part_tokens when) (tokens.Symbol symbols.Arrow) after) refl
+halves_again head after =
+    let place = place_after is_arrow (head_tokens head) (tokens.Symbol symbols.Arrow) after (without_arrow head) refl in
+    rw (place, take-append_seam (head_tokens head) (tokens.Symbol symbols.Arrow ∷ after), add-one, drop_past (head_tokens head) (tokens.Symbol symbols.Arrow) after) refl
 
 frequency_again : (least most : List ℕ) → frequency_of (frequency_tokens least most) ≡ Ok (least, most)
 unfolding frequency_of
 frequency_again least most = refl
 
-line_from_again : (line : Line) → line_from line.name (part_tokens line.when ++ tokens.Symbol symbols.Arrow ∷ part_tokens line.values) (frequency_tokens line.least line.most) ≡ Ok line
+line_from_again : (line : Line) → line_from (head_tokens line.head ++ tokens.Symbol symbols.Arrow ∷ part_tokens line.values) (frequency_tokens line.least line.most) ≡ Ok line
 unfolding line_from
-line_from_again line = rw (frequency_again line.least line.most, halves_again line.when (part_tokens line.values), part_again line.when, part_again line.values) refl
+line_from_again line = rw (frequency_again line.least line.most, halves_again line.head (part_tokens line.values), head_again line.head, part_again line.values) refl
 
-named_line : (name : List ℕ) (rest : List Token) → line_of (tokens.Name name ∷ tokens.Symbol symbols.Colon ∷ rest) ≡ line_from name (take (length rest - 4) rest) (drop (length rest - 4) rest)
+cut_line : (body frequency : List Token) → length frequency ≡ 4 → line_of (body ++ frequency) ≡ line_from body frequency
 unfolding line_of
-named_line name rest = refl
-
-cut_line : (name : List ℕ) (body frequency : List Token) → length frequency ≡ 4 → line_of (tokens.Name name ∷ tokens.Symbol symbols.Colon ∷ body ++ frequency) ≡ line_from name body frequency
-cut_line name body frequency four =
-    named_line name (body ++ frequency) ∙ rw (front_size body frequency 4 four, take-append_seam body frequency, drop-append_seam body frequency) refl
+cut_line body frequency four = rw (front_size body frequency 4 four, take-append_seam body frequency, drop-append_seam body frequency) refl
 
 pub line_again : (line : Line) → line_of (line_tokens line) ≡ Ok line
 unfolding line_tokens
 line_again line =
-    cut_line line.name (part_tokens line.when ++ tokens.Symbol symbols.Arrow ∷ part_tokens line.values) (frequency_tokens line.least line.most) (omega arith) ∙ line_from_again line
+    cut_line (head_tokens line.head ++ tokens.Symbol symbols.Arrow ∷ part_tokens line.values) (frequency_tokens line.least line.most) (omega arith) ∙ line_from_again line
 
 -- no bracket stands first
 abbrev opens : List Token → Bool
@@ -212,22 +273,22 @@ measure_again (measures.Min column) rest closed = refl
 measure_again (measures.Max column) rest closed = refl
 measure_again (measures.Avg column) rest closed = refl
 
-closed_after : (chosen : Option Part) (group : Option (List ℕ)) → opens (where_tokens chosen ++ group_tokens group) ≡ false
+closed_after : (chosen : Option Ways) (group : Option (List ℕ)) → opens (where_tokens chosen ++ group_tokens group) ≡ false
 closed_after None None = refl
 closed_after None (Some column) = refl
-closed_after (Some part) group = refl
+closed_after (Some ways) group = refl
 
-where_again : (chosen : Option Part) → where_of (where_tokens chosen) ≡ Ok chosen
+where_again : (chosen : Option Ways) → where_of (where_tokens chosen) ≡ Ok chosen
 unfolding where_of
 where_again None = refl
-where_again (Some part) = rw (part_again part) refl
+where_again (Some ways) = rw (ways_again ways) refl
 
 abbrev NotBy : Token → Type 0
 NotBy token = is_by token ≡ false
 
-where_without_by : (chosen : Option Part) → All NotBy (where_tokens chosen)
+where_without_by : (chosen : Option Ways) → All NotBy (where_tokens chosen)
 where_without_by None = All-nil NotBy
-where_without_by (Some part) = All-cons NotBy (tokens.Reserved words.Where) (part_tokens part) refl (without_by part)
+where_without_by (Some ways) = All-cons NotBy (tokens.Reserved words.Where) (ways_tokens ways) refl (without_by ways)
 
 no_group : (list : List Token) → All NotBy list → group_of list ≡ None
 unfolding group_of
@@ -235,14 +296,14 @@ no_group (tokens.Reserved words.Group ∷ tokens.Reserved words.By ∷ tokens.Na
     absurd (false≢true (sym (All-head NotBy (tokens.Reserved words.By) (tokens.Name column ∷ []) (All-tail NotBy (tokens.Reserved words.Group) (tokens.Reserved words.By ∷ tokens.Name column ∷ []) none))))
 no_group other none = refl
 
-group_again : (chosen : Option Part) (group : Option (List ℕ)) → group_of (drop (length (where_tokens chosen ++ group_tokens group) - 3) (where_tokens chosen ++ group_tokens group)) ≡ group
+group_again : (chosen : Option Ways) (group : Option (List ℕ)) → group_of (drop (length (where_tokens chosen ++ group_tokens group) - 3) (where_tokens chosen ++ group_tokens group)) ≡ group
 unfolding group_of
 group_again chosen None =
     rw (append-nil (where_tokens chosen)) (no_group (drop (length (where_tokens chosen) - 3) (where_tokens chosen)) (All-drop NotBy (length (where_tokens chosen) - 3) (where_tokens chosen) (where_without_by chosen)))
 group_again chosen (Some column) =
     rw (front_size (where_tokens chosen) (group_tokens (Some column)) 3 (omega arith), drop-append_seam (where_tokens chosen) (group_tokens (Some column))) refl
 
-before_again : (chosen : Option Part) (group : Option (List ℕ)) → before_group group (where_tokens chosen ++ group_tokens group) ≡ where_tokens chosen
+before_again : (chosen : Option Ways) (group : Option (List ℕ)) → before_group group (where_tokens chosen ++ group_tokens group) ≡ where_tokens chosen
 before_again chosen None = append-nil (where_tokens chosen)
 before_again chosen (Some column) =
     rw (front_size (where_tokens chosen) (group_tokens (Some column)) 3 (omega arith)) (take-append_seam (where_tokens chosen) (group_tokens (Some column)))

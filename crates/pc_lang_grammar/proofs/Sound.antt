@@ -11,9 +11,11 @@ use Rattle.pc_lang_tokens.specs.declared.token.Word.TheVariants as words
 use Rattle.pc_lang_tokens.specs.declared.token.Token.{Token}
 use Rattle.pc_lang_tokens.specs.declared.token.Token.TheVariants as tokens
 use Rattle.pc_lang_grammar.specs.declared.syntax.Atom.{Atom}
+use Rattle.pc_lang_grammar.specs.declared.syntax.Part.{Part}
+use Rattle.pc_lang_grammar.specs.declared.syntax.Head.TheVariants as heads
 use Rattle.pc_lang_grammar.specs.declared.syntax.Measure.{Measure}
-use Rattle.pc_lang_grammar.specs.Grammar.{aggregate_tokens, atom_tokens, claim_tokens, frequency_tokens, further_atoms, further_names, group_tokens, joined_atoms, line_tokens, measure_tokens, part_tokens, question_tokens, where_tokens}
-use Rattle.pc_lang_grammar.specs.Parsing.{Found, aggregate, aggregate_at, among, atom, atom_of, atoms_from, before_group, claim_of, frequency_of, group_of, halves_of, is_and, is_arrow, line_from, line_of, measure_at, names_after, part, part_of, question_from, question_of, where_of}
+use Rattle.pc_lang_grammar.specs.Grammar.{aggregate_tokens, atom_tokens, claim_tokens, frequency_tokens, further_atoms, further_names, further_parts, group_tokens, head_tokens, joined_atoms, line_tokens, measure_tokens, part_tokens, question_tokens, ways_tokens, where_tokens}
+use Rattle.pc_lang_grammar.specs.Parsing.{Found, aggregate, aggregate_at, among, atom, atom_of, atoms_from, before_group, claim_of, frequency_of, group_of, halves_of, head_of, is_and, is_arrow, is_or, line_from, line_of, measure_at, names_after, part, part_of, parts_from, question_from, question_of, ways_from, ways_of, where_of}
 use Rattle.pc_lang_grammar.proofs.Splits.{around_first, pieces_join}
 
 -- what is found is spelled by the list, or nothing is found since it is unexpected
@@ -99,6 +101,47 @@ unfolding part_of part_tokens
 part_spelled (tokens.Reserved words.True ∷ []) = refl
 part_spelled other = pieces_spelled other
 
+abbrev or_pieces : List (List Token) → List Token
+or_pieces pieces = flat_map (λ piece. tokens.Reserved words.Or ∷ piece) pieces
+
+part_more : (before : List Part) (found : Part) (piece rest : List Token) → part_tokens found ≡ piece → further_parts (before ++ found ∷ []) ++ rest ≡ further_parts before ++ (tokens.Reserved words.Or ∷ (piece ++ rest))
+part_more before found piece rest e =
+    rw (flat_map-append (λ (part : Part). tokens.Reserved words.Or ∷ part_tokens part) before (found ∷ []), append-nil (part_tokens found), e) (append_assoc (further_parts before) (tokens.Reserved words.Or ∷ piece) rest)
+
+parts_spelled : (before : List Part) (pieces : List (List Token)) → Spells further_parts (further_parts before ++ or_pieces pieces) (parts_from before pieces)
+unfolding parts_from
+parts_spelled before [] = sym (append-nil (further_parts before))
+parts_spelled before (piece ∷ rest) =
+    chained part_tokens further_parts piece (further_parts before ++ or_pieces (piece ∷ rest)) (λ found. parts_from (before ++ found ∷ []) rest) (part_of piece) (part_spelled piece)
+    (λ found e. moved further_parts (further_parts (before ++ found ∷ []) ++ or_pieces rest) (further_parts before ++ or_pieces (piece ∷ rest)) (parts_from (before ++ found ∷ []) rest) (part_more before found piece (or_pieces rest) e) (parts_spelled (before ++ found ∷ []) rest))
+
+only_or : (token : Token) → is_or token ≡ true → token ≡ tokens.Reserved words.Or
+only_or (tokens.Reserved words.Or) e = refl
+only_or other e = cc
+
+after_sign : (sign : Token) (one other : List Token) → sign ∷ one ≡ sign ∷ other → one ≡ other
+after_sign sign one other e = cc
+
+-- what follows an `or` in pieces that are joined so
+ways_from_spelled : (pieces : List (List Token)) (list : List Token) → or_pieces pieces ≡ tokens.Reserved words.Or ∷ list → Spells ways_tokens list (ways_from pieces)
+unfolding ways_from ways_tokens
+ways_from_spelled [] list e = cc
+ways_from_spelled (piece ∷ rest) list e =
+    chained part_tokens ways_tokens piece list _ (part_of piece) (part_spelled piece)
+    (λ first f. chained further_parts ways_tokens (or_pieces rest) list _ (parts_from [] rest) (parts_spelled [] rest)
+    (λ others g. rw (f, g) (after_sign (tokens.Reserved words.Or) (piece ++ or_pieces rest) list e)))
+
+ways_spelled : (list : List Token) → Spells ways_tokens list (ways_of list)
+unfolding ways_of
+ways_spelled list = ways_from_spelled (slice_split is_or list) list (pieces_join is_or (tokens.Reserved words.Or) list only_or)
+
+head_spelled : (list : List Token) → Spells head_tokens list (head_of list)
+unfolding head_of head_tokens
+head_spelled (tokens.Name name ∷ tokens.Symbol symbols.Colon ∷ rest) =
+    chained ways_tokens head_tokens rest (tokens.Name name ∷ tokens.Symbol symbols.Colon ∷ rest) (λ when. Ok (heads.Named name when)) (ways_of rest) (ways_spelled rest) (λ when e. rw e refl)
+head_spelled (tokens.Reserved words.Outside ∷ []) = refl
+head_spelled other = refl
+
 abbrev halves_tokens : List Token × List Token → List Token
 halves_tokens halves = halves.0 ++ tokens.Symbol symbols.Arrow ∷ halves.1
 
@@ -122,22 +165,20 @@ unfolding frequency_of
 frequency_spelled (tokens.Symbol symbols.Comma ∷ tokens.Number least ∷ tokens.Symbol symbols.Dots ∷ tokens.Number most ∷ []) = refl
 frequency_spelled other = refl
 
-line_from_spelled : (name : List ℕ) (body frequency : List Token) → Spells line_tokens (tokens.Name name ∷ tokens.Symbol symbols.Colon ∷ body ++ frequency) (line_from name body frequency)
+line_from_spelled : (body frequency : List Token) → Spells line_tokens (body ++ frequency) (line_from body frequency)
 unfolding line_from line_tokens
-line_from_spelled name body frequency =
-    chained counts_tokens line_tokens frequency (tokens.Name name ∷ tokens.Symbol symbols.Colon ∷ body ++ frequency) _ (frequency_of frequency) (frequency_spelled frequency)
-    (λ counts e. chained halves_tokens line_tokens body (tokens.Name name ∷ tokens.Symbol symbols.Colon ∷ body ++ frequency) _ (halves_of body) (halves_spelled body)
-    (λ halves f. chained part_tokens line_tokens halves.0 (tokens.Name name ∷ tokens.Symbol symbols.Colon ∷ body ++ frequency) _ (part_of halves.0) (part_spelled halves.0)
-    (λ when g. chained part_tokens line_tokens halves.1 (tokens.Name name ∷ tokens.Symbol symbols.Colon ∷ body ++ frequency) _ (part_of halves.1) (part_spelled halves.1)
+line_from_spelled body frequency =
+    chained counts_tokens line_tokens frequency (body ++ frequency) _ (frequency_of frequency) (frequency_spelled frequency)
+    (λ counts e. chained halves_tokens line_tokens body (body ++ frequency) _ (halves_of body) (halves_spelled body)
+    (λ halves f. chained head_tokens line_tokens halves.0 (body ++ frequency) _ (head_of halves.0) (head_spelled halves.0)
+    (λ head g. chained part_tokens line_tokens halves.1 (body ++ frequency) _ (part_of halves.1) (part_spelled halves.1)
     (λ values h. rw (e, g, h, f) refl))))
 
 pub line_spelled : (list : List Token) → Spells line_tokens list (line_of list)
 unfolding line_of
-line_spelled (tokens.Name name ∷ tokens.Symbol symbols.Colon ∷ rest) =
-    let whole = take-append-drop (length rest - 4) rest in
-    moved line_tokens (tokens.Name name ∷ tokens.Symbol symbols.Colon ∷ take (length rest - 4) rest ++ drop (length rest - 4) rest) (tokens.Name name ∷ tokens.Symbol symbols.Colon ∷ rest) (line_from name (take (length rest - 4) rest) (drop (length rest - 4) rest))
-    (rw whole refl) (line_from_spelled name (take (length rest - 4) rest) (drop (length rest - 4) rest))
-line_spelled other = refl
+line_spelled list =
+    moved line_tokens (take (length list - 4) list ++ drop (length list - 4) list) list (line_from (take (length list - 4) list) (drop (length list - 4) list)) (take-append-drop (length list - 4) list)
+    (line_from_spelled (take (length list - 4) list) (drop (length list - 4) list))
 
 aggregate_spelled : (word : Word) (column : List ℕ) → Spells measure_tokens (aggregate_tokens word column) (aggregate word column)
 unfolding aggregate measure_tokens
@@ -167,7 +208,7 @@ where_spelled : (list : List Token) → Spells where_tokens list (where_of list)
 unfolding where_of
 where_spelled [] = refl
 where_spelled (tokens.Reserved words.Where ∷ rest) =
-    chained part_tokens where_tokens rest (tokens.Reserved words.Where ∷ rest) (λ part. Ok (Some part)) (part_of rest) (part_spelled rest) (λ part e. rw e refl)
+    chained ways_tokens where_tokens rest (tokens.Reserved words.Where ∷ rest) (λ ways. Ok (Some ways)) (ways_of rest) (ways_spelled rest) (λ ways e. rw e refl)
 where_spelled other = refl
 
 -- the tokens of a `group by`, if they are one

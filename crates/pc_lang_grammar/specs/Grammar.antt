@@ -9,6 +9,9 @@ use Rattle.pc_lang_grammar.specs.declared.syntax.Claim.{Claim}
 use Rattle.pc_lang_grammar.specs.declared.syntax.Claim.TheVariants as claims
 use Rattle.pc_lang_grammar.specs.declared.syntax.Atom.{Atom}
 use Rattle.pc_lang_grammar.specs.declared.syntax.Part.{Part}
+use Rattle.pc_lang_grammar.specs.declared.syntax.Ways.{Ways}
+use Rattle.pc_lang_grammar.specs.declared.syntax.Head.{Head}
+use Rattle.pc_lang_grammar.specs.declared.syntax.Head.TheVariants as heads
 use Rattle.pc_lang_grammar.specs.declared.syntax.Line.{Line}
 use Rattle.pc_lang_grammar.specs.declared.syntax.Measure.{Measure}
 use Rattle.pc_lang_grammar.specs.declared.syntax.Measure.TheVariants as measures
@@ -45,15 +48,26 @@ joined_atoms (first ∷ others) = atom_tokens first ++ further_atoms others
 unfoldable pub part_tokens : Part → List Token
 part_tokens part = joined_atoms part.atoms
 
+-- each further part after an `or`
+abbrev pub further_parts : List Part → List Token
+further_parts parts = flat_map (λ (part : Part). tokens.Reserved words.Or ∷ part_tokens part) parts
+
+-- parts joined by `or`
+unfoldable pub ways_tokens : Ways → List Token
+ways_tokens ways = part_tokens ways.first ++ further_parts ways.others
+
+-- a name and its parts, or `outside`
+unfoldable pub head_tokens : Head → List Token
+head_tokens (heads.Named name when) = tokens.Name name ∷ tokens.Symbol symbols.Colon ∷ ways_tokens when
+head_tokens heads.Outside = tokens.Reserved words.Outside ∷ []
+
 -- how many rows there may be
 abbrev pub frequency_tokens : List ℕ → List ℕ → List Token
 frequency_tokens least most = tokens.Symbol symbols.Comma ∷ tokens.Number least ∷ tokens.Symbol symbols.Dots ∷ tokens.Number most ∷ []
 
 -- the line of a constraint
 unfoldable pub line_tokens : Line → List Token
-line_tokens line =
-    tokens.Name line.name ∷ tokens.Symbol symbols.Colon
-    ∷ part_tokens line.when ++ tokens.Symbol symbols.Arrow ∷ part_tokens line.values ++ frequency_tokens line.least line.most
+line_tokens line = (head_tokens line.head ++ tokens.Symbol symbols.Arrow ∷ part_tokens line.values) ++ frequency_tokens line.least line.most
 
 -- an aggregate of a column
 abbrev pub aggregate_tokens : Word → List ℕ → List Token
@@ -67,10 +81,10 @@ measure_tokens (measures.Min column) = aggregate_tokens words.Min column
 measure_tokens (measures.Max column) = aggregate_tokens words.Max column
 measure_tokens (measures.Avg column) = aggregate_tokens words.Avg column
 
--- `where` and a part, or nothing
-abbrev pub where_tokens : Option Part → List Token
+-- `where` and parts, or nothing
+abbrev pub where_tokens : Option Ways → List Token
 where_tokens None = []
-where_tokens (Some part) = tokens.Reserved words.Where ∷ part_tokens part
+where_tokens (Some ways) = tokens.Reserved words.Where ∷ ways_tokens ways
 
 -- `group by` and a column, or nothing
 abbrev pub group_tokens : Option (List ℕ) → List Token

@@ -13,6 +13,9 @@ use Rattle.pc_lang_grammar.specs.declared.syntax.Claim.{Claim}
 use Rattle.pc_lang_grammar.specs.declared.syntax.Claim.TheVariants as claims
 use Rattle.pc_lang_grammar.specs.declared.syntax.Atom.{Atom}
 use Rattle.pc_lang_grammar.specs.declared.syntax.Part.{Part}
+use Rattle.pc_lang_grammar.specs.declared.syntax.Ways.{Ways}
+use Rattle.pc_lang_grammar.specs.declared.syntax.Head.{Head}
+use Rattle.pc_lang_grammar.specs.declared.syntax.Head.TheVariants as heads
 use Rattle.pc_lang_grammar.specs.declared.syntax.Line.{Line}
 use Rattle.pc_lang_grammar.specs.declared.syntax.Measure.{Measure}
 use Rattle.pc_lang_grammar.specs.declared.syntax.Measure.TheVariants as measures
@@ -67,6 +70,33 @@ unfoldable pub part_of : List Token → Found Part
 part_of (tokens.Reserved words.True ∷ []) = part []
 part_of other = atoms_from [] (slice_split is_and other) >>= part
 
+abbrev pub is_or : Token → Bool
+is_or (tokens.Reserved words.Or) = true
+is_or other = false
+
+-- the parts of pieces, after those before
+unfoldable pub parts_from : List Part → List (List Token) → Found (List Part)
+parts_from before [] = Ok before
+parts_from before (piece ∷ rest) = part_of piece >>= λ found. parts_from (before ++ found ∷ []) rest
+
+-- the parts of pieces, of which there is one
+unfoldable pub ways_from : List (List Token) → Found Ways
+ways_from [] = Err reasons.Unexpected
+ways_from (piece ∷ rest) = do
+  first ← part_of piece
+  others ← parts_from [] rest
+  Ok (record { first = first; others = others })
+
+-- the parts that all of the tokens spell: one in each piece between the `or`s
+unfoldable pub ways_of : List Token → Found Ways
+ways_of list = ways_from (slice_split is_or list)
+
+-- the head that all of the tokens spell
+unfoldable pub head_of : List Token → Found Head
+head_of (tokens.Name name ∷ tokens.Symbol symbols.Colon ∷ rest) = ways_of rest >>= λ when. Ok (heads.Named name when)
+head_of (tokens.Reserved words.Outside ∷ []) = Ok heads.Outside
+head_of other = Err reasons.Unexpected
+
 abbrev pub is_arrow : Token → Bool
 is_arrow (tokens.Symbol symbols.Arrow) = true
 is_arrow other = false
@@ -84,19 +114,18 @@ unfoldable pub frequency_of : List Token → Found (List ℕ × List ℕ)
 frequency_of (tokens.Symbol symbols.Comma ∷ tokens.Number least ∷ tokens.Symbol symbols.Dots ∷ tokens.Number most ∷ []) = Ok (least, most)
 frequency_of other = Err reasons.Unexpected
 
--- a line of its name, the tokens of both parts with the arrow, and those of the frequency
-unfoldable pub line_from : List ℕ → List Token → List Token → Found Line
-line_from name body frequency = do
+-- a line of the tokens of its head and its values with the arrow, and those of the frequency
+unfoldable pub line_from : List Token → List Token → Found Line
+line_from body frequency = do
   counts ← frequency_of frequency
   halves ← halves_of body
-  when ← part_of halves.0
+  head ← head_of halves.0
   values ← part_of halves.1
-  Ok (record { name = name; when = when; values = values; least = counts.0; most = counts.1 })
+  Ok (record { head = head; values = values; least = counts.0; most = counts.1 })
 
 -- the line that all of the tokens spell: the frequency is the last four
 unfoldable pub line_of : List Token → Found Line
-line_of (tokens.Name name ∷ tokens.Symbol symbols.Colon ∷ rest) = line_from name (take (length rest - 4) rest) (drop (length rest - 4) rest)
-line_of other = Err reasons.Unexpected
+line_of list = line_from (take (length list - 4) list) (drop (length list - 4) list)
 
 -- the measure of a column that a word names
 unfoldable pub aggregate : Word → List ℕ → Found Measure
@@ -128,10 +157,10 @@ abbrev pub before_group : Option (List ℕ) → List Token → List Token
 before_group None rest = rest
 before_group (Some column) rest = take (length rest - 3) rest
 
--- the part after a `where`, if there is one
-unfoldable pub where_of : List Token → Found (Option Part)
+-- the parts after a `where`, if there is one
+unfoldable pub where_of : List Token → Found (Option Ways)
 where_of [] = Ok None
-where_of (tokens.Reserved words.Where ∷ rest) = part_of rest >>= λ part. Ok (Some part)
+where_of (tokens.Reserved words.Where ∷ rest) = ways_of rest >>= λ ways. Ok (Some ways)
 where_of other = Err reasons.Unexpected
 
 unfoldable pub question_from : Measure → Option (List ℕ) → List Token → Found Question

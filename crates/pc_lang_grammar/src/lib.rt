@@ -2,15 +2,17 @@
 #![tactic(auto)]
 
 mod claim;
+mod head;
 mod law;
 mod line;
 mod part;
 mod question;
 mod spell;
 mod syntax;
+mod ways;
 
 pub use law::{lines_follow_the_grammar, questions_follow_the_grammar};
 pub use line::read_line;
 pub use question::read_question;
 pub use spell::{spell_line, spell_question};
-pub use syntax::{Atom, Claim, Line, Measure, Part, Question};
+pub use syntax::{Atom, Claim, Head, Line, Measure, Part, Question, Ways};

@@ -2,10 +2,11 @@ ghost use Rattle.std.specs.Prelude.{◌≡◌, Ok, Err, MatchResult, position};
 ghost use Rattle.pc_model.specs.Refusals.{Answers};
 ghost use Rattle.pc_lang_grammar.specs.Parsing.{frequency_of, halves_of, is_arrow, line_from, line_of};
 
+use crate::head::head_of;
 use crate::part::part_of;
 use crate::syntax::Line;
 use pc_lang_tokens::{Symbol, Token};
-use pc_list::{Seq, Text};
+use pc_list::Seq;
 use pc_model::{ReadStop, Reason};
 use std::alloc::Global;
 
@@ -14,30 +15,21 @@ use std::alloc::Global;
 pub fn read_line(alloc: Global, tokens: &[Token]) -> Result<Line, ReadStop>
     ensures answers { Answers result (line_of tokens.now) }
 {
-    let [Token::Name(name), Token::Symbol(Symbol::Colon), rest @ ..] = tokens else {
-        return Err(ReadStop::Reason(Reason::Unexpected));
-    };
-    let place = rest.len().saturating_sub(4);
-    line_from(alloc, name, &rest[..place], &rest[place..])
+    let place = tokens.len().saturating_sub(4);
+    line_from(alloc, &tokens[..place], &tokens[place..])
 }
 
-// A line of its name, the tokens of both parts with the arrow, and those of the frequency.
+// A line of the tokens of its head and its values with the arrow, and those of the frequency.
 #[tactic(auto, unfolding(crate::specs::Parsing::line_from))]
-fn line_from(
-    alloc: Global,
-    name: &Text,
-    body: &[Token],
-    frequency: &[Token],
-) -> Result<Line, ReadStop>
-    ensures { Answers result (line_from name.now body.now frequency.now) }
+fn line_from(alloc: Global, body: &[Token], frequency: &[Token]) -> Result<Line, ReadStop>
+    ensures { Answers result (line_from body.now frequency.now) }
 {
     let (least, most) = frequency_of(frequency)?;
     let (before, after) = halves_of(body)?;
-    let when = part_of(alloc, before)?;
+    let head = head_of(alloc, before)?;
     let values = part_of(alloc, after)?;
     Ok(Line {
-        name: name.clone()?,
-        when,
+        head,
         values,
         least,
         most,

@@ -4,8 +4,8 @@ ghost use Rattle.pc_lang_tokens.specs.declared.token.Token.TheVariants as kinds;
 ghost use Rattle.pc_lang_tokens.specs.declared.token.Word.TheVariants as words;
 ghost use Rattle.pc_lang_grammar.specs.Parsing.{aggregate, aggregate_at, before_group, group_of, measure_at, question_from, question_of, where_of};
 
-use crate::part::part_of;
-use crate::syntax::{Measure, Part, Question};
+use crate::syntax::{Measure, Question, Ways};
+use crate::ways::ways_of;
 use pc_lang_tokens::{Symbol, Token, Word};
 use pc_list::Text;
 use pc_model::{ReadStop, Reason};
@@ -127,14 +127,14 @@ fn before_group<'a>(group: &Option<Text>, rest: &'a [Token]) -> &'a [Token]
     }
 }
 
-// The part after a `where`, if there is one.
+// The parts after a `where`, if there is one.
 #[tactic(auto, unfolding(crate::specs::Parsing::where_of))]
-fn where_of(alloc: Global, tokens: &[Token]) -> Result<Option<Part>, ReadStop>
+fn where_of(alloc: Global, tokens: &[Token]) -> Result<Option<Ways>, ReadStop>
     ensures { Answers result (where_of tokens.now) }
 {
     match tokens {
         [] => Ok(None),
-        [Token::Reserved(Word::Where), rest @ ..] => Ok(Some(part_of(alloc, rest)?)),
+        [Token::Reserved(Word::Where), rest @ ..] => Ok(Some(ways_of(alloc, rest)?)),
         _ => Err(ReadStop::Reason(Reason::Unexpected)),
     }
 }

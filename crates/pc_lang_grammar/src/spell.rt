@@ -3,9 +3,9 @@ ghost use Rattle.pc_lang_tokens.specs.declared.token.Symbol.TheVariants as symbo
 ghost use Rattle.pc_lang_tokens.specs.declared.token.Word.TheVariants as words;
 ghost use Rattle.pc_lang_tokens.specs.declared.token.Token.TheVariants as kinds;
 ghost use Rattle.pc_lang_grammar.specs.declared.syntax.Claim.TheVariants as claims;
-ghost use Rattle.pc_lang_grammar.specs.Grammar.{aggregate_tokens, atom_tokens, claim_tokens, frequency_tokens, further_atoms, further_names, group_tokens, line_tokens, measure_tokens, part_tokens, question_tokens, where_tokens};
+ghost use Rattle.pc_lang_grammar.specs.Grammar.{aggregate_tokens, atom_tokens, claim_tokens, frequency_tokens, further_atoms, further_names, further_parts, group_tokens, head_tokens, line_tokens, measure_tokens, part_tokens, question_tokens, ways_tokens, where_tokens};
 
-use crate::syntax::{Atom, Claim, Line, Measure, Part, Question};
+use crate::syntax::{Atom, Claim, Head, Line, Measure, Part, Question, Ways};
 use pc_lang_tokens::{Symbol, Token, Word};
 use pc_list::{Seq, Text};
 use pc_num::Memory;
@@ -17,9 +17,7 @@ pub fn spell_line(alloc: Global, line: &Line) -> Result<Seq<Token>, Memory>
     ensures { IfOk result (λ list. list ≡ line_tokens line.now) }
 {
     let mut list = Seq::new(alloc);
-    list.push(Token::Name(line.name.clone()?))?;
-    list.push(Token::Symbol(Symbol::Colon))?;
-    put_part(&mut list, &line.when)?;
+    put_head(&mut list, &line.head)?;
     list.push(Token::Symbol(Symbol::Arrow))?;
     put_part(&mut list, &line.values)?;
     put_frequency(&mut list, &line.least, &line.most)?;
@@ -59,6 +57,54 @@ fn put_signed(out: &mut Seq<Token>, symbol: Symbol, number: &Seq<u8>) -> Result<
     ensures { OnOk result (out.new ≡ out.old ++ kinds.Symbol symbol ∷ kinds.Number number.now ∷ []) }
 {
     put_two(out, Token::Symbol(symbol), Token::Number(number.clone()?))
+}
+
+// Appends a name and its parts, or `outside`.
+#[tactic(auto, unfolding(crate::specs::Grammar::head_tokens))]
+fn put_head(out: &mut Seq<Token>, head: &Head) -> Result<(), Memory>
+    ensures { OnOk result (out.new ≡ out.old ++ head_tokens head.now) }
+{
+    match head {
+        Head::Named { name, when } => {
+            put_two(
+                out,
+                Token::Name(name.clone()?),
+                Token::Symbol(Symbol::Colon),
+            )?;
+            put_ways(out, when)
+        }
+        Head::Outside => {
+            out.push(Token::Reserved(Word::Outside))?;
+            Ok(())
+        }
+    }
+}
+
+// Appends parts joined by `or`.
+#[tactic(auto, unfolding(crate::specs::Grammar::ways_tokens))]
+fn put_ways(out: &mut Seq<Token>, ways: &Ways) -> Result<(), Memory>
+    ensures { OnOk result (out.new ≡ out.old ++ ways_tokens ways.now) }
+{
+    put_part(out, &ways.first)?;
+    put_further_parts(out, ways.others.as_slice())
+}
+
+// Appends each part after an `or`.
+#[tactic(auto, using(crate::proofs::Appending::part_steps))]
+fn put_further_parts(out: &mut Seq<Token>, parts: &[Part]) -> Result<(), Memory>
+    ensures { OnOk result (out.new ≡ out.old ++ further_parts parts.now) }
+{
+    for part in parts {
+        put_further_part(out, part)?;
+    }
+    Ok(())
+}
+
+fn put_further_part(out: &mut Seq<Token>, part: &Part) -> Result<(), Memory>
+    ensures { OnOk result (out.new ≡ out.old ++ kinds.Reserved words.Or ∷ part_tokens part.now) }
+{
+    out.push(Token::Reserved(Word::Or))?;
+    put_part(out, part)
 }
 
 // Appends atoms joined by `and`, or `true`.
@@ -189,14 +235,14 @@ fn put_bracketed(out: &mut Seq<Token>, word: Word, inner: Token) -> Result<(), M
     put_two(out, inner, Token::Symbol(Symbol::CloseGroup))
 }
 
-// Appends `where` and a part, or nothing.
-fn put_where(out: &mut Seq<Token>, chosen: &Option<Part>) -> Result<(), Memory>
+// Appends `where` and parts, or nothing.
+fn put_where(out: &mut Seq<Token>, chosen: &Option<Ways>) -> Result<(), Memory>
     ensures { OnOk result (out.new ≡ out.old ++ where_tokens chosen.now) }
 {
     match chosen {
-        Some(part) => {
+        Some(ways) => {
             out.push(Token::Reserved(Word::Where))?;
-            put_part(out, part)
+            put_ways(out, ways)
         }
         None => Ok(()),
     }

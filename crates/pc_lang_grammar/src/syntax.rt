@@ -34,11 +34,24 @@ pub struct Part {
     pub atoms: Seq<Atom>,
 }
 
-/// A line of a constraint: `NAME: WHEN => VALUES, LEAST..MOST`.
+/// Parts of which some hold: joined by `or`. There is one at least, the first.
+#[derive(Debug, PartialEq, Eq, Drop)]
+pub struct Ways {
+    pub first: Part,
+    pub others: Seq<Part>,
+}
+
+/// Of which rows a line speaks: `NAME: WAYS`, or `outside`.
+#[derive(Debug, PartialEq, Eq, Drop)]
+pub enum Head {
+    Named { name: Text, when: Ways },
+    Outside,
+}
+
+/// A line of a constraint: `HEAD => VALUES, LEAST..MOST`.
 #[derive(Debug, PartialEq, Eq, Drop)]
 pub struct Line {
-    pub name: Text,
-    pub when: Part,
+    pub head: Head,
     pub values: Part,
     pub least: Seq<u8>,
     pub most: Seq<u8>,
@@ -55,10 +68,10 @@ pub enum Measure {
     Avg(Text),
 }
 
-/// A query: `MEASURE where PART group by COLUMN`, in which the last two may be left out.
+/// A query: `MEASURE where WAYS group by COLUMN`, in which the last two may be left out.
 #[derive(Debug, PartialEq, Eq, Drop)]
 pub struct Question {
     pub measure: Measure,
-    pub chosen: Option<Part>,
+    pub chosen: Option<Ways>,
     pub group: Option<Text>,
 }

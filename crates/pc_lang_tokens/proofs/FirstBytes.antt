@@ -1,7 +1,9 @@
--- A line that begins with a name is not passed over, and no byte order mark stands before it.
+-- A line that begins with a name, or with `outside`, is not passed over, and no byte order mark stands before it.
+use Rattle.std.specs.Prelude.{codes}
 use Rattle.std.proofs.Common.{◌≡◌, ℕ, ◌==◌, Bool, true, false, List, [], ◌∷◌, ◌++◌, refl, arith}
 use Rattle.std.proofs.lemmas.Bool.{false≢true}
 use Rattle.std.proofs.lemmas.Bool.Decides.{nat_tests}
+use Rattle.pc_lang_tokens.specs.declared.token.Word.TheVariants as words
 use Rattle.pc_lang_tokens.specs.declared.token.Token.{Token}
 use Rattle.pc_lang_tokens.specs.declared.token.Token.TheVariants as tokens
 use Rattle.pc_lang_tokens.specs.Lexing.{is_blank}
@@ -48,3 +50,14 @@ name_begins name after = by_test (is_bare name) refl
 pub tokens_text_begins : (name : List ℕ) (rest : List Token) → BeginsPlainly (tokens_text (tokens.Name name ∷ rest))
 unfolding tokens_text token_text
 tokens_text_begins name rest = name_begins name (texts_after (tokens.Name name) rest)
+
+pub outside_begins : (rest : List Token) → BeginsPlainly (tokens_text (tokens.Reserved words.Outside ∷ rest))
+unfolding tokens_text token_text
+outside_begins rest = record {
+  byte = 111;
+  rest = codes "utside" ++ texts_after (tokens.Reserved words.Outside) rest;
+  form = refl;
+  no_blank = refl;
+  no_comment = refl;
+  no_mark = refl;
+}

@@ -1,7 +1,7 @@
 use crate::tokens::lexer::put_tokens;
 use pc_lang_grammar::{
-    Claim, Line, Measure, Question, lines_follow_the_grammar, questions_follow_the_grammar,
-    read_line, read_question, spell_line, spell_question,
+    Claim, Head, Line, Measure, Question, Ways, lines_follow_the_grammar,
+    questions_follow_the_grammar, read_line, read_question, spell_line, spell_question,
 };
 use pc_lang_tokens::{Token, read_tokens};
 use pc_list::Seq;
@@ -44,7 +44,7 @@ fn respelled_question(alloc: Global, text: &str) -> Result<Result<Seq<Token>, Me
     Ok(spell_question(alloc, &question))
 }
 
-static LINES: [(&str, &str); 22] = [
+static LINES: [(&str, &str); 26] = [
     (
         "c: true => true, 0..1",
         "'c Colon !True Arrow !True Comma #0 Dots #1 ",
@@ -65,6 +65,16 @@ static LINES: [(&str, &str); 22] = [
         "\"and\": a >= 1 and b <= -2 and d > 3 and e < 4 => true, 0..1",
         "'and Colon 'a AtLeast #1 !And 'b AtMost #-2 !And 'd Above #3 !And 'e Below #4 Arrow !True Comma #0 Dots #1 ",
     ),
+    (
+        "c: a = 1 and b = x or true or d > 3 => true, 0..1",
+        "'c Colon 'a Equal #1 !And 'b Equal 'x !Or !True !Or 'd Above #3 Arrow !True Comma #0 Dots #1 ",
+    ),
+    (
+        "outside => a = 1 and b = x, 0..1",
+        "!Outside Arrow 'a Equal #1 !And 'b Equal 'x Comma #0 Dots #1 ",
+    ),
+    ("c: a = 1 or => true, 0..1", "16"),
+    ("outside: true => true, 0..1", "16"),
     ("c: a in {} => true, 0..1", "16"),
     ("c: a in {x,} => true, 0..1", "16"),
     ("c: a in {x y} => true, 0..1", "16"),
@@ -97,7 +107,7 @@ fn lines(rt: HostRuntime) -> Result<(), Fail> {
     Ok(())
 }
 
-static QUESTIONS: [(&str, &str); 18] = [
+static QUESTIONS: [(&str, &str); 20] = [
     ("count", "!Count "),
     ("count(*)", "!Count OpenGroup Star CloseGroup "),
     ("sum(price)", "!Sum OpenGroup 'price CloseGroup "),
@@ -117,6 +127,11 @@ static QUESTIONS: [(&str, &str); 18] = [
         "count where true group by c",
         "!Count !Where !True !Group !By 'c ",
     ),
+    (
+        "count where true or b = 2 group by c",
+        "!Count !Where !True !Or 'b Equal #2 !Group !By 'c ",
+    ),
+    ("count where or b = 2", "16"),
     ("count()", "16"),
     ("count where", "16"),
     ("sum", "16"),
@@ -143,11 +158,27 @@ fn questions(rt: HostRuntime) -> Result<(), Fail> {
     Ok(())
 }
 
+// The parts of a line that has a name.
+fn ways_of<'a>(line: &'a Line, wanted: &str) -> Option<&'a Ways> {
+    match &line.head {
+        Head::Named { name, when } => {
+            if name.as_str() == wanted {
+                return Some(when);
+            }
+            None
+        }
+        Head::Outside => None,
+    }
+}
+
 #[test]
 fn parts(rt: HostRuntime) -> Result<(), Fail> {
     let line = line_of(rt.alloc(), b"c: a = 1 and b = x => p in 1..2, 0..5")?;
-    assert!(rt; line.name.as_str() == "c");
-    assert_eq!(rt; line.when.atoms.len(), 2);
+    let Some(when) = ways_of(&line, "c") else {
+        return Ok(assert!(rt; false));
+    };
+    assert_eq!(rt; when.first.atoms.len(), 2);
+    assert!(rt; when.others.is_empty());
     assert!(rt; line.least.as_slice() == b"0".as_slice());
     assert!(rt; line.most.as_slice() == b"5".as_slice());
     let [atom] = line.values.atoms.as_slice() else {
@@ -179,6 +210,9 @@ fn long_line(alloc: Global) -> Result<Vec<u8>, AllocError> {
 fn many_atoms(rt: HostRuntime) -> Result<(), Fail> {
     let text = long_line(rt.alloc())?;
     let line = line_of(rt.alloc(), text.as_slice())?;
-    assert_eq!(rt; line.when.atoms.len(), 200_000);
+    let Some(when) = ways_of(&line, "c") else {
+        return Ok(assert!(rt; false));
+    };
+    assert_eq!(rt; when.first.atoms.len(), 200_000);
     Ok(())
 }

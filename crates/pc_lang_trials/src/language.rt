@@ -1,3 +1,4 @@
+mod areas;
 mod canonical;
 mod files;
 mod meaning;

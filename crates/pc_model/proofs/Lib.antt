@@ -1,3 +1,4 @@
+pub mod Areas
 pub mod Between
 pub mod Bools
 pub mod FewNames

@@ -1,15 +1,16 @@
 -- Which constraints and queries are well-formed for a schema.
-use Rattle.std.specs.Prelude.{◌≡◌, ◌≢◌, ℕ, ◌≤◌, ⊤, true, List, length, All, AllPairs, Option, None, IfSome, IsSomeAnd, slice_get}
+use Rattle.std.specs.Prelude.{◌≡◌, ◌≢◌, ℕ, ◌≤◌, ⊤, List, [], length, All, AllPairs, Option, None, IfSome, IsSomeAnd, slice_get}
 use Rattle.pc_model.specs.declared.schema.Kind.{Kind}
 use Rattle.pc_model.specs.declared.schema.Kind.TheVariants.{Int, Dec, Cat}
 use Rattle.pc_model.specs.declared.schema.Column.{Column}
 use Rattle.pc_model.specs.declared.schema.Schema.{Schema}
+use Rattle.pc_model.specs.declared.constraint.When.{When}
+use Rattle.pc_model.specs.declared.constraint.When.TheVariants.{Boxes, Outside}
 use Rattle.pc_model.specs.declared.constraint.Constraint.{Constraint}
 use Rattle.pc_model.specs.declared.query.Agg.{Agg}
 use Rattle.pc_model.specs.declared.query.Agg.TheVariants.{Count, Sum, Min, Max, Avg}
 use Rattle.pc_model.specs.declared.query.Query.{Query}
-use Rattle.pc_model.specs.Boxes.{IsServable}
-use Rattle.pc_model.specs.Regions.{is_region_of}
+use Rattle.pc_model.specs.Boxes.{IsAreaOf, IsServable}
 use Rattle.pc_model.specs.Texts.{IsName}
 
 -- the most lost rows that a constraint allows is at most this
@@ -19,12 +20,25 @@ frequency_limit = 10000000
 abbrev pub constraint_limit : ℕ
 constraint_limit = 20
 
--- constraints of which no two have one name, and of which there are not too many
+-- an outside constraint has the empty text for its name, which is no name
+abbrev pub IsNameFor : When → List ℕ → Type 0
+IsNameFor (Boxes area) name = IsName name
+IsNameFor Outside name = name ≡ []
+
+-- a constraint of the rows outside, and constraints with one such at most
+abbrev pub IsOutside : When → Type 0
+IsOutside (Boxes area) = ⊥
+IsOutside Outside = ⊤
+
+abbrev pub HasLoneOutside : List Constraint → Type 0
+HasLoneOutside = AllPairs (λ (a b : Constraint). IsOutside a.when → IsOutside b.when → ⊥)
+
+-- constraints of which no two have one name, so that one at most is outside, and of which there are not too many
 pub record AreConstraints (schema : Schema) (constraints : List Constraint) : Type 0 where
   pub few : length constraints ≤ constraint_limit
   pub servable : All (IsServable schema) constraints
   pub small : All (λ (c : Constraint). c.most ≤ frequency_limit) constraints
-  pub named : All (λ (c : Constraint). IsName c.name) constraints
+  pub named : All (λ (c : Constraint). IsNameFor c.when c.name) constraints
   pub own_names : AllPairs (λ (a b : Constraint). a.name ≢ b.name) constraints
 
 abbrev pub IsNumeric : Kind → Type 0
@@ -49,6 +63,6 @@ Measures schema Max column = IsSomeAnd column (IsColumnWhere IsNumeric schema)
 Measures schema Avg column = IsSomeAnd column (IsColumnWhere IsNumeric schema)
 
 pub record IsQuery (schema : Schema) (query : Query) : Type 0 where
-  pub chosen : is_region_of schema query.chosen ≡ true
+  pub chosen : IsAreaOf schema query.chosen
   pub measured : Measures schema query.agg query.column
   pub grouped : IfSome query.group (IsColumnWhere HasNames schema)

@@ -1,5 +1,5 @@
 -- Regions of a schema: one side per column, not empty and inside the column's domain.
-use Rattle.std.specs.Prelude.{ℕ, ◌-◌, ◌^◌, ◌==◌, ◌&&◌, ℤ, int_le, int_lt, nat_lt, if◌then◌else◌, Bool, false, length, map, Option, Some, None}
+use Rattle.std.specs.Prelude.{ℕ, ◌-◌, ◌^◌, ◌==◌, ◌&&◌, ℤ, int_le, int_lt, nat_lt, if◌then◌else◌, Bool, false, [], ◌∷◌, length, map, Option, Some, None}
 use Rattle.std.specs.Int.{int_min, int_max}
 use Rattle.std.specs.Int.Bits.{bit_and}
 use Rattle.std.specs.Cmp.Lexicographic.{pointwise}
@@ -10,6 +10,7 @@ use Rattle.pc_model.specs.declared.schema.Schema.{Schema}
 use Rattle.pc_model.specs.declared.region.Side.{Side}
 use Rattle.pc_model.specs.declared.region.Side.TheVariants.{Span, Names}
 use Rattle.pc_model.specs.declared.region.Region.{Region}
+use Rattle.pc_model.specs.declared.area.Area.{Area}
 
 -- every number of a column
 abbrev pub whole_side : Kind → Side
@@ -40,6 +41,13 @@ is_region_of schema region = pointwise (λ (column : Column). is_side_of column.
 -- the region of the whole domain
 abbrev pub whole_region : Schema → Region
 whole_region schema = record { sides = map (λ (column : Column). whole_side column.kind) schema.columns }
+
+-- the area of one box, and that of the whole domain
+abbrev pub one_box : Region → Area
+one_box box = record { boxes = box ∷ [] }
+
+abbrev pub whole_area : Schema → Area
+whole_area schema = one_box (whole_region schema)
 
 abbrev pub span_unless_empty : ℤ → ℤ → Option Side
 span_unless_empty low high = if int_lt high low then None else Some (Span low high)

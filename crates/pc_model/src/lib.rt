@@ -1,6 +1,7 @@
 //! The types of a case, and what its question and its answers mean.
 #![tactic(auto)]
 
+mod area;
 mod constraint;
 mod fault;
 mod number;
@@ -11,7 +12,8 @@ mod schema;
 mod text;
 mod tree;
 
-pub use constraint::Constraint;
+pub use area::Area;
+pub use constraint::{Constraint, When};
 pub use fault::{Fault, FileKind, ReadStop, Reason, Refusal};
 pub use number::read_number;
 pub use query::{Agg, Folded, Query, greatest_of, least_of};

@@ -2,7 +2,7 @@ ghost use Rattle.std.specs.Prelude.{◌≡◌};
 ghost use Rattle.std.specs.Int.{int_max, int_min};
 ghost use Rattle.pc_model.specs.Folds.{better};
 
-use crate::region::Region;
+use crate::area::Area;
 
 /// An aggregate.
 #[derive(Clone, Copy, Debug, PartialEq, Eq)]
@@ -20,7 +20,7 @@ pub enum Agg {
 pub struct Query {
     pub agg: Agg,
     pub column: Option<u8>,
-    pub chosen: Region,
+    pub chosen: Area,
     pub group: Option<u8>,
 }
 

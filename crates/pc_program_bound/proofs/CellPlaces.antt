@@ -1,6 +1,7 @@
 -- The lists of the program of cells, by place.
 use Rattle.std.proofs.Common.{◌≡◌, ℕ, ◌<◌, ℤ, false, List, [], length, get_or, arith}
 use Rattle.std.proofs.lemmas.List.{length-map, get_or-map}
+use Rattle.pc_model.specs.declared.constraint.When.TheVariants.{Outside}
 use Rattle.pc_model.specs.declared.constraint.Constraint.{Constraint}
 use Rattle.pc_model.specs.Cells.{Class}
 use Rattle.pc_program_bound.specs.declared.program.Program.{Program}
@@ -13,7 +14,7 @@ abbrev pub no_class : Class
 no_class = record { mask = 0; chosen = false }
 
 abbrev pub no_constraint : Constraint
-no_constraint = record { name = []; when = record { sides = [] }; values = record { sides = [] }; least = 0; most = 0 }
+no_constraint = record { name = []; when = Outside; values = record { sides = [] }; least = 0; most = 0 }
 
 module _ (constraints : List Constraint) (classes : List Class) (gains : List ℤ) where
   abbrev program : Program

@@ -2,7 +2,7 @@
 use Rattle.std.specs.Prelude.{ℕ, ◌/◌, min, ℤ, List, [], ◌∷◌, map, count_by, unwrap_or, if◌then◌else◌}
 use Rattle.std.specs.List.{reduce}
 use Rattle.pc_model.specs.declared.row.Row.{Row}
-use Rattle.pc_model.specs.declared.region.Region.{Region}
+use Rattle.pc_model.specs.declared.area.Area.{Area}
 use Rattle.pc_model.specs.declared.constraint.Constraint.{Constraint}
 use Rattle.pc_model.specs.Places.{has_bit}
 use Rattle.pc_model.specs.Cells.{Class, class_of, is_class}
@@ -33,9 +33,9 @@ abbrev pub program_of : List Constraint → List Class → (Class → ℤ) → P
 program_of constraints classes gain = program_with constraints classes (map gain classes)
 
 -- how many of the rows are in the cell
-abbrev pub count_in : List Constraint → Region → List Row → Class → ℕ
+abbrev pub count_in : List Constraint → Area → List Row → Class → ℕ
 count_in constraints chosen rows class = count_by (λ row. is_class (class_of constraints chosen row) class) rows
 
 -- how many of the rows are in each cell
-abbrev pub counts_of : List Constraint → Region → List Class → List Row → List ℕ
+abbrev pub counts_of : List Constraint → Area → List Class → List Row → List ℕ
 counts_of constraints chosen classes rows = map (count_in constraints chosen rows) classes

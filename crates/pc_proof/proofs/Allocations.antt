@@ -5,7 +5,7 @@ use Rattle.std.specs.List.{AllPass}
 use Rattle.std.proofs.lemmas.Int.{ints}
 use Rattle.std.proofs.lemmas.List.{length-map, get_or-map}
 use Rattle.pc_model.specs.declared.row.Row.{Row}
-use Rattle.pc_model.specs.declared.region.Region.{Region}
+use Rattle.pc_model.specs.declared.area.Area.{Area}
 use Rattle.pc_model.specs.declared.constraint.Constraint.{Constraint}
 use Rattle.pc_model.specs.Membership.{is_under}
 use Rattle.pc_model.specs.Places.{has_bit}
@@ -23,7 +23,7 @@ use Rattle.pc_proof.proofs.RowSums.{int_sum-same, int_sum-count, sum_below-list}
 use Rattle.pc_proof.proofs.RowCounts.{AreDifferent, AreInClasses, gains_of_rows}
 use Rattle.pc_proof.proofs.RowCaps.{count_within_cap}
 
-module _ (constraints : List Constraint) (chosen : Region) (classes : List Class) (gain : Class → ℤ) (rows : List Row) where
+module _ (constraints : List Constraint) (chosen : Area) (classes : List Class) (gain : Class → ℤ) (rows : List Row) where
   abbrev program : Program
   program = program_of constraints classes gain
 
@@ -66,13 +66,13 @@ module _ (constraints : List Constraint) (chosen : Region) (classes : List Class
 
   module _ (differ : AreDifferent classes) (inside : AreInClasses constraints chosen classes rows) where
     -- the cells of a constraint have the rows under it
-    pub total_is_count : (j : ℕ) (d : Constraint) → j < length constraints → total program counts j ≡ pos (count_of (get_or constraints j d) rows)
+    pub total_is_count : (j : ℕ) (d : Constraint) → j < length constraints → total program counts j ≡ pos (count_of constraints (get_or constraints j d) rows)
     total_is_count j d within =
         sum_of_cells (count_for program counts j) (λ (class : Class). cond (has_constraint j class) (pos 1) (pos 0) *ℤ pos (count_at class)) (part_is j)
         ∙ gains_of_rows constraints chosen classes differ (λ (class : Class). cond (has_constraint j class) (pos 1) (pos 0)) rows inside
-        ∙ int_sum-same (λ (row : Row). cond (has_bit (mask_of constraints row) j) (pos 1) (pos 0)) (λ (row : Row). cond (is_under (get_or constraints j d) row) (pos 1) (pos 0)) rows
+        ∙ int_sum-same (λ (row : Row). cond (has_bit (mask_of constraints row) j) (pos 1) (pos 0)) (λ (row : Row). cond (is_under constraints (get_or constraints j d) row) (pos 1) (pos 0)) rows
         (λ (row : Row). ap (λ test. cond test (pos 1) (pos 0)) (mask_of-bit constraints row j d within))
-        ∙ int_sum-count (is_under (get_or constraints j d)) rows
+        ∙ int_sum-count (is_under constraints (get_or constraints j d)) rows
 
     -- the counts are worth what the rows gain
     pub worth_of_rows : worth program counts ≡ int_sum (map (λ (row : Row). gain (class_of constraints chosen row)) rows)
@@ -82,7 +82,7 @@ module _ (constraints : List Constraint) (chosen : Region) (classes : List Class
         ∙ gains_of_rows constraints chosen classes differ gain rows inside
 
     -- rows that meet the constraints are an allocation
-    pub allocation_of_rows : AllPass (is_covered constraints) rows → All (λ (c : Constraint). Meets c rows) constraints → IsAllocation program program.floor program.cap counts
+    pub allocation_of_rows : AllPass (is_covered constraints) rows → All (λ (c : Constraint). Meets constraints c rows) constraints → IsAllocation program program.floor program.cap counts
     allocation_of_rows covered meets = record {
       sized = length-map classes count_at ∙ sym (length-map classes (λ (class : Class). class.mask));
       within = within_caps;

@@ -8,19 +8,19 @@ use Rattle.std.proofs.lemmas.List.Elements.{All-contains}
 use Rattle.pc_model.specs.declared.row.Row.{Row}
 use Rattle.pc_model.specs.declared.query.Agg.TheVariants.{Avg}
 use Rattle.pc_model.specs.declared.tree.Tree.{Tree}
-use Rattle.pc_model.specs.Membership.{has}
+use Rattle.pc_model.specs.Membership.{is_in}
 use Rattle.pc_model.specs.Aggregate.{Ratio, whole, IsAtMost, asked, int_sum, value_of}
 use Rattle.pc_model.specs.Right.{IsPossibleFor}
 use Rattle.pc_model.specs.Cells.{Class}
 use Rattle.pc_program_bound.specs.SplitTrees.{IsWithin}
 use Rattle.pc_program_bound.proofs.Ring.{mul-add, mul_mono}
-use Rattle.pc_proof.specs.Setting.{Setting, region_of, seen_count, seen_sum, seen_least, seen_greatest, seen_numbers, cells, low_in, high_in, on_chosen}
+use Rattle.pc_proof.specs.Setting.{Setting, area_of, seen_count, seen_sum, seen_least, seen_greatest, seen_numbers, cells, low_in, high_in, on_chosen}
 use Rattle.pc_proof.specs.Table.{limit, bound_for, high_program, low_program, IsSound, Shows, above_ratio, below_ratio, seen_above, left_over, fewest, raised_by, lowered_by, greater_of, lesser_of, chosen_cells, greatest_number, least_number}
 use Rattle.pc_proof.specs.Unbroken.{IsWellPosed}
 use Rattle.pc_proof.proofs.Ends.{AsksNumbers}
 use Rattle.pc_proof.proofs.Fractions.{mul_above, at_most_trans, spread_over, spread_under}
 use Rattle.pc_proof.proofs.Gains.{IsSettledFor, gains_of, gains_within, shown_gains}
-use Rattle.pc_proof.proofs.Groups.{keeps_region}
+use Rattle.pc_proof.proofs.Groups.{keeps_area}
 use Rattle.pc_proof.proofs.Kept.{kept_count, kept_sum, kept_some, cell_of, in_cells, between}
 use Rattle.pc_proof.proofs.Numbers.{All-kept_back, each_under_greatest, each_over_least, sum_under, sum_over}
 use Rattle.pc_proof.proofs.Seen.{keeps, all_numbers, how_many, what_sum, of_all, from_lost, int_sum_mono}
@@ -146,16 +146,16 @@ module _ (s : Setting) (posed : IsWellPosed s.question) (tree : IsSettledFor s) 
     spread_high =
         let within = int_sum_mono (λ (row : Row). cond (keeps s.question row) (r.den *ℤ asked s.question.query row -ℤ r.num) (pos 0)) (λ (row : Row). on_chosen (above_ratio s r) (cell_of s row)) lost
         (λ place d inside.
-        kept_above (keeps s.question (get_or lost place d)) (has (region_of s.question) (get_or lost place d)) r.den r.num (asked s.question.query (get_or lost place d)) (high_in s (cell_of s (get_or lost place d))) steep
-        (keeps_region s.question posed (get_or lost place d)) (between s posed tree lost possible asks place d inside).1) in
+        kept_above (keeps s.question (get_or lost place d)) (is_in (area_of s.question) (get_or lost place d)) r.den r.num (asked s.question.query (get_or lost place d)) (high_in s (cell_of s (get_or lost place d))) steep
+        (keeps_area s.question posed (get_or lost place d)) (between s posed tree lost possible asks place d inside).1) in
         omega (arith, ints, within, sum_over_ratio r.den r.num (keeps s.question) (asked s.question.query) lost)
 
     spread_low : (r.num *ℤ kept_count s lost -ℤ r.den *ℤ kept_sum s lost) ≤ℤ gains_of s (on_chosen (below_ratio s r)) lost
     spread_low =
         let within = int_sum_mono (λ (row : Row). cond (keeps s.question row) (r.num -ℤ r.den *ℤ asked s.question.query row) (pos 0)) (λ (row : Row). on_chosen (below_ratio s r) (cell_of s row)) lost
         (λ place d inside.
-        kept_below (keeps s.question (get_or lost place d)) (has (region_of s.question) (get_or lost place d)) r.den r.num (asked s.question.query (get_or lost place d)) (low_in s (cell_of s (get_or lost place d))) steep
-        (keeps_region s.question posed (get_or lost place d)) (between s posed tree lost possible asks place d inside).0) in
+        kept_below (keeps s.question (get_or lost place d)) (is_in (area_of s.question) (get_or lost place d)) r.den r.num (asked s.question.query (get_or lost place d)) (low_in s (cell_of s (get_or lost place d))) steep
+        (keeps_area s.question posed (get_or lost place d)) (between s posed tree lost possible asks place d inside).0) in
         omega (arith, ints, within, sum_under_ratio r.den r.num (keeps s.question) (asked s.question.query) lost)
 
     -- how far the sum is above the ratio, and how far below it
@@ -203,7 +203,7 @@ module _ (s : Setting) (posed : IsWellPosed s.question) (tree : IsSettledFor s) 
       (some_higher highest (asked s.question.query row) (high_in s (cell_of s row)) (between s posed tree lost possible asks place d inside).1
       (All-contains (λ (class : Class). class.chosen ≡ true → IsSomeAnd highest (λ g. high_in s class ≤ℤ g)) (cells s) (cell_of s row)
       (All-kept_back (λ (class : Class). class.chosen) (high_in s) (λ n. IsSomeAnd highest (λ g. n ≤ℤ g)) (cells s) (each_under_greatest (map (high_in s) (chosen_cells s))))
-      (in_cells s posed tree lost possible place d inside) (sym (keeps_region s.question posed row) ∙ kept)))))
+      (in_cells s posed tree lost possible place d inside) (sym (keeps_area s.question posed row) ∙ kept)))))
 
   numbers_over : All (λ n. IsSomeAnd (least_number s) (λ m. m ≤ℤ n)) numbers
   numbers_over =
@@ -216,7 +216,7 @@ module _ (s : Setting) (posed : IsWellPosed s.question) (tree : IsSettledFor s) 
       (some_lower lowest (low_in s (cell_of s row)) (asked s.question.query row) (between s posed tree lost possible asks place d inside).0
       (All-contains (λ (class : Class). class.chosen ≡ true → IsSomeAnd lowest (λ m. m ≤ℤ low_in s class)) (cells s) (cell_of s row)
       (All-kept_back (λ (class : Class). class.chosen) (low_in s) (λ n. IsSomeAnd lowest (λ m. m ≤ℤ n)) (cells s) (each_over_least (map (low_in s) (chosen_cells s))))
-      (in_cells s posed tree lost possible place d inside) (sym (keeps_region s.question posed row) ∙ kept)))))
+      (in_cells s posed tree lost possible place d inside) (sym (keeps_area s.question posed row) ∙ kept)))))
 
   module _ (v : Ratio) (above : pos 0 <ℤ v.den) where
     under_greatest : (g : ℤ) → All (λ n. n ≤ℤ g) numbers → IsAtMost (whole g) v → pos 1 ≤ℤ count → IsAtMost average v

@@ -2,6 +2,7 @@
 use Rattle.std.proofs.Common.{◌≡◌, ◌↔◌, ℕ, ◌+◌, List, [], ◌∷◌, ◌++◌, length, map, All, Option, Some, None, IfSome, inl, inr, sym, ◌∙◌, refl}
 use Rattle.std.proofs.lemmas.List.Elements.{All-nil, All-cons, All-head, All-tail, All-append}
 use Rattle.pc_model.specs.declared.region.Region.{Region}
+use Rattle.pc_model.specs.declared.area.Area.{Area}
 use Rattle.pc_model.specs.declared.row.Run.{Run}
 use Rattle.pc_model.specs.Regions.{whole_region}
 use Rattle.pc_model.specs.CutTrees.{shape_of, HasProperCuts}
@@ -15,7 +16,7 @@ use Rattle.pc_proof.specs.declared.answer.NeverBy.{NeverBy}
 use Rattle.pc_proof.specs.declared.answer.AlwaysBy.{AlwaysBy}
 use Rattle.pc_proof.specs.declared.answer.End.{End}
 use Rattle.pc_proof.specs.declared.answer.Answer.{Answer}
-use Rattle.pc_proof.specs.Setting.{Setting, region_of, leaves}
+use Rattle.pc_proof.specs.Setting.{Setting, area_of, leaves}
 use Rattle.pc_proof.specs.Unbroken.{AllowsName, HoldsRelation, HoldsLack, HoldsLow, HoldsHigh, MayStand, IsUnbroken}
 use Rattle.pc_proof.specs.Demands.{Placed, Holds, IsFirstBroken, allowed, gives_none, gives_some, impossible_by, stands, never_by, always_by, why_trees, never_trees, always_trees, relation_demands, lack_demands, ends_demands, front_lines, name_demands, TreeLines, own, same, at_line, cut_demands, cells_demands, relation_line, lack_line, end_line, block_demands}
 use Rattle.pc_proof.proofs.Parts.{All-front, All-back, one-holds, the-one, the-second, two-hold, the-last}
@@ -39,7 +40,7 @@ first-breaks s line rule (d ∷ ds) (inr later) all = first-breaks s line rule d
 
 -- ---- the name
 
-allowed-without : (chosen : Region) (group name : Option ℕ) → name ≡ None → AllowsName chosen group name
+allowed-without : (chosen : Area) (group name : Option ℕ) → name ≡ None → AllowsName chosen group name
 allowed-without chosen (Some column) None without = tt
 allowed-without chosen (Some column) (Some place) without = absurd (cc)
 allowed-without chosen None name without = tt
@@ -75,7 +76,7 @@ module _ (s : Setting) where
   abbrev box : Region
   box = whole_region s.question.schema
 
-  cells-hold : (kind : TreeLines) (line : ℕ) → HasProperCuts box (shape_of s.nodes) → AreSettled s.question.constraints (region_of s.question) (leaves s)
+  cells-hold : (kind : TreeLines) (line : ℕ) → HasProperCuts box (shape_of s.nodes) → AreSettled s.question.constraints (area_of s.question) (leaves s)
       → All (Holds s) (cells_demands kind s line)
   cells-hold own line cut fit = demands-from_cuts s (line + 1) box (shape_of s.nodes) cut fit
   cells-hold same line cut fit =

@@ -18,11 +18,11 @@ use Rattle.pc_program_bound.specs.CellPrograms.{cap_of, count_in, counts_of}
 use Rattle.pc_program_bound.proofs.CellPlaces.{no_class, cell_inside, cap_is}
 use Rattle.pc_program_bound.proofs.TreeBounds.{tree-bounds}
 use Rattle.pc_proof.proofs.PossibleRows.{rows_are_allocation, rows_are_worth}
-use Rattle.pc_proof.specs.Setting.{Setting, region_of, seen_count, cells, on_chosen, open_cap, program_for, program_without}
+use Rattle.pc_proof.specs.Setting.{Setting, area_of, seen_count, cells, on_chosen, open_cap, program_for, program_without}
 use Rattle.pc_proof.specs.Table.{bound_for, one, ShowsForced}
 use Rattle.pc_proof.specs.Unbroken.{IsWellPosed}
 use Rattle.pc_proof.proofs.Gains.{IsSettledFor, gains_of}
-use Rattle.pc_proof.proofs.Groups.{keeps_region}
+use Rattle.pc_proof.proofs.Groups.{keeps_area}
 use Rattle.pc_proof.proofs.Kept.{cell_of, count_is, no_numbers}
 use Rattle.pc_proof.proofs.Seen.{keeps, all_numbers}
 
@@ -48,16 +48,16 @@ module _ (s : Setting) (posed : IsWellPosed s.question) (tree : IsSettledFor s) 
   AreOpen = All (λ (row : Row). keeps s.question row ≡ true → closed (cell_of s row) ≡ false) lost
 
   abbrev counts : List ℕ
-  counts = counts_of s.question.constraints (region_of s.question) (cells s) lost
+  counts = counts_of s.question.constraints (area_of s.question) (cells s) lost
 
   abbrev plain : Program
   plain = program_for s (on_chosen one)
 
   allocated : IsAllocation plain plain.floor plain.cap counts
-  allocated = rows_are_allocation s.question.schema s.question.constraints (region_of s.question) s.nodes (on_chosen one) lost posed.formed tree possible
+  allocated = rows_are_allocation s.question.schema s.question.constraints (area_of s.question) s.nodes (on_chosen one) lost posed.formed tree possible
 
   -- a closed cell has no rows
-  none_in_closed : AreOpen → (class : Class) → (class.chosen && closed class) ≡ true → count_in s.question.constraints (region_of s.question) lost class ≡ 0
+  none_in_closed : AreOpen → (class : Class) → (class.chosen && closed class) ≡ true → count_in s.question.constraints (area_of s.question) lost class ≡ 0
   none_in_closed open' class shut =
       let parts = and_parts class.chosen (closed class) shut in
       none_passes (λ (row : Row). is_class (cell_of s row) class) lost
@@ -65,7 +65,7 @@ module _ (s : Setting) (posed : IsWellPosed s.question) (tree : IsSettledFor s) 
       false_from_ne_true (is_class (cell_of s (get_or lost place d)) class)
       (λ same.
       let is = is_class-same (cell_of s (get_or lost place d)) class same in
-      let kept : keeps s.question (get_or lost place d) ≡ true = keeps_region s.question posed (get_or lost place d) ∙ ap (λ (c : Class). c.chosen) is ∙ parts.0 in
+      let kept : keeps s.question (get_or lost place d) ≡ true = keeps_area s.question posed (get_or lost place d) ∙ ap (λ (c : Class). c.chosen) is ∙ parts.0 in
       true≢false (sym parts.1 ∙ ap closed (sym is) ∙ open' place d inside kept)))
 
   pub open_within : AreOpen → IsAllocation (program_without s closed) (program_without s closed).floor (program_without s closed).cap counts
@@ -76,10 +76,10 @@ module _ (s : Setting) (posed : IsWellPosed s.question) (tree : IsSettledFor s) 
           let there = cell_inside s.question.constraints (cells s) (map (on_chosen one) (cells s)) i below in
           let class = get_or (cells s) i no_class in
           let fits = allocated.within i below in
-          let count = get_or-map (count_in s.question.constraints (region_of s.question) lost) (cells s) i no_class 0 there in
+          let count = get_or-map (count_in s.question.constraints (area_of s.question) lost) (cells s) i no_class 0 there in
           let cap = cap_is s.question.constraints (cells s) (map (on_chosen one) (cells s)) i there in
           let left = get_or-map (open_cap s closed) (cells s) i no_class 0 there in
-          let few = within_open (class.chosen && closed class) (count_in s.question.constraints (region_of s.question) lost class) (cap_of s.question.constraints class)
+          let few = within_open (class.chosen && closed class) (count_in s.question.constraints (area_of s.question) lost class) (cap_of s.question.constraints class)
           (none_in_closed open' class) (omega (arith, fits.1, count, cap)) in
           (fits.0, omega (arith, few, count, left))
 
@@ -87,7 +87,7 @@ module _ (s : Setting) (posed : IsWellPosed s.question) (tree : IsSettledFor s) 
   pub none_open : (t : Tree) → ShowsForced s (program_without s closed) t → AreOpen → all_numbers s.question lost ≡ []
   none_open t shows open' =
       let bounded : IsWithin (gains_of s (on_chosen one) lost) (bound_for (program_without s closed) t) =
-      subst (λ n. IsWithin n (bound_for (program_without s closed) t)) (rows_are_worth s.question.schema s.question.constraints (region_of s.question) s.nodes (on_chosen one) lost posed.formed tree possible)
+      subst (λ n. IsWithin n (bound_for (program_without s closed) t)) (rows_are_worth s.question.schema s.question.constraints (area_of s.question) s.nodes (on_chosen one) lost posed.formed tree possible)
       (tree-bounds (program_without s closed) (program_without s closed).floor (program_without s closed).cap counts (tree_of t.nodes) shows.sound.proves (open_within open')) in
       let few = forced_few (gains_of s (on_chosen one) lost) (seen_count s.question) (bound_for (program_without s closed) t) bounded shows.forced in
       no_numbers s lost few.0 (omega (arith, ints, count_is s posed tree lost possible, few.1))

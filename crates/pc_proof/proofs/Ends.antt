@@ -4,6 +4,7 @@ use Rattle.std.specs.Prelude.{⊤}
 use Rattle.pc_model.specs.declared.schema.Schema.{Schema}
 use Rattle.pc_model.specs.declared.row.Row.{Row}
 use Rattle.pc_model.specs.declared.region.Region.{Region}
+use Rattle.pc_model.specs.declared.area.Area.{Area}
 use Rattle.pc_model.specs.declared.constraint.Constraint.{Constraint}
 use Rattle.pc_model.specs.declared.tree.CutNode.{CutNode}
 use Rattle.pc_model.specs.declared.query.Agg.{Agg}
@@ -20,11 +21,11 @@ use Rattle.pc_cells_laws.proofs.Spans.{spanned_leaf, above_least, below_greatest
 use Rattle.pc_cells_laws.proofs.SettledTrees.{rows_of_tree}
 use Rattle.pc_cells_laws.proofs.TreesDomain.{domain_regions}
 use Rattle.pc_proof.proofs.PossibleRows.{lawful_from_possible}
-use Rattle.pc_proof.specs.Setting.{Setting, region_of, low_in, high_in}
+use Rattle.pc_proof.specs.Setting.{Setting, area_of, low_in, high_in}
 
 -- ---- a column of a settled tree
 
-module _ (schema : Schema) (constraints : List Constraint) (chosen : Region) (nodes : List CutNode) (formed : IsWellFormed schema)
+module _ (schema : Schema) (constraints : List Constraint) (chosen : Area) (nodes : List CutNode) (formed : IsWellFormed schema)
     (tree : IsSettledTree schema constraints chosen nodes) (column : ℕ) (numeric : IsColumnWhere IsNumeric schema column) where
   cell_spans : (class : Class) → All (λ (box : Region). IsSpanned (side_at box column)) (boxes_of (leaves_in schema nodes) class)
   cell_spans class =
@@ -79,14 +80,14 @@ asks_numbers schema query agg well is of =
 pub sum_asks_numbers : (schema : Schema) (query : Query) → IsQuery schema query → query.agg ≡ Sum → AsksNumbers schema query
 sum_asks_numbers schema query well is = asks_numbers schema query Sum well is tt
 
-module _ (s : Setting) (formed : IsWellFormed s.question.schema) (tree : IsSettledTree s.question.schema s.question.constraints (region_of s.question) s.nodes)
+module _ (s : Setting) (formed : IsWellFormed s.question.schema) (tree : IsSettledTree s.question.schema s.question.constraints (area_of s.question) s.nodes)
     (asks : AsksNumbers s.question.schema s.question.query) where
   -- the row's number lies between the ends of its cell
   abbrev pub IsBetweenEnds : Row → Type 0
   IsBetweenEnds row =
-      (low_in s (class_of s.question.constraints (region_of s.question) row) ≤ℤ asked s.question.query row)
-      × (asked s.question.query row ≤ℤ high_in s (class_of s.question.constraints (region_of s.question) row))
+      (low_in s (class_of s.question.constraints (area_of s.question) row) ≤ℤ asked s.question.query row)
+      × (asked s.question.query row ≤ℤ high_in s (class_of s.question.constraints (area_of s.question) row))
 
   pub asked_between : (lost : List Row) → IsPossible s.question.schema s.question.constraints lost → All IsBetweenEnds lost
   asked_between lost possible place d inside =
-      rw asks.column_is (possible_between s.question.schema s.question.constraints (region_of s.question) s.nodes formed tree asks.column asks.numeric lost possible place d inside)
+      rw asks.column_is (possible_between s.question.schema s.question.constraints (area_of s.question) s.nodes formed tree asks.column asks.numeric lost possible place d inside)

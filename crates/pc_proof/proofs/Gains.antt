@@ -12,17 +12,17 @@ use Rattle.pc_program_bound.specs.SplitTrees.{tree_of, IsWithin}
 use Rattle.pc_program_bound.specs.CellPrograms.{counts_of}
 use Rattle.pc_program_bound.proofs.TreeBounds.{tree-bounds}
 use Rattle.pc_proof.proofs.PossibleRows.{rows_are_allocation, rows_are_worth}
-use Rattle.pc_proof.specs.Setting.{Setting, region_of, cells, program_for}
+use Rattle.pc_proof.specs.Setting.{Setting, area_of, cells, program_for}
 use Rattle.pc_proof.specs.Table.{limit, bound_for, IsSound, Shows, ShowsNone, Cross, one, minus_one}
 use Rattle.pc_proof.proofs.Seen.{int_sum-neg}
 
 -- the tree of cuts is settled for the question
 abbrev pub IsSettledFor : Setting → Type 0
-IsSettledFor s = IsSettledTree s.question.schema s.question.constraints (region_of s.question) s.nodes
+IsSettledFor s = IsSettledTree s.question.schema s.question.constraints (area_of s.question) s.nodes
 
 -- what the rows gain, each by its class
 abbrev pub gains_of : Setting → (Class → ℤ) → List Row → ℤ
-gains_of s gain rows = int_sum (map (λ (row : Row). gain (class_of s.question.constraints (region_of s.question) row)) rows)
+gains_of s gain rows = int_sum (map (λ (row : Row). gain (class_of s.question.constraints (area_of s.question) row)) rows)
 
 -- ---- numbers within a bound
 
@@ -46,9 +46,9 @@ module _ (s : Setting) (formed : IsWellFormed s.question.schema) (tree : IsSettl
     (possible : IsPossible s.question.schema s.question.constraints lost) where
   pub gains_within : (gain : Class → ℤ) (t : Tree) → IsSound (program_for s gain) t → IsWithin (gains_of s gain lost) (bound_for (program_for s gain) t)
   gains_within gain t sound =
-      subst (λ v. IsWithin v (bound_for (program_for s gain) t)) (rows_are_worth s.question.schema s.question.constraints (region_of s.question) s.nodes gain lost formed tree possible)
-      (tree-bounds (program_for s gain) (program_for s gain).floor (program_for s gain).cap (counts_of s.question.constraints (region_of s.question) (cells s) lost) (tree_of t.nodes) sound.proves
-      (rows_are_allocation s.question.schema s.question.constraints (region_of s.question) s.nodes gain lost formed tree possible))
+      subst (λ v. IsWithin v (bound_for (program_for s gain) t)) (rows_are_worth s.question.schema s.question.constraints (area_of s.question) s.nodes gain lost formed tree possible)
+      (tree-bounds (program_for s gain) (program_for s gain).floor (program_for s gain).cap (counts_of s.question.constraints (area_of s.question) (cells s) lost) (tree_of t.nodes) sound.proves
+      (rows_are_allocation s.question.schema s.question.constraints (area_of s.question) s.nodes gain lost formed tree possible))
 
   -- a tree that shows something of its bound shows it of a number that the gains do not pass
   pub shown_gains : (gain : Class → ℤ) (t : Tree) (P : ℤ → Type 0) → Shows (program_for s gain) t P → (k : ℤ) × P k × (gains_of s gain lost ≤ℤ k)
@@ -63,4 +63,4 @@ module _ (s : Setting) (formed : IsWellFormed s.question.schema) (tree : IsSettl
       Cross (bound_for (program_for s one) t) (bound_for (program_for s minus_one) u) → ⊥
   cross_possible t u first second cross =
       cross_within (gains_of s one lost) (gains_of s minus_one lost) (bound_for (program_for s one) t) (bound_for (program_for s minus_one) u)
-      (int_sum-neg (λ (row : Row). one (class_of s.question.constraints (region_of s.question) row)) lost) (gains_within one t first) (gains_within minus_one u second) cross
+      (int_sum-neg (λ (row : Row). one (class_of s.question.constraints (area_of s.question) row)) lost) (gains_within one t first) (gains_within minus_one u second) cross

@@ -3,18 +3,18 @@ use Rattle.std.proofs.Common.{◌≡◌, ℤ, pos, neg_ℤ, ◌≤ℤ◌, Bool, 
 use Rattle.std.proofs.lemmas.Int.{ints}
 use Rattle.pc_model.specs.declared.row.Row.{Row}
 use Rattle.pc_model.specs.declared.tree.Tree.{Tree}
-use Rattle.pc_model.specs.Membership.{has}
+use Rattle.pc_model.specs.Membership.{is_in}
 use Rattle.pc_model.specs.Aggregate.{asked, int_sum}
 use Rattle.pc_model.specs.Right.{IsPossibleFor}
 use Rattle.pc_model.specs.Cells.{Class, class_of}
 use Rattle.pc_proof.proofs.RowSums.{int_sum-same}
 use Rattle.pc_proof.proofs.PossibleRows.{rows_in_cells}
-use Rattle.pc_proof.specs.Setting.{Setting, region_of, seen_count, cells, low_in, high_in, on_chosen, counting, program_for}
+use Rattle.pc_proof.specs.Setting.{Setting, area_of, seen_count, cells, low_in, high_in, on_chosen, counting, program_for}
 use Rattle.pc_proof.specs.Table.{one, minus_one, Shows}
 use Rattle.pc_proof.specs.Unbroken.{IsWellPosed}
 use Rattle.pc_proof.proofs.Ends.{AsksNumbers, asked_between}
 use Rattle.pc_proof.proofs.Gains.{IsSettledFor, gains_of, shown_gains}
-use Rattle.pc_proof.proofs.Groups.{keeps_region}
+use Rattle.pc_proof.proofs.Groups.{keeps_area}
 use Rattle.pc_proof.proofs.Numbers.{sum_some, sum_none, none_from_length}
 use Rattle.pc_proof.proofs.Seen.{keeps, all_numbers, how_many, int_sum-neg}
 
@@ -46,7 +46,7 @@ abbrev pub kept_sum : Setting → List Row → ℤ
 kept_sum s lost = int_sum (map (λ (row : Row). cond (keeps s.question row) (asked s.question.query row) (pos 0)) lost)
 
 abbrev pub cell_of : Setting → Row → Class
-cell_of s row = class_of s.question.constraints (region_of s.question) row
+cell_of s row = class_of s.question.constraints (area_of s.question) row
 
 pub kept_some : (s : Setting) (lost : List Row) → pos 0 ≤ℤ kept_count s lost
 kept_some s lost =
@@ -59,12 +59,12 @@ module _ (s : Setting) (posed : IsWellPosed s.question) (tree : IsSettledFor s) 
   pub count_is : kept_count s lost ≡ gains_of s (on_chosen one) lost
   count_is =
       int_sum-same (λ (row : Row). cond (keeps s.question row) (pos 1) (pos 0)) (λ (row : Row). on_chosen one (cell_of s row)) lost
-      (λ (row : Row). ap (λ test. cond test (pos 1) (pos 0)) (keeps_region s.question posed row))
+      (λ (row : Row). ap (λ test. cond test (pos 1) (pos 0)) (keeps_area s.question posed row))
 
   pub minus_count_is : gains_of s (on_chosen minus_one) lost ≡ neg_ℤ (kept_count s lost)
   minus_count_is =
       int_sum-same (λ (row : Row). on_chosen minus_one (cell_of s row)) (λ (row : Row). neg_ℤ (cond (keeps s.question row) (pos 1) (pos 0))) lost
-      (λ (row : Row). neg_of_kept (keeps s.question row) (has (region_of s.question) row) (keeps_region s.question posed row))
+      (λ (row : Row). neg_of_kept (keeps s.question row) (is_in (area_of s.question) row) (keeps_area s.question posed row))
       ∙ int_sum-neg (λ (row : Row). cond (keeps s.question row) (pos 1) (pos 0)) lost
 
   -- no row that the query keeps passes where the rows of the chosen cells that pass are none
@@ -75,12 +75,12 @@ module _ (s : Setting) (posed : IsWellPosed s.question) (tree : IsSettledFor s) 
       let each = sum_none (λ (row : Row). counting passes (cell_of s row)) lost
       (λ place d inside. one_is_some ((cell_of s (get_or lost place d)).chosen && passes (cell_of s (get_or lost place d)))) (omega (arith, ints, found.1, found.2)) in
       λ place d inside kept.
-      passes_not (has (region_of s.question) (get_or lost place d)) (passes (cell_of s (get_or lost place d))) (each place d inside)
-      (sym (keeps_region s.question posed (get_or lost place d)) ∙ kept)
+      passes_not (is_in (area_of s.question) (get_or lost place d)) (passes (cell_of s (get_or lost place d))) (each place d inside)
+      (sym (keeps_area s.question posed (get_or lost place d)) ∙ kept)
 
   -- each row is in a cell
   pub in_cells : All (λ (row : Row). Contains (cells s) (cell_of s row)) lost
-  in_cells = rows_in_cells s.question.schema s.question.constraints (region_of s.question) s.nodes lost posed.formed tree possible
+  in_cells = rows_in_cells s.question.schema s.question.constraints (area_of s.question) s.nodes lost posed.formed tree possible
 
   module _ (asks : AsksNumbers s.question.schema s.question.query) where
     pub between : All (λ (row : Row). (low_in s (cell_of s row) ≤ℤ asked s.question.query row) × (asked s.question.query row ≤ℤ high_in s (cell_of s row))) lost

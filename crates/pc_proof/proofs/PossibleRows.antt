@@ -2,7 +2,7 @@
 use Rattle.std.proofs.Common.{◌≡◌, ℤ, List, map, get_or, All, Contains, refl}
 use Rattle.pc_model.specs.declared.schema.Schema.{Schema}
 use Rattle.pc_model.specs.declared.row.Row.{Row}
-use Rattle.pc_model.specs.declared.region.Region.{Region}
+use Rattle.pc_model.specs.declared.area.Area.{Area}
 use Rattle.pc_model.specs.declared.constraint.Constraint.{Constraint}
 use Rattle.pc_model.specs.declared.tree.CutNode.{CutNode}
 use Rattle.pc_model.specs.Aggregate.{int_sum}
@@ -22,7 +22,7 @@ lawful_from_possible schema constraints rows possible place row inside = record 
   kept = λ j c within. (possible.meets j c within).in_values place row inside;
 }
 
-module _ (schema : Schema) (constraints : List Constraint) (chosen : Region) (nodes : List CutNode) where
+module _ (schema : Schema) (constraints : List Constraint) (chosen : Area) (nodes : List CutNode) where
   -- and so is in a cell
   pub rows_in_cells : (rows : List Row) → IsWellFormed schema → IsSettledTree schema constraints chosen nodes → IsPossible schema constraints rows →
       All (λ (row : Row). Contains (classes_of (leaves_in schema nodes)) (class_of constraints chosen row)) rows

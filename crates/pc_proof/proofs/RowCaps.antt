@@ -5,7 +5,7 @@ use Rattle.std.specs.List.{AllPass, reduce}
 use Rattle.std.proofs.lemmas.List.Elements.{All-head, All-tail, All-nil, All-cons, All-map}
 use Rattle.std.proofs.lemmas.List.Folds.{Any-from_list_any}
 use Rattle.pc_model.specs.declared.row.Row.{Row}
-use Rattle.pc_model.specs.declared.region.Region.{Region}
+use Rattle.pc_model.specs.declared.area.Area.{Area}
 use Rattle.pc_model.specs.declared.constraint.Constraint.{Constraint}
 use Rattle.pc_model.specs.Membership.{is_under}
 use Rattle.pc_model.specs.Places.{has_bit}
@@ -60,19 +60,19 @@ members_some mask (c ∷ cs) (suc place) inside set = by_bit (has_bit mask 0) (m
 
 members_of_covered : (constraints : List Constraint) (row : Row) → is_covered constraints row ≡ true → members (mask_of constraints row) constraints ≢ []
 members_of_covered constraints row covered =
-    let found = Any-from_list_any (λ (c : Constraint). is_under c row) constraints covered in
+    let found = Any-from_list_any (λ (c : Constraint). is_under constraints c row) constraints covered in
     members_some (mask_of constraints row) constraints found.0 found.2
-    (mask_of-bit constraints row found.0 found.1 found.2 ∙ ap (λ (c : Constraint). is_under c row) found.3 ∙ found.4)
+    (mask_of-bit constraints row found.0 found.1 found.2 ∙ ap (λ (c : Constraint). is_under constraints c row) found.3 ∙ found.4)
 
 -- ---- the rows of a cell
 
 -- a row of the class is under each of its constraints
-under_member : (constraints : List Constraint) (chosen : Region) (class : Class) (row : Row) (place : ℕ) (d : Constraint) → place < length constraints →
-    has_bit class.mask place ≡ true → is_class (class_of constraints chosen row) class ≡ true → is_under (get_or constraints place d) row ≡ true
+under_member : (constraints : List Constraint) (chosen : Area) (class : Class) (row : Row) (place : ℕ) (d : Constraint) → place < length constraints →
+    has_bit class.mask place ≡ true → is_class (class_of constraints chosen row) class ≡ true → is_under constraints (get_or constraints place d) row ≡ true
 under_member constraints chosen class row place d inside set same =
     sym (mask_of-bit constraints row place d inside) ∙ ap (λ (c : Class). has_bit c.mask place) (is_class-same (class_of constraints chosen row) class same) ∙ set
 
-module _ (constraints : List Constraint) (chosen : Region) (class : Class) where
+module _ (constraints : List Constraint) (chosen : Area) (class : Class) where
   abbrev of_class : Row → Bool
   of_class row = is_class (class_of constraints chosen row) class
 
@@ -83,7 +83,7 @@ module _ (constraints : List Constraint) (chosen : Region) (class : Class) where
   abbrev mosts : List ℕ
   mosts = map (λ (c : Constraint). c.most) own
 
-  few_in_cell : (rows : List Row) → All (λ (c : Constraint). Meets c rows) constraints → All (λ (most : ℕ). count_by of_class rows ≤ most) mosts
+  few_in_cell : (rows : List Row) → All (λ (c : Constraint). Meets constraints c rows) constraints → All (λ (most : ℕ). count_by of_class rows ≤ most) mosts
   few_in_cell rows meets =
       All-map (λ (most : ℕ). count_by of_class rows ≤ most) (λ (c : Constraint). c.most) own
       (members_all (λ (c : Constraint). count_by of_class rows ≤ c.most) class.mask constraints at_member)
@@ -91,7 +91,7 @@ module _ (constraints : List Constraint) (chosen : Region) (class : Class) where
       at_member : (place : ℕ) (d : Constraint) → place < length constraints → has_bit class.mask place ≡ true → count_by of_class rows ≤ (get_or constraints place d).most
       at_member place d inside set =
           let under = λ (row : Row) (same : of_class row ≡ true). under_member constraints chosen class row place d inside set same in
-          let few = count_by-weaker of_class (is_under (get_or constraints place d)) rows under in
+          let few = count_by-weaker of_class (is_under constraints (get_or constraints place d)) rows under in
           omega (arith, few, (meets place d inside).not_more)
 
   -- a cell with a row has a constraint
@@ -106,7 +106,7 @@ module _ (constraints : List Constraint) (chosen : Region) (class : Class) where
       by_first false e (inl none) = inl (count_by-skips of_class row rows e ∙ none)
       by_first false e (inr some) = inr some
 
-  pub count_within_cap : (rows : List Row) → AllPass (is_covered constraints) rows → All (λ (c : Constraint). Meets c rows) constraints →
+  pub count_within_cap : (rows : List Row) → AllPass (is_covered constraints) rows → All (λ (c : Constraint). Meets constraints c rows) constraints →
       count_in constraints chosen rows class ≤ cap_of constraints class
   count_within_cap rows covered meets = by_some (cell_of_row rows covered)
     where

@@ -5,7 +5,7 @@ use Rattle.std.specs.List.{list_any}
 use Rattle.std.proofs.lemmas.Int.{ints}
 use Rattle.std.proofs.lemmas.List.Elements.{All-head, All-tail}
 use Rattle.pc_model.specs.declared.row.Row.{Row}
-use Rattle.pc_model.specs.declared.region.Region.{Region}
+use Rattle.pc_model.specs.declared.area.Area.{Area}
 use Rattle.pc_model.specs.declared.constraint.Constraint.{Constraint}
 use Rattle.pc_model.specs.Aggregate.{int_sum}
 use Rattle.pc_model.specs.Cells.{Class, class_of, is_class}
@@ -51,10 +51,10 @@ sum_of_listed gain class (c ∷ classes) differ listed =
 -- ---- the rows of all classes
 
 -- the class of each row is listed
-abbrev pub AreInClasses : List Constraint → Region → List Class → List Row → Type 0
+abbrev pub AreInClasses : List Constraint → Area → List Class → List Row → Type 0
 AreInClasses constraints chosen classes rows = All (λ (row : Row). Contains classes (class_of constraints chosen row)) rows
 
-module _ (constraints : List Constraint) (chosen : Region) (classes : List Class) (differ : AreDifferent classes) where
+module _ (constraints : List Constraint) (chosen : Area) (classes : List Class) (differ : AreDifferent classes) where
   abbrev gain_by_count : (Class → ℤ) → List Row → Class → ℤ
   gain_by_count gain rows class = gain class *ℤ pos (count_in constraints chosen rows class)
 

@@ -10,7 +10,7 @@ use Rattle.pc_model.specs.declared.query.Query.{Query}
 use Rattle.pc_model.specs.declared.query.Folded.{Folded}
 use Rattle.pc_model.specs.Aggregate.{asked, kept, is_in_group, int_sum, number_at}
 use Rattle.pc_model.specs.Folds.{IsFold, sum_at}
-use Rattle.pc_model.specs.Membership.{has, in_domain}
+use Rattle.pc_model.specs.Membership.{in_domain, is_in}
 use Rattle.pc_model.specs.WellFormed.{IsWellFormed}
 use Rattle.pc_proof.proofs.RowNumbers.{asked_small}
 
@@ -27,7 +27,7 @@ asked_at query column row is = rw is refl
 module _ (schema : Schema) (query : Query) (rows : List Row) (formed : IsWellFormed schema) (allowed : AllPass (in_domain schema) rows) where
   kept_small : (name : Option ℕ) → All (λ row. nat_abs (asked query row) ≤ 10 ^ 15) (kept query name rows)
   kept_small name =
-      All-filter (λ row. has query.chosen row && is_in_group query.group name row) (λ row. nat_abs (asked query row) ≤ 10 ^ 15) rows
+      All-filter (λ row. is_in query.chosen row && is_in_group query.group name row) (λ row. nat_abs (asked query row) ≤ 10 ^ 15) rows
       (λ place d inside. asked_small schema query (get_or rows place d) formed (allowed place d inside))
 
   pub seen_small : (name : Option ℕ) (seen : Folded) → IsFold query name rows seen → seen.count ≤ 1_000_000 → nat_abs seen.sum ≤ 1_000_000 * 10 ^ 15

@@ -6,7 +6,7 @@ use Rattle.std.proofs.lemmas.Int.{ints}
 use Rattle.pc_model.specs.declared.row.Row.{Row}
 use Rattle.pc_model.specs.declared.query.Agg.{Agg}
 use Rattle.pc_model.specs.declared.query.Agg.TheVariants.{Count, Sum, Min, Max, Avg}
-use Rattle.pc_model.specs.Membership.{has}
+use Rattle.pc_model.specs.Membership.{is_in}
 use Rattle.pc_model.specs.Aggregate.{Ratio, whole, IsAtMost, asked, int_sum, value_of}
 use Rattle.pc_model.specs.Right.{IsPossibleFor, value_for, always_has_value}
 use Rattle.pc_proof.specs.declared.answer.Proof.{Proof}
@@ -18,7 +18,7 @@ use Rattle.pc_proof.specs.declared.answer.NeverBy.{NeverBy}
 use Rattle.pc_proof.specs.declared.answer.NeverBy.TheVariants as nevers
 use Rattle.pc_proof.specs.declared.answer.AlwaysBy.{AlwaysBy}
 use Rattle.pc_proof.specs.declared.answer.AlwaysBy.TheVariants as alwayses
-use Rattle.pc_proof.specs.Setting.{Setting, region_of, seen, seen_count, seen_sum, high_in, low_in, on_chosen}
+use Rattle.pc_proof.specs.Setting.{Setting, area_of, seen, seen_count, seen_sum, high_in, low_in, on_chosen}
 use Rattle.pc_proof.specs.Table.{ratio_of, IsFormed, HasRatio, none, one, minus_one, minus_low, ShowsHigh, ShowsLow, EndsCross, HasValue, ShowsImpossible, ShowsNever, ShowsAlways}
 use Rattle.pc_proof.specs.Unbroken.{IsWellPosed}
 use Rattle.pc_proof.proofs.Averages.{avg_high, avg_low, avg_high_at, avg_low_at, avg_high_values, avg_low_values}
@@ -26,7 +26,7 @@ use Rattle.pc_proof.proofs.Ends.{AsksNumbers, IsOfNumbers, asks_numbers}
 use Rattle.pc_proof.proofs.Extremes.{min_low, max_high, min_high, max_low, min_high_seen, max_low_seen}
 use Rattle.pc_proof.proofs.Fractions.{lesser_at_most, greater_at_least}
 use Rattle.pc_proof.proofs.Gains.{IsSettledFor, gains_of, shown_gains, none_possible, cross_possible}
-use Rattle.pc_proof.proofs.Groups.{keeps_region}
+use Rattle.pc_proof.proofs.Groups.{keeps_area}
 use Rattle.pc_proof.proofs.Kept.{kept_count, kept_sum, kept_some, cell_of, count_is, minus_count_is, between, no_numbers}
 use Rattle.pc_proof.proofs.Lacks.{whole_if, none_from, not_crossed, gives_ratio, always_some, some_of, none_of}
 use Rattle.pc_proof.proofs.Seen.{keeps, all_numbers, how_many, what_sum, int_sum-neg, int_sum_mono}
@@ -58,16 +58,16 @@ module _ (s : Setting) (posed : IsWellPosed s.question) (tree : IsSettledFor s) 
   sum_under is =
       int_sum_mono (λ (row : Row). cond (keeps s.question row) (asked s.question.query row) (pos 0)) (λ (row : Row). on_chosen (high_in s) (cell_of s row)) lost
       (λ place d inside.
-      kept_under (keeps s.question (get_or lost place d)) (has (region_of s.question) (get_or lost place d)) (asked s.question.query (get_or lost place d)) (high_in s (cell_of s (get_or lost place d)))
-      (keeps_region s.question posed (get_or lost place d)) (between s posed tree lost possible (asks Sum is tt) place d inside).1)
+      kept_under (keeps s.question (get_or lost place d)) (is_in (area_of s.question) (get_or lost place d)) (asked s.question.query (get_or lost place d)) (high_in s (cell_of s (get_or lost place d)))
+      (keeps_area s.question posed (get_or lost place d)) (between s posed tree lost possible (asks Sum is tt) place d inside).1)
 
   minus_sum_under : s.question.query.agg ≡ Sum → neg_ℤ (kept_sum s lost) ≤ℤ gains_of s (on_chosen (minus_low s)) lost
   minus_sum_under is =
       subst (λ n. n ≤ℤ gains_of s (on_chosen (minus_low s)) lost) (int_sum-neg (λ (row : Row). cond (keeps s.question row) (asked s.question.query row) (pos 0)) lost)
       (int_sum_mono (λ (row : Row). neg_ℤ (cond (keeps s.question row) (asked s.question.query row) (pos 0))) (λ (row : Row). on_chosen (minus_low s) (cell_of s row)) lost
       (λ place d inside.
-      kept_over (keeps s.question (get_or lost place d)) (has (region_of s.question) (get_or lost place d)) (asked s.question.query (get_or lost place d)) (low_in s (cell_of s (get_or lost place d)))
-      (keeps_region s.question posed (get_or lost place d)) (between s posed tree lost possible (asks Sum is tt) place d inside).0))
+      kept_over (keeps s.question (get_or lost place d)) (is_in (area_of s.question) (get_or lost place d)) (asked s.question.query (get_or lost place d)) (low_in s (cell_of s (get_or lost place d)))
+      (keeps_area s.question posed (get_or lost place d)) (between s posed tree lost possible (asks Sum is tt) place d inside).0))
 
   -- ---- the ends
 

@@ -11,7 +11,7 @@ use Rattle.pc_model.specs.CutTrees as cuts
 use Rattle.pc_model.specs.Cells.{IsSettled}
 use Rattle.pc_program_bound.specs.declared.program.Program.{Program}
 use Rattle.pc_program_bound.specs.SplitTrees.{SplitTree, bound, void, split, size_of, tree_of, less_caps, more_floors, Proves}
-use Rattle.pc_proof.specs.Setting.{Setting, region_of}
+use Rattle.pc_proof.specs.Setting.{Setting, area_of}
 use Rattle.pc_proof.specs.Demands.{Placed, Holds, proper, settled, splits, bounds, voids, cut_demands, split_demands, tree_demands}
 use Rattle.pc_proof.proofs.Parts.{All-front, All-back, one-holds, the-one, parts-hold, the-parts}
 
@@ -19,7 +19,7 @@ module _ (s : Setting) where
   -- ---- trees of cuts
 
   abbrev IsFit : Leaf → Type 0
-  IsFit = IsSettled s.question.constraints (region_of s.question)
+  IsFit = IsSettled s.question.constraints (area_of s.question)
 
   abbrev leaf_line : ℕ → Region → LeafMark → Placed
   leaf_line line box mark = record { line = line; rule = 4; demand = settled box mark }

@@ -6,6 +6,7 @@ use Rattle.pc_model.specs.declared.schema.Kind.TheVariants as kinds
 use Rattle.pc_model.specs.declared.row.Row.{Row}
 use Rattle.pc_model.specs.declared.row.Run.{Run}
 use Rattle.pc_model.specs.declared.region.Side.TheVariants as sides
+use Rattle.pc_model.specs.declared.constraint.When.TheVariants.{Boxes}
 use Rattle.pc_model.specs.declared.constraint.Constraint.{Constraint}
 use Rattle.pc_model.specs.declared.tree.Cut.TheVariants as cuts
 use Rattle.pc_model.specs.declared.tree.CutNode.{CutNode}
@@ -18,7 +19,7 @@ use Rattle.pc_model.specs.declared.query.Agg.{Agg}
 use Rattle.pc_model.specs.declared.query.Agg.TheVariants.{Count, Avg}
 use Rattle.pc_model.specs.Aggregate.{Ratio}
 use Rattle.pc_model.specs.Right.{Question}
-use Rattle.pc_model.specs.Regions.{whole_region}
+use Rattle.pc_model.specs.Regions.{one_box, whole_area}
 use Rattle.pc_proof.specs.declared.answer.Proof.{Proof}
 use Rattle.pc_proof.specs.declared.answer.Proof.TheVariants as proofs
 use Rattle.pc_proof.specs.declared.answer.Bounded.{Bounded}
@@ -60,7 +61,7 @@ row branch day price = record { cells = pos branch ∷ pos day ∷ pos price ∷
 abbrev chicago : Constraint
 chicago = record {
   name = 99 ∷ [];
-  when = record { sides = sides.Names 1 ∷ sides.Span (pos 1) (pos 31) ∷ sides.Span (pos 0) (pos 100000) ∷ [] };
+  when = Boxes (one_box (record { sides = sides.Names 1 ∷ sides.Span (pos 1) (pos 31) ∷ sides.Span (pos 0) (pos 100000) ∷ [] }));
   values = record { sides = sides.Names 7 ∷ sides.Span (pos 1) (pos 31) ∷ sides.Span (pos 0) (pos 14999) ∷ [] };
   least = 0;
   most = 5;
@@ -74,7 +75,7 @@ question agg observed group name = record {
   schema = shop;
   observed = observed;
   constraints = chicago ∷ [];
-  query = record { agg = agg; column = Some 2; chosen = whole_region shop; group = group };
+  query = record { agg = agg; column = Some 2; chosen = whole_area shop; group = group };
   name = name;
 }
 

@@ -9,7 +9,7 @@ ghost use Rattle.pc_proof.specs.declared.answer.Bounded.{Bounded};
 ghost use Rattle.pc_proof.specs.declared.document.Block.{Block};
 ghost use Rattle.pc_model.specs.Cells.{IsSettledTree};
 ghost use Rattle.pc_proof.specs.Observed.{ComesTo};
-ghost use Rattle.pc_proof.specs.Setting.{Setting, region_of};
+ghost use Rattle.pc_proof.specs.Setting.{Setting, area_of};
 ghost use Rattle.pc_proof.specs.Table.{EndsCross};
 ghost use Rattle.pc_proof.specs.Unbroken.{HasForm, IsUnbroken, IsWellPosed, plain_answer};
 ghost use Rattle.pc_proof.specs.Documents.{Premises, ArePosed, HaveForm, AreUnbroken, AreRight};
@@ -21,7 +21,7 @@ pub fn unbroken_is_right()
 
 /// Where some possible list gives a value, ends with their proofs do not cross.
 pub fn given_ends_do_not_cross()
-    ensures { (s : Setting) (lost : List Row) (low high : Bounded) → IsWellPosed s.question → IsSettledTree s.question.schema s.question.constraints (region_of s.question) s.nodes → IsPossibleFor s.question lost → IsSome (value_for s.question lost) → EndsCross s low high → ⊥ }
+    ensures { (s : Setting) (lost : List Row) (low high : Bounded) → IsWellPosed s.question → IsSettledTree s.question.schema s.question.constraints (area_of s.question) s.nodes → IsPossibleFor s.question lost → IsSome (value_for s.question lost) → EndsCross s low high → ⊥ }
 {}
 
 /// The blocks of a document that breaks no rule are right, each with the tree that it means.

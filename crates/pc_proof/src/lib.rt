@@ -22,6 +22,6 @@ pub use forms::{formed_answers_have_form, formed_documents_have_form};
 pub use laws::{
     folds_are_observed, given_ends_do_not_cross, unbroken_are_right, unbroken_is_right,
 };
-pub use narrowing::narrowed;
+pub use narrowing::{allows_name, narrowed, some_allows};
 pub use programs::program_of;
 pub use verdicts::{broken_or_unbroken, demands_are_the_rules, one_first_broken, one_verdict};

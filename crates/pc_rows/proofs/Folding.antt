@@ -8,7 +8,7 @@ use Rattle.pc_model.specs.declared.row.Row.{Row}
 use Rattle.pc_model.specs.declared.query.Query.{Query}
 use Rattle.pc_model.specs.declared.query.Folded.{Folded}
 use Rattle.pc_model.specs.Aggregate.{kept, number_at}
-use Rattle.pc_model.specs.Membership.{has}
+use Rattle.pc_model.specs.Membership.{is_in}
 use Rattle.pc_model.specs.Folds.{sum_at, best_at, better, IsFold}
 use Rattle.pc_model.proofs.Folds.{any_group, fold_empty, fold_same, int_sum-push, reduce-push}
 use Rattle.pc_rows.specs.Folds.{sum_with, best_with, IsWithRow, IsSmall}
@@ -88,7 +88,7 @@ with_some column at folded extra number sum least greatest is number_is sum_is l
   greatest = rw (← number_is) (ap Some greatest_is);
 })
 
--- where no group is asked for, the query keeps the rows of its region
-pub keeps_all : (query : Query) (row : Row) (chosen : Bool) → has query.chosen row ≡ chosen → keeps query None row ≡ chosen
+-- where no group is asked for, the query keeps the rows of its area
+pub keeps_all : (query : Query) (row : Row) (chosen : Bool) → is_in query.chosen row ≡ chosen → keeps query None row ≡ chosen
 keeps_all query row true e = rw e (any_group query.group row)
 keeps_all query row false e = rw e refl

@@ -10,7 +10,7 @@ use Rattle.pc_model.specs.declared.query.Query.{Query}
 use Rattle.pc_model.specs.declared.query.Folded.{Folded}
 use Rattle.pc_model.specs.Aggregate.{number_at}
 use Rattle.pc_model.specs.Folds.{IsFold}
-use Rattle.pc_model.specs.Membership.{has, is_between}
+use Rattle.pc_model.specs.Membership.{is_in, is_between}
 use Rattle.pc_model.proofs.Between.{between_parts, between_from}
 use Rattle.pc_rows.specs.Folds.{IsWithRow, IsSmall}
 use Rattle.pc_rows.specs.Groups.{name_limit, name_at, IsSlotAt, AreSlotsBelow, AreSlotsOf, IsSlotFor, keeps, IsGroupOf}
@@ -84,8 +84,8 @@ slot_below names number below i lt e = absurd (omega (arith, ints, below, e))
 
 -- ---- the group of a row
 
--- a row of the region whose number in the group column is the place of that name, or of none
-module _ (query : Query) (names : List ℕ) (row : Row) (column : ℕ) (grouped : query.group ≡ Some column) (chosen : has query.chosen row ≡ true) (differ : AllPairs (λ (a b : ℕ). a ≢ b) names) where
+-- a row of the area whose number in the group column is the place of that name, or of none
+module _ (query : Query) (names : List ℕ) (row : Row) (column : ℕ) (grouped : query.group ≡ Some column) (chosen : is_in query.chosen row ≡ true) (differ : AllPairs (λ (a b : ℕ). a ≢ b) names) where
   in_group : (name : ℕ) → pos name ≡ number_at row column → keeps query (Some name) row ≡ true
   in_group name e = rw (chosen, grouped, ← e) (between_from (pos name) (pos name) (pos name) (omega (arith, ints)) (omega (arith, ints)))
 
@@ -108,8 +108,8 @@ module _ (query : Query) (names : List ℕ) (row : Row) (column : ℕ) (grouped 
       other_name : (i : ℕ) → i < length names → i ≢ index → pos (name_at names i) ≢ number_at row column
       other_name i lt differs e = two_names i lt (cases_order i index) differs (omega (arith, ints, e, some.1))
 
--- a row outside the region is in no group
-pub group_outside : (query : Query) (names : List ℕ) (row : Row) → has query.chosen row ≡ false → IsGroupOf query names row None
+-- a row outside the area is in no group
+pub group_outside : (query : Query) (names : List ℕ) (row : Row) → is_in query.chosen row ≡ false → IsGroupOf query names row None
 group_outside query names row outside = λ i lt. rw outside refl
 
 -- ---- the folds of groups

@@ -16,7 +16,7 @@ use std::alloc::Global;
 const NAME_LIMIT: usize = 128;
 
 impl Rows {
-    /// What the rows of each of these groups in the query's region come to, in the order of the names, in one
+    /// What the rows of each of these groups in the query's area come to, in the order of the names, in one
     /// walk over the rows. A name is its place in the list of the group column's names.
     pub fn fold_each(
         &self,

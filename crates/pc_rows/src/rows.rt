@@ -1,12 +1,12 @@
 ghost use Rattle.std.specs.Prelude.{◌≡◌, ◌<◌, ◌≤◌, List, [], ◌∷◌, ◌++◌, length, OnOk, OnErr, All, None, nat_abs, ◌^◌};
 ghost use Rattle.pc_model.specs.Aggregate.{number_at};
-ghost use Rattle.pc_model.specs.Membership.{has, row_from as row};
+ghost use Rattle.pc_model.specs.Membership.{has, is_in, row_from as row};
 ghost use Rattle.pc_model.specs.Folds.{IsFold};
 ghost use Rattle.pc_rows.specs.Stored.{row_at, row_limit};
 
 use crate::fold::{nothing, with_row};
 use crate::numbers::Numbers;
-use pc_model::{Column, Folded, Kind, Query, Region, Row};
+use pc_model::{Area, Column, Folded, Kind, Query, Region, Row};
 use pc_num::Memory;
 use std::alloc::Global;
 use std::marker::Model;
@@ -93,7 +93,7 @@ impl Rows {
         self.number(row as usize, column as usize)
     }
 
-    /// What the rows in the query's region come to. Where the query has no column, the sum is 0.
+    /// What the rows in the query's area come to. Where the query has no column, the sum is 0.
     pub fn fold(&self, query: &Query) -> Folded
         ensures folded { IsFold query.now None self.now result }
         ensures few { result.count ≤ row_limit }
@@ -127,9 +127,19 @@ impl Rows {
         self.width
     }
 
-    // Whether the region holds the row at a place.
+    // Whether some box of the area holds the row at a place.
+    pub(crate) fn has_row(&self, area: &Area, place: usize) -> bool
+        requires { place < length self.now }
+        ensures { result ≡ is_in area.now (row_at self.now place) }
+    {
+        area.boxes
+            .as_slice()
+            .iter()
+            .any(|region| self.is_in_box(region, place))
+    }
+
     #[tactic(auto, using(pc_model::proofs::Pairs::steps), unfolding(pc_model::specs::Membership::has))]
-    pub(crate) fn has_row(&self, region: &Region, place: usize) -> bool
+    fn is_in_box(&self, region: &Region, place: usize) -> bool
         requires { place < length self.now }
         ensures { result ≡ has region.now (row_at self.now place) }
     {

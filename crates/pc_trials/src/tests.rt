@@ -3,6 +3,7 @@ use pc_run::run;
 use std::alloc::Global;
 use std::test::Fail;
 
+mod areas;
 mod averages;
 mod blocks;
 mod cut_files;

@@ -8,11 +8,11 @@ use Rattle.pc_model.specs.Membership.{is_under}
 use Rattle.pc_witness.specs.Checks.{rows_under}
 
 -- the run at a place, and those after it
-pub rows_under-drop : (c : Constraint) (runs : List Run) (i : ℕ) (run : Run) → i < length runs → rows_under c (drop i runs) ≡ cond (is_under c (get_or runs i run).row) (get_or runs i run).times 0 + rows_under c (drop (i + 1) runs)
-rows_under-drop c runs i run here = sum_by-drop_more (λ (run : Run). cond (is_under c run.row) run.times 0) runs i run here
+pub rows_under-drop : (constraints : List Constraint) (c : Constraint) (runs : List Run) (i : ℕ) (run : Run) → i < length runs → rows_under constraints c (drop i runs) ≡ cond (is_under constraints c (get_or runs i run).row) (get_or runs i run).times 0 + rows_under constraints c (drop (i + 1) runs)
+rows_under-drop constraints c runs i run here = sum_by-drop_more (λ (run : Run). cond (is_under constraints c run.row) run.times 0) runs i run here
 
 -- nothing is left
-pub rows_under_end : (c : Constraint) (runs : List Run) (i : ℕ) → length runs ≤ i → rows_under c (drop i runs) ≡ 0
-rows_under_end c runs i past = rw (drop_all i runs past) refl
+pub rows_under_end : (constraints : List Constraint) (c : Constraint) (runs : List Run) (i : ℕ) → length runs ≤ i → rows_under constraints c (drop i runs) ≡ 0
+rows_under_end constraints c runs i past = rw (drop_all i runs past) refl
 
 pub ruleset steps = (rows_under-drop, rows_under_end)

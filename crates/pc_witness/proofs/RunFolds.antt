@@ -12,7 +12,7 @@ use Rattle.pc_model.specs.declared.row.Run.{Run}
 use Rattle.pc_model.specs.declared.query.Query.{Query}
 use Rattle.pc_model.specs.declared.query.Folded.{Folded}
 use Rattle.pc_model.specs.Aggregate.{int_sum, is_in_group, kept, number_at}
-use Rattle.pc_model.specs.Membership.{has}
+use Rattle.pc_model.specs.Membership.{is_in}
 use Rattle.pc_model.specs.Folds.{sum_at, best_at, better, IsFold}
 use Rattle.pc_model.specs.Runs.{rows_of}
 use Rattle.pc_model.proofs.Folds.{any_group, fold_empty, fold_same}
@@ -30,14 +30,14 @@ filter_none test zero row fails = refl
 filter_none test (suc n) row fails = rw fails (filter_none test n row fails)
 
 abbrev keeps : Query → Row → Bool
-keeps query row = has query.chosen row && is_in_group query.group None row
+keeps query row = is_in query.chosen row && is_in_group query.group None row
 
-kept_yes : (query : Query) (rows : List Row) (n : ℕ) (row : Row) → has query.chosen row ≡ true → kept query None (rows ++ replicate n row) ≡ kept query None rows ++ replicate n row
+kept_yes : (query : Query) (rows : List Row) (n : ℕ) (row : Row) → is_in query.chosen row ≡ true → kept query None (rows ++ replicate n row) ≡ kept query None rows ++ replicate n row
 kept_yes query rows n row chosen =
     let passes : keeps query row ≡ true = rw (chosen, any_group query.group row) refl in
     filter-append (keeps query) rows (replicate n row) ∙ ap (λ more. kept query None rows ++ more) (filter_all (keeps query) n row passes)
 
-kept_no : (query : Query) (rows : List Row) (n : ℕ) (row : Row) → has query.chosen row ≡ false → kept query None (rows ++ replicate n row) ≡ kept query None rows
+kept_no : (query : Query) (rows : List Row) (n : ℕ) (row : Row) → is_in query.chosen row ≡ false → kept query None (rows ++ replicate n row) ≡ kept query None rows
 kept_no query rows n row other =
     let fails : keeps query row ≡ false = rw other refl in
     filter-append (keeps query) rows (replicate n row) ∙ ap (λ more. kept query None rows ++ more) (filter_none (keeps query) n row fails) ∙ append-nil (kept query None rows)
@@ -94,7 +94,7 @@ max_same b = omega (arith, ints, clamps)
 
 -- ---- the fold with one run more
 
-pub fold_yes : (query : Query) (run : Run) (folded more : Folded) → 0 < run.times → has query.chosen run.row ≡ true → IsWithRun query.column folded run more → (rows : List Row) → IsFold query None rows folded → IsFold query None (rows ++ replicate run.times run.row) more
+pub fold_yes : (query : Query) (run : Run) (folded more : Folded) → 0 < run.times → is_in query.chosen run.row ≡ true → IsWithRun query.column folded run more → (rows : List Row) → IsFold query None rows folded → IsFold query None (rows ++ replicate run.times run.row) more
 fold_yes query run folded more some chosen with rows before =
     let old : List Row = kept query None rows in
     let longer : kept query None (rows ++ replicate run.times run.row) ≡ kept query None rows ++ replicate run.times run.row = kept_yes query rows run.times run.row chosen in
@@ -105,7 +105,7 @@ fold_yes query run folded more some chosen with rows before =
       greatest = with.greatest ∙ rw (before.greatest, longer) (sym (best_at-repeats int_max max_again max_same query.column old run some));
     }
 
-pub fold_no : (query : Query) (run : Run) (folded : Folded) → has query.chosen run.row ≡ false → (rows : List Row) → IsFold query None rows folded → IsFold query None (rows ++ replicate run.times run.row) folded
+pub fold_no : (query : Query) (run : Run) (folded : Folded) → is_in query.chosen run.row ≡ false → (rows : List Row) → IsFold query None rows folded → IsFold query None (rows ++ replicate run.times run.row) folded
 fold_no query run folded other rows before =
     fold_same query None rows (rows ++ replicate run.times run.row) folded (kept_no query rows run.times run.row other) before
 

@@ -6,7 +6,7 @@ use Rattle.std.proofs.lemmas.Int.{ints}
 use Rattle.std.proofs.lemmas.List.{length-map}
 use Rattle.pc_model.specs.declared.schema.Schema.{Schema}
 use Rattle.pc_model.specs.declared.row.Row.{Row}
-use Rattle.pc_model.specs.declared.region.Region.{Region}
+use Rattle.pc_model.specs.declared.area.Area.{Area}
 use Rattle.pc_model.specs.declared.constraint.Constraint.{Constraint}
 use Rattle.pc_model.specs.Aggregate.{int_sum}
 use Rattle.pc_model.specs.Runs.{rows_of, runs_from}
@@ -47,7 +47,7 @@ module _ (value : Row → ℤ) where
       ∙ ap (λ one. one *ℤ pos n +ℤ value_of_rows (rows_of (runs_from picks counts))) paired.0
       ∙ sym (value-cons row picks n counts)
 
-pub worth_of-rows : (schema : Schema) (constraints : List Constraint) (chosen : Region) (classes : List Class) (gain : Class → ℤ) (picks : List Row) (counts : List ℕ) →
+pub worth_of-rows : (schema : Schema) (constraints : List Constraint) (chosen : Area) (classes : List Class) (gain : Class → ℤ) (picks : List Row) (counts : List ℕ) →
     AllZip (IsRowOf schema constraints chosen) classes picks → length counts ≡ cells_of (program_of constraints classes gain) →
     worth (program_of constraints classes gain) counts ≡ int_sum (map (λ row. gain (class_of constraints chosen row)) (rows_of (runs_from picks counts)))
 worth_of-rows schema constraints chosen classes gain picks counts each sized =

@@ -24,7 +24,7 @@ pub fn total_times(runs: &[Run]) -> Option<u64>
     Some(total)
 }
 
-/// What the rows of the runs that are in the query's region come to. Where the query has no column, the sum is 0.
+/// What the rows of the runs that are in the query's area come to. Where the query has no column, the sum is 0.
 /// Whether there are too many rows for this, `total_times` tells.
 pub fn fold_runs(query: &Query, runs: &[Run]) -> Folded
     requires few { sum_by (λ (run : Run). run.times) runs.now ≤ 2 ^ 36 }
@@ -42,7 +42,7 @@ pub fn fold_runs(query: &Query, runs: &[Run]) -> Folded
     folded
 }
 
-// The fold with the rows of a run as well, where the query's region holds them.
+// The fold with the rows of a run as well, where the query's area holds them.
 fn with_run(folded: Folded, query: &Query, run: &Run) -> Folded
     requires few { folded.count + run.now.times ≤ 2 ^ 36 }
     requires small { nat_abs folded.sum ≤ folded.count * 2 ^ 63 }

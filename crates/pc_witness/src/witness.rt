@@ -31,45 +31,46 @@ fn is_covered(constraints: &[Constraint], row: &Row) -> bool
 {
     constraints
         .iter()
-        .any(|constraint| constraint.when.has(row))
+        .any(|constraint| constraint.speaks_of(constraints, row))
 }
 
 fn are_met(constraints: &[Constraint], runs: &[Run]) -> bool
-    ensures { result ≡ list_all (λ constraint. is_met constraint runs.now) constraints.now }
+    ensures { result ≡ list_all (λ constraint. is_met constraints.now constraint runs.now) constraints.now }
 {
     constraints
         .iter()
-        .all(|constraint| is_met(constraint, runs))
+        .all(|constraint| is_met(constraints, constraint, runs))
 }
 
-fn is_met(constraint: &Constraint, runs: &[Run]) -> bool
-    ensures { result ≡ is_met constraint.now runs.now }
+fn is_met(constraints: &[Constraint], constraint: &Constraint, runs: &[Run]) -> bool
+    ensures { result ≡ is_met constraints.now constraint.now runs.now }
 {
-    all_keep_values(constraint, runs) && keep_count(constraint, runs)
+    all_keep_values(constraints, constraint, runs) && keep_count(constraints, constraint, runs)
 }
 
-fn all_keep_values(constraint: &Constraint, runs: &[Run]) -> bool
-    ensures { result ≡ list_all (keeps_values constraint.now) runs.now }
+fn all_keep_values(constraints: &[Constraint], constraint: &Constraint, runs: &[Run]) -> bool
+    ensures { result ≡ list_all (keeps_values constraints.now constraint.now) runs.now }
 {
-    runs.iter().all(|run| keeps_values(constraint, run))
+    runs.iter()
+        .all(|run| keeps_values(constraints, constraint, run))
 }
 
 // Whether the run's row is in the constraint's values, if the constraint speaks of it.
-fn keeps_values(constraint: &Constraint, run: &Run) -> bool
-    ensures { result ≡ keeps_values constraint.now run.now }
+fn keeps_values(constraints: &[Constraint], constraint: &Constraint, run: &Run) -> bool
+    ensures { result ≡ keeps_values constraints.now constraint.now run.now }
 {
-    !constraint.when.has(&run.row) || constraint.values.has(&run.row)
+    !constraint.speaks_of(constraints, &run.row) || constraint.values.has(&run.row)
 }
 
 // Whether there are from `least` to `most` rows under the constraint. All of them may be more than a `u64`
 // counts, so the loop leaves where it would pass `most`.
 #[tactic(auto, using(crate::proofs::Counts::steps))]
-fn keep_count(constraint: &Constraint, runs: &[Run]) -> bool
-    ensures { result ≡ (nat_le constraint.now.least (rows_under constraint.now runs.now) && nat_le (rows_under constraint.now runs.now) constraint.now.most) }
+fn keep_count(constraints: &[Constraint], constraint: &Constraint, runs: &[Run]) -> bool
+    ensures { result ≡ (nat_le constraint.now.least (rows_under constraints.now constraint.now runs.now) && nat_le (rows_under constraints.now constraint.now runs.now) constraint.now.most) }
 {
     let mut count: u64 = 0;
     for run in runs {
-        if constraint.when.has(&run.row) {
+        if constraint.speaks_of(constraints, &run.row) {
             if run.times > constraint.most - count {
                 return false;
             }

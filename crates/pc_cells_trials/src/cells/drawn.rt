@@ -18,7 +18,7 @@ static QUESTIONS: [&str; 4] = [
     "count",
     "count where day <= 12",
     "count where branch = Chicago and price <= 100",
-    "count where branch in {NewYork, Trenton} and day in 7..20",
+    "count where branch in {NewYork, Trenton} and day in 7..20 or day >= 15",
 ];
 
 /// Numbers of a fixed generator.
@@ -55,9 +55,16 @@ fn line(alloc: Global, draws: &mut Draws, number: u32) -> Result<String, AllocEr
     let predicate = PREDICATES[(draws.below(4) % 4) as usize];
     let (first, last) = draws.days();
     let price = draws.below(1001);
-    format!(in alloc;
-        "c{number}: {predicate} and day in {first}..{last} => price <= {price}, 0..1\n"
-    )
+    let other = PREDICATES[(draws.below(4) % 4) as usize];
+    let (early, late) = draws.days();
+    match draws.below(2) {
+        0 => format!(in alloc;
+            "c{number}: {predicate} and day in {first}..{last} => price <= {price}, 0..1\n"
+        ),
+        _ => format!(in alloc;
+            "c{number}: {predicate} and day in {first}..{last} or {other} and day in {early}..{late} => price <= {price}, 0..1\n"
+        ),
+    }
 }
 
 fn lines(alloc: Global, draws: &mut Draws) -> Result<String, AllocError> {

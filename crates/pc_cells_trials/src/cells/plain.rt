@@ -6,7 +6,7 @@ ghost use Rattle.pc_cells.specs.Found.{IsFilled};
 use pc_cells::{Cells, decompose};
 use pc_lang::{read_constraints, read_query};
 use pc_list::Seq;
-use pc_model::{Constraint, Region, Row, Schema};
+use pc_model::{Area, Constraint, Region, Row, Schema};
 use pc_num::Memory;
 use pc_schema::read_schema;
 use std::alloc::{AllocError, Global};
@@ -64,11 +64,30 @@ fn part(alloc: Global, draws: &mut Draws) -> Result<String, AllocError> {
     }
 }
 
+/// One to four parts.
+fn area(alloc: Global, draws: &mut Draws) -> Result<String, AllocError> {
+    let mut text = part(alloc, draws)?;
+    let others = draws.below(6).saturating_sub(2);
+    for _ in 0..others {
+        let other = part(alloc, draws)?;
+        text.push_str(" or ")?;
+        text.push_str(other.as_str())?;
+    }
+    Ok(text)
+}
+
+/// Up to four lines with areas, and in some texts one of the rows outside before them or between them.
 fn lines(alloc: Global, draws: &mut Draws) -> Result<String, AllocError> {
     let mut text = String::new(alloc);
     let count = draws.below(5);
+    let outside = draws.below(6);
     for number in 0..count {
-        let when = part(alloc, draws)?;
+        if number == outside {
+            let values = part(alloc, draws)?;
+            let line = format!(in alloc; "outside => {values}, 0..1\n")?;
+            text.push_str(line.as_str())?;
+        }
+        let when = area(alloc, draws)?;
         let values = part(alloc, draws)?;
         let line = format!(in alloc; "n{number}: {when} => {values}, 0..1\n")?;
         text.push_str(line.as_str())?;
@@ -80,7 +99,7 @@ fn lines(alloc: Global, draws: &mut Draws) -> Result<String, AllocError> {
 #[derive(Drop)]
 struct Plain<'a> {
     constraints: &'a [Constraint],
-    chosen: &'a Region,
+    chosen: &'a Area,
 }
 
 /// The mask of a row and whether it is chosen, or none where it cannot be lost.
@@ -91,7 +110,7 @@ impl Plain<'_> {
         let mut mask = 0u32;
         let mut bit = 1u32;
         for c in self.constraints {
-            if c.when.has(row) {
+            if c.speaks_of(self.constraints, row) {
                 if !c.values.has(row) {
                     return None;
                 }
@@ -235,7 +254,7 @@ fn agrees(
     alloc: Global,
     schema: &Schema,
     constraints: &[Constraint],
-    chosen: &Region,
+    chosen: &Area,
 ) -> Result<bool, Memory>
     requires asked { CanBeDivided schema.now constraints.now chosen.now }
 {
@@ -274,7 +293,7 @@ fn cells_of_small_domains(rt: HostRuntime) -> Result<(), Fail> {
     let mut draws = Draws { state: 1 };
     for number in 0..200 {
         let text = lines(alloc, &mut draws)?;
-        let chosen = part(alloc, &mut draws)?;
+        let chosen = area(alloc, &mut draws)?;
         let question = format!(in alloc; "count where {chosen}")?;
         let agrees = has_plain_cells(alloc, &schema, text.as_str(), question.as_str())?;
         assert!(rt; agrees, "domain {number}");

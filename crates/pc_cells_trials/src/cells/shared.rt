@@ -5,14 +5,14 @@ ghost use Rattle.pc_cells_tree.specs.Linked.{CanBeDivided, IsTree};
 use super::{SHOP, place_of};
 use pc_cells::{Cells, Shared, decompose};
 use pc_lang::{read_constraints, read_query};
-use pc_model::{Constraint, Region, Schema};
+use pc_model::{Area, Constraint, Schema};
 use pc_num::Memory;
 use pc_schema::read_schema;
 use std::alloc::Global;
 use std::test::Fail;
 
 // Constraints, a query, and how many cuts the tree of one leaf wants for them.
-static CUTS: [(&str, &str, u64); 6] = [
+static CUTS: [(&str, &str, u64); 9] = [
     (
         "c: price >= 500.00 => price in 0.00..100.00, 1..2\n",
         "count",
@@ -31,6 +31,17 @@ static CUTS: [(&str, &str, u64); 6] = [
         "count where branch in {Chicago, Trenton}",
         4,
     ),
+    ("a: day in 1..5 or day in 3..9 => true, 0..1\n", "count", 2),
+    (
+        "a: day in 1..10 => true, 0..1\noutside => day <= 20, 0..1\n",
+        "count",
+        2,
+    ),
+    (
+        "c: true => true, 0..3\noutside => true, 1..1\n",
+        "count where day <= 5 or day <= 9",
+        2,
+    ),
 ];
 
 /// Whether the first refinement makes so many cuts, and the second none.
@@ -38,7 +49,7 @@ fn is_refined_once(
     alloc: Global,
     schema: &Schema,
     constraints: &[Constraint],
-    chosen: &Region,
+    chosen: &Area,
     cuts: u64,
 ) -> Result<bool, Memory>
     requires asked { CanBeDivided schema.now constraints.now chosen.now }
@@ -82,7 +93,7 @@ fn a_second_refinement_makes_no_cut(rt: HostRuntime) -> Result<(), Fail> {
 }
 
 // Constraints that are taken in one after the other, and a query.
-static IN_TURN: [(&str, &str); 10] = [
+static IN_TURN: [(&str, &str); 12] = [
     (
         "a: day in 1..10 => true, 0..1\nb: day in 5..20 => true, 0..1\n",
         "count",
@@ -123,6 +134,14 @@ static IN_TURN: [(&str, &str); 10] = [
         "a: day in 1..10 => price <= 1, 0..1\n",
         "count where price > 1",
     ),
+    (
+        "a: day in 1..10 or day in 5..20 => true, 0..1\nb: branch = Chicago and day <= 3 or day >= 15 => price <= 100, 0..1\n",
+        "count where day <= 7 or branch = Trenton",
+    ),
+    (
+        "outside => price <= 100, 0..1\na: day in 1..10 or branch = Chicago => true, 0..1\nb: branch in {NewYork, Trenton} and day >= 5 => true, 0..1\n",
+        "count where day <= 7 or price > 1",
+    ),
 ];
 
 // Takes in one constraint after the other, but for the last one.
@@ -130,7 +149,7 @@ fn refine_in_turn(
     shared: &mut Shared,
     schema: &Schema,
     constraints: &[Constraint],
-    chosen: &Region,
+    chosen: &Area,
 ) -> Result<(), Memory>
     requires asked { CanBeDivided schema.now constraints.now chosen.now }
     requires tree { IsTree schema.now shared.old.nodes }
@@ -159,7 +178,7 @@ fn have_same_cells(
     alloc: Global,
     schema: &Schema,
     constraints: &[Constraint],
-    chosen: &Region,
+    chosen: &Area,
 ) -> Result<bool, Memory>
     requires asked { CanBeDivided schema.now constraints.now chosen.now }
 {

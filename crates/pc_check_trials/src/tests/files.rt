@@ -10,6 +10,9 @@ pub(super) const NO_SALES: &str = "branch,day,price\n";
 
 pub(super) const CHEAP: &str = "c1: branch = Chicago => price in 0.00..149.99, 0..5\n";
 
+pub(super) const CHEAP_AND_REST: &str =
+    "c1: branch = Chicago => price in 0.00..149.99, 0..5\noutside => price in 0.00..10.00, 0..2\n";
+
 pub(super) const SHOP_SALES: Files<'static> = (SHOP, SALES, CHEAP);
 
 pub(super) const EMPTY_SHOP: Files<'static> = (SHOP, NO_SALES, CHEAP);

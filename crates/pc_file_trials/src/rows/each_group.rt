@@ -4,13 +4,14 @@ ghost use Rattle.pc_rows.specs.Groups.{name_limit};
 use super::folds::{Fold, folded};
 use super::{branches, sales};
 use pc_list::Seq;
-use pc_model::{Agg, Folded, Query, Region, Side};
+use pc_model::{Agg, Area, Folded, Query, Region, Side};
+use pc_num::Memory;
 use pc_rows::{Rows, read_rows};
 use std::alloc::{AllocError, Global};
 use std::test::Fail;
 
 // A sum of prices by branch, over the sales of some days.
-fn by_branch(alloc: Global, last_day: i64, bits: u128) -> Result<Query, AllocError> {
+fn by_branch(alloc: Global, last_day: i64, bits: u128) -> Result<Query, Memory> {
     let sides = [
         Side::Names { bits },
         Side::Span {
@@ -22,12 +23,13 @@ fn by_branch(alloc: Global, last_day: i64, bits: u128) -> Result<Query, AllocErr
             high: 100_000,
         },
     ];
+    let region = Region {
+        sides: Seq::from_slice(alloc, &sides)?,
+    };
     Ok(Query {
         agg: Agg::Sum,
         column: Some(2),
-        chosen: Region {
-            sides: Seq::from_slice(alloc, &sides)?,
-        },
+        chosen: Area::of_box(alloc, region)?,
         group: Some(0),
     })
 }

@@ -1,18 +1,14 @@
 use super::three_rows;
 use pc_list::Seq;
-use pc_model::{Agg, Folded, Query, Region, Side};
+use pc_model::{Agg, Area, Folded, Query, Region, Side};
+use pc_num::Memory;
 use pc_rows::Rows;
 use std::alloc::{AllocError, Global};
 use std::test::Fail;
 
 pub(crate) const ANY: (i64, i64) = (i64::MIN, i64::MAX);
 
-pub(crate) fn query(
-    alloc: Global,
-    column: Option<u8>,
-    first: (i64, i64),
-    second: (i64, i64),
-) -> Result<Query, AllocError> {
+fn region(alloc: Global, first: (i64, i64), second: (i64, i64)) -> Result<Region, AllocError> {
     let sides = [
         Side::Span {
             low: first.0,
@@ -23,12 +19,22 @@ pub(crate) fn query(
             high: second.1,
         },
     ];
+    Ok(Region {
+        sides: Seq::from_slice(alloc, &sides)?,
+    })
+}
+
+pub(crate) fn query(
+    alloc: Global,
+    column: Option<u8>,
+    first: (i64, i64),
+    second: (i64, i64),
+) -> Result<Query, Memory> {
+    let region = region(alloc, first, second)?;
     Ok(Query {
         agg: Agg::Count,
         column,
-        chosen: Region {
-            sides: Seq::from_slice(alloc, &sides)?,
-        },
+        chosen: Area::of_box(alloc, region)?,
         group: None,
     })
 }
@@ -53,7 +59,7 @@ pub(crate) fn folds_to(
     first: (i64, i64),
     second: (i64, i64),
     wanted: Fold,
-) -> Result<bool, AllocError> {
+) -> Result<bool, Memory> {
     let query = query(alloc, column, first, second)?;
     Ok(rows.fold(&query) == folded(wanted))
 }
@@ -84,6 +90,29 @@ fn folds(rt: HostRuntime) -> Result<(), Fail> {
         let none = folds_to(alloc, &empty, *column, *first, *second, nothing)?;
         assert!(rt; none, "case {number}");
     }
+    Ok(())
+}
+
+// The query whose area has a second box.
+fn with_box(
+    alloc: Global,
+    mut query: Query,
+    first: (i64, i64),
+    second: (i64, i64),
+) -> Result<Query, Memory> {
+    query.chosen.boxes.push(region(alloc, first, second)?)?;
+    Ok(query)
+}
+
+// Rows of either box, and a row of both once.
+#[test]
+fn folds_of_two_boxes(rt: HostRuntime) -> Result<(), Fail> {
+    let alloc = rt.alloc();
+    let rows = three_rows(alloc)?;
+    let apart = with_box(alloc, query(alloc, Some(0), (3, 3), ANY)?, (9, 9), ANY)?;
+    let shared = with_box(alloc, query(alloc, Some(0), (3, 7), ANY)?, (7, 9), ANY)?;
+    assert!(rt; rows.fold(&apart) == folded((2, 12, Some(3), Some(9))));
+    assert!(rt; rows.fold(&shared) == folded((3, 19, Some(3), Some(9))));
     Ok(())
 }
 

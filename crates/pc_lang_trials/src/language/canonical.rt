@@ -1,3 +1,4 @@
+use super::areas::{is_one_box, is_when_of};
 use super::put::{constraints_are_written, queries_are_written};
 use pc_lang::{read_constraints, read_query};
 use pc_model::{Agg, Constraint, Query, Side};
@@ -28,7 +29,7 @@ fn is_of_the_line(constraint: &Constraint) -> bool {
         Side::Names { bits: 0b101 },
     ];
     constraint.name.as_str() == "a"
-        && constraint.when.sides.as_slice() == when.as_slice()
+        && is_when_of(&constraint.when, &when)
         && constraint.values.sides.as_slice() == values.as_slice()
         && (constraint.least, constraint.most) == (0, 30)
 }
@@ -63,7 +64,7 @@ fn is_of_the_question(query: &Query) -> bool {
     ];
     query.agg == Agg::Sum
         && query.column == Some(1)
-        && query.chosen.sides.as_slice() == chosen.as_slice()
+        && is_one_box(&query.chosen, &chosen)
         && query.group == Some(2)
 }
 

@@ -1,10 +1,11 @@
 ghost use Rattle.pc_model.specs.WellFormed.{IsWellFormed};
 
+use super::areas::is_one_box;
 use super::files::many_lines;
 use super::put::SHOP;
 use pc_lang::{read_constraints, read_query};
 use pc_list::Seq;
-use pc_model::{Constraint, FileKind, Query, Reason, Refusal, Schema, Side};
+use pc_model::{Area, Constraint, FileKind, Query, Reason, Refusal, Schema, Side};
 use pc_schema::read_schema;
 use std::alloc::{AllocError, Global};
 use std::process::Abort;
@@ -22,7 +23,7 @@ const DAYS: (i64, i64) = (1, 31);
 
 const PRICES: (i64, i64) = (0, 100_000);
 
-fn are_cells(sides: &[Side], cells: &Cells) -> bool {
+fn are_cells(area: &Area, cells: &Cells) -> bool {
     let wanted = [
         Side::Names { bits: cells.0 },
         Side::Span {
@@ -34,15 +35,13 @@ fn are_cells(sides: &[Side], cells: &Cells) -> bool {
             high: cells.2.1,
         },
     ];
-    sides == wanted.as_slice()
+    is_one_box(area, &wanted)
 }
 
 fn is_meant(read: Result<Query, Refusal>, want: &Meant) -> bool {
     match (read, want) {
         (Ok(query), Ok((column, cells, group))) => {
-            query.column == *column
-                && are_cells(query.chosen.sides.as_slice(), cells)
-                && query.group == *group
+            query.column == *column && are_cells(&query.chosen, cells) && query.group == *group
         }
         (Err(Refusal::Fault(fault)), Err(reason)) => {
             fault.file == FileKind::Query && fault.place == 1 && fault.reason == *reason

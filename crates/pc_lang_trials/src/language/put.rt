@@ -1,7 +1,7 @@
 ghost use Rattle.pc_model.specs.WellFormed.{IsWellFormed};
 
 use pc_lang::{is_whole, put_constraints, put_query, read_constraints, read_query};
-use pc_model::{Refusal, Schema};
+use pc_model::{Refusal, Region, Schema, When};
 use pc_schema::read_schema;
 use std::alloc::Global;
 use std::process::Abort;
@@ -187,6 +187,13 @@ fn queries_of_odd_names(rt: HostRuntime) -> Result<(), Fail> {
     Ok(())
 }
 
+fn only_box(when: &When) -> Option<&Region> {
+    match when {
+        When::Boxes(area) => area.boxes.as_slice().first(),
+        When::Outside => None,
+    }
+}
+
 // The first part is of all rows, and the second is not.
 #[test]
 #[tactic(auto, using(pc_model::proofs::FewNames::have_few_names))]
@@ -199,7 +206,11 @@ fn whole_parts(rt: HostRuntime) -> Result<(), Fail> {
         assert!(rt; false, "another number of constraints");
         return Ok(());
     };
-    assert!(rt; is_whole(&schema, &constraint.when));
+    let Some(region) = only_box(&constraint.when) else {
+        assert!(rt; false, "another number of boxes");
+        return Ok(());
+    };
+    assert!(rt; is_whole(&schema, region));
     assert!(rt; !is_whole(&schema, &constraint.values));
     Ok(())
 }

@@ -7,7 +7,7 @@ use std::process::Abort;
 use std::str::from_utf8;
 
 /// The texts of a schema, rows and constraints, the queries, and the report without its runs.
-type Trial<'a> = (&'a str, &'a str, &'a str, &'a [&'a str], &'a str);
+pub(super) type Trial<'a> = (&'a str, &'a str, &'a str, &'a [&'a str], &'a str);
 
 const CHICAGO: &str = "c1: branch = Chicago => price in 0.00..149.99, 0..5\n";
 
@@ -84,7 +84,16 @@ fn without_runs(alloc: Global, text: &str) -> Result<String, AllocError> {
 
 /// The words of `bound` with these queries.
 fn words_with<'a>(alloc: Global, queries: &[&'a str]) -> Result<Vec<&'a str>, Fail> {
-    let mut words = vec![in alloc; "bound", "s", "r", "c"]?;
+    words_of(alloc, "bound", queries)
+}
+
+/// The words of a command with these queries.
+pub(super) fn words_of<'a>(
+    alloc: Global,
+    command: &'a str,
+    queries: &[&'a str],
+) -> Result<Vec<&'a str>, Fail> {
+    let mut words = vec![in alloc; command, "s", "r", "c"]?;
     for query in queries {
         words.push(*query)?;
     }
@@ -92,7 +101,11 @@ fn words_with<'a>(alloc: Global, queries: &[&'a str]) -> Result<Vec<&'a str>, Fa
 }
 
 /// What the words write over a shelf, which they use up, if they are answered by three loads and one put.
-fn answered(alloc: Global, words: &[&str], mut shelf: MemShelf) -> Result<Option<Seq<u8>>, Fail> {
+pub(super) fn answered(
+    alloc: Global,
+    words: &[&str],
+    mut shelf: MemShelf,
+) -> Result<Option<Seq<u8>>, Fail> {
     let mut sink = MemSink::new(alloc, 0);
     let ended = run_words(alloc, words, &mut shelf, &mut sink)?;
     if ended != Status::Done || (shelf.calls, sink.calls) != (3, 1) {
@@ -108,7 +121,7 @@ fn is_without_runs(rt: &impl Abort, alloc: Global, text: &[u8], want: &str) -> R
     Ok(kept.as_str() == want)
 }
 
-fn assert_trial(rt: &impl Abort, alloc: Global, trial: &Trial<'_>) -> Result<(), Fail> {
+pub(super) fn assert_trial(rt: &impl Abort, alloc: Global, trial: &Trial<'_>) -> Result<(), Fail> {
     let (schema, rows, constraints, queries, want) = *trial;
     let words = words_with(alloc, queries)?;
     let shelf = shelf_of(alloc, schema, rows, constraints)?;

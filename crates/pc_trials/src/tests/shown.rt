@@ -1,6 +1,6 @@
 use super::*;
 
-static LISTINGS_CASES: [(&str, &str, &str); 9] = [
+static LISTINGS_CASES: [(&str, &str, &str); 13] = [
     (
         SHOP,
         "c1: branch = Chicago => price in 0.00..149.99, 0..5\nc2: true => price in 0.00..100.00, 0..3\n",
@@ -38,6 +38,29 @@ static LISTINGS_CASES: [(&str, &str, &str); 9] = [
         "\"at, or from\",cat,\"New \"\"York\"\"\",and,or_1\nday,int,-3,31\nin,dec,3,-0.5,1\n",
         "\"a \"\"b\"\"\": \"at, or from\" = \"and\" => \"in\" > -0.5 and \"in\" <= +0.25, 0..2\nx_1: \"at, or from\" in {or_1, \"New \"\"York\"\"\"} and day < -1 => day > -3, 1..1\n",
         "\"a \"\"b\"\"\": \"at, or from\" = \"and\" => \"in\" in -0.499..0.250, 0..2\nx_1: \"at, or from\" in {\"New \"\"York\"\"\", or_1} and day in -3..-2 => day in -2..31, 1..1\ndisjoint yes\n",
+    ),
+    (
+        SHOP,
+        "c: branch = Chicago and day in 1..10 or branch = Trenton => price in 10.00..20.00, 1..4\n",
+        "c: branch = Chicago and day in 1..10 or branch = Trenton => price in 10.00..20.00, 1..4\ndisjoint yes\n",
+    ),
+    // boxes of one area may share rows, and a box that is everything is no reason to leave out the others
+    (
+        SHOP,
+        "c: day<5 or true or day in 3..9=>true,0..1\n",
+        "c: day in 1..4 or true or day in 3..9 => true, 0..1\ndisjoint yes\n",
+    ),
+    // boxes of two areas, of which the second ones share a row
+    (
+        SHOP,
+        "a: day = 1 or day in 5..9 => true, 0..1\nb: day = 2 or day >= 9 => true, 0..1\n",
+        "a: day = 1 or day in 5..9 => true, 0..1\nb: day = 2 or day in 9..31 => true, 0..1\ndisjoint no\n",
+    ),
+    // what is outside is apart from every area
+    (
+        SHOP,
+        "outside=>price<=10,0..2\nc: true => true, 0..3\n",
+        "outside => price in 0.00..10.00, 0..2\nc: true => true, 0..3\ndisjoint yes\n",
     ),
     (SHOP, "", "disjoint yes\n"),
     (SHOP, "# none", "disjoint yes\n"),

@@ -4,7 +4,7 @@ use Rattle.pc_cells_tree.proofs.refine.refined.Goals as goal
 
 pub settled-requires-clause-comparable : goal.settled-requires-clause-comparable
 settled-requires-clause-comparable c =
-    start_comparable c.args.schema.now c.args.constraints.now c.args.chosen.now c.args.nodes.now c.in_ok-boxes.boxes c.requires.asked.well_formed c.requires.asked.servable c.requires.asked.regional c.in_ok-boxes.ensures
+    start_comparable c.args.schema.now c.args.constraints.now c.args.chosen.now c.args.nodes.now c.in_ok-boxes.boxes c.requires.asked.well_formed c.requires.asked.servable c.requires.asked.area c.in_ok-boxes.ensures
 
 pub settled-requires-clause-tree : goal.settled-requires-clause-tree
 settled-requires-clause-tree c = rw c.in_ok-copy.ensures (start_tree (whole_region c.args.schema.now) c.args.nodes.now c.in_ok-boxes.boxes c.in_ok-boxes.ensures)
@@ -13,5 +13,5 @@ pub returns : goal.returns
 returns c =
     let is = rw c.in_ok-copy.ensures at c.in_ok-end.ensures in
     let comparable =
-    start_comparable c.args.schema.now c.args.constraints.now c.args.chosen.now c.args.nodes.now c.in_ok-boxes.boxes c.requires.asked.well_formed c.requires.asked.servable c.requires.asked.regional c.in_ok-boxes.ensures in
+    start_comparable c.args.schema.now c.args.constraints.now c.args.chosen.now c.args.nodes.now c.in_ok-boxes.boxes c.requires.asked.well_formed c.requires.asked.servable c.requires.asked.area c.in_ok-boxes.ensures in
     rw c.len.ensures (cut_on c.args.schema.now c.args.constraints.now c.args.chosen.now (record { nodes = c.args.nodes.now; boxes = c.in_ok-boxes.boxes }) c.in_ok-end.end c.in_ok-boxes.ensures is comparable)

@@ -6,7 +6,7 @@ use Rattle.pc_cells_tree.proofs.walk.marked.Goals as goal
 
 pub walked-requires-clause-visit : goal.walked-requires-clause-visit
 walked-requires-clause-visit c =
-    root-visit c.args.schema.now c.args.nodes.now c.args.constraints.now c.args.chosen.now c.in_ok-whole.whole c.requires.asked.well_formed c.requires.asked.servable c.requires.asked.regional c.requires.tree c.requires.divided c.in_ok-whole.ensures
+    root-visit c.args.schema.now c.args.nodes.now c.args.constraints.now c.args.chosen.now c.in_ok-whole.whole c.requires.asked.well_formed c.requires.asked.servable c.requires.asked.area c.requires.tree c.requires.divided c.in_ok-whole.ensures
 
 pub returns-clause-settled : goal.returns-clause-settled
 returns-clause-settled c =

@@ -1,6 +1,5 @@
 use Rattle.std.proofs.lemmas.Result.{IfOk-weaker}
 use Rattle.pc_model.specs.declared.tree.CutNode.TheVariants.{Leaf, Inner}
-use Rattle.pc_cells_tree.proofs.Grown.{box_comparable}
 use Rattle.pc_cells_tree.proofs.Walked.{node_read, visit_divided, leaf-settled, leaf-step, opened-step}
 use Rattle.pc_cells_tree.proofs.walk.visited.Goals as goal
 
@@ -13,7 +12,7 @@ mark_of-mark-requires-clause-settled c =
     leaf-settled c.args.nodes.now c.args.constraints.now c.args.chosen.now c.args.number c.args.part c.in-Leaf.mark c.requires.visit is_leaf
 
 pub opened-requires-clause-filled : goal.opened-requires-clause-filled
-opened-requires-clause-filled c = box_comparable c.args.constraints.now c.args.chosen.now c.args.part c.requires.visit.comparable
+opened-requires-clause-filled c = c.requires.visit.comparable.filled
 
 pub opened-requires-clause-divided : goal.opened-requires-clause-divided
 opened-requires-clause-divided c =

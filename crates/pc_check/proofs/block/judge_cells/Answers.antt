@@ -17,11 +17,11 @@ pub returns : goal.returns
 returns c = λ nodes same.
     let case = case_of c.args.premises.now in
     c.judge_answer.ensures (setting_of case c.args.block.now nodes)
-    (matter_of case c.args.block.now c.args.region c.args.leaves.now _ nodes c.requires.premises.formed c.requires.formed c.requires.allowed
+    (matter_of case c.args.block.now c.args.area c.args.leaves.now _ nodes c.requires.premises.formed c.requires.formed c.requires.allowed
     (record {
       schema_is = refl;
       asked_is = refl;
-      region_is = c.requires.region;
+      area_is = c.requires.area;
       constraints_are = refl;
       cells_are = c.as_slice.ensures ∙ c.in_ok-cells.ensures.cells;
       agg_is = refl;

@@ -6,7 +6,7 @@ use Rattle.pc_gen.proofs.constraint.draw_constraint.Goals as goal
 
 pub returns-clause-constraint : goal.returns-clause-constraint
 returns-clause-constraint c =
-    let same = drawn_is c.args.hidden.now c.args.number _ _ _ _ c.in_ok-draw_when.ensures.region c.draw_when.ensures.state c.fold-inside.ensures.folded in
+    let same = drawn_is c.args.hidden.now c.args.number _ _ _ _ _ c.in_ok-when.ensures.region c.in_ok-of_box.ensures c.draw_when.ensures.state c.fold-inside.ensures.folded in
     IfOk-weaker c.constraint_by.result _ _ (λ found is. is ∙ same) c.constraint_by.ensures.constraint
 
 pub returns-clause-state : goal.returns-clause-state

@@ -1,8 +1,8 @@
-use Rattle.std.proofs.Common.{◌≡◌, true, sym, subst}
+use Rattle.std.proofs.Common.{◌≡◌, sym, subst}
 use Rattle.std.proofs.lemmas.Result.{IfOk-weaker}
 use Rattle.pc_model.specs.declared.query.Agg.TheVariants.{Avg}
 use Rattle.pc_model.specs.declared.query.Query.{Query}
-use Rattle.pc_model.specs.Regions.{is_region_of}
+use Rattle.pc_model.specs.Boxes.{IsAreaOf}
 use Rattle.pc_agg_search.specs.Asked.{Asking, setting_for}
 use Rattle.pc_agg.specs.Owed.{Owes}
 use Rattle.pc_avg.specs.Averages.{HasShortEnds}
@@ -17,8 +17,8 @@ cells-requires-clause-asked c = record {
   well_formed = c.requires.scope.formed;
   few = c.requires.scope.limited.few;
   servable = c.requires.scope.limited.servable;
-  regional =
-      subst (λ (q : Query). is_region_of c.args.scope.now.schema.now q.chosen ≡ true) (sym c.in_ok-asked.ensures)
+  area =
+      subst (λ (q : Query). IsAreaOf c.args.scope.now.schema.now q.chosen) (sym c.in_ok-asked.ensures)
       (query_for_is c.args.scope.now.schema.now c.args.query.now c.args.name c.requires.allowed c.requires.asked).chosen;
 }
 

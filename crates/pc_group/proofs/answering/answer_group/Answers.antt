@@ -10,7 +10,7 @@ use Rattle.pc_group.specs.Trees.{AreDividedFor}
 use Rattle.pc_group.specs.Wanted.{Wanted, wanted_of}
 use Rattle.pc_group.specs.Written.{AreBlocksOf}
 use Rattle.pc_group.proofs.GroupNames.{different_names, names_allowed}
-use Rattle.pc_group.proofs.Regions.{grouped}
+use Rattle.pc_group.proofs.Areas.{grouped}
 use Rattle.pc_proof.proofs.SeenSums.{each_small}
 use Rattle.pc_group.proofs.answering.answer_group.Goals as goal
 

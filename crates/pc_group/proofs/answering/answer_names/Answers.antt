@@ -4,7 +4,7 @@ use Rattle.pc_model.specs.Folds.{IsFold}
 use Rattle.pc_group.specs.Answers.{AnswersWanted}
 use Rattle.pc_group.specs.Wanted.{Wanted, wanted_of}
 use Rattle.pc_group.specs.Written.{AreBlocksOf}
-use Rattle.pc_group.proofs.Regions.{blocks_more, divided_at}
+use Rattle.pc_group.proofs.Areas.{blocks_more, divided_at}
 use Rattle.pc_group.proofs.Telling.{zip_at}
 use Rattle.pc_group.proofs.answering.answer_names.Goals as goal
 

@@ -4,7 +4,7 @@ use Rattle.pc_group.specs.declared.blocks.Written.{Written}
 use Rattle.pc_group.specs.Answers.{AnswersWanted}
 use Rattle.pc_group.specs.Wanted.{Wanted}
 use Rattle.pc_group.specs.Written.{AreBlocksOf}
-use Rattle.pc_group.proofs.Regions.{divided_of, none_wanted, wanted_more, wanted_whole}
+use Rattle.pc_group.proofs.Areas.{divided_of, none_wanted, wanted_more, wanted_whole}
 use Rattle.pc_group.proofs.Telling.{no_blocks}
 use Rattle.pc_group.proofs.answering.answer_queries.Goals as goal
 

@@ -1,5 +1,5 @@
 use Rattle.std.proofs.Common.{None}
-use Rattle.pc_group.proofs.Regions.{divided_alone}
+use Rattle.pc_group.proofs.Areas.{divided_alone}
 use Rattle.pc_proof.proofs.SeenSums.{seen_small}
 use Rattle.pc_group.proofs.answering.answer_query.Goals as goal
 

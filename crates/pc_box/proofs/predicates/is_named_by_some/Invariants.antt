@@ -1,0 +1,7 @@
+use Rattle.std.proofs.Common.{All, take}
+use Rattle.pc_model.specs.declared.constraint.Constraint.{Constraint}
+use Rattle.pc_model.specs.Cells.{IsInsideNamed}
+use Rattle.pc_box.proofs.predicates.is_named_by_some.Given as goal
+
+abbrev pub invariant-loop-constraint : goal.invariant-loop-constraint
+invariant-loop-constraint l = All (λ (c : Constraint). IsInsideNamed l.part c.when → ⊥) (take l.constraint-index l.constraints)

@@ -1,6 +1,0 @@
-use Rattle.std.proofs.Common.{◌≡◌, map, take}
-use Rattle.pc_group.specs.Wanted.{region_of, wanted}
-use Rattle.pc_group.proofs.wanted.regions_of.Given as goal
-
-abbrev pub invariant-loop-query : goal.invariant-loop-query
-invariant-loop-query l = l.regions ≡ map region_of (wanted l.schema (take l.query-index l.queries))
