@@ -1,10 +1,12 @@
 #!/usr/bin/env bash
 # Measures the division of a domain into cells on families of constraints: spans of one column each inside the one before;
-# random boxes of 3 and of 12 columns; random spans of two or three columns of 4, 8 or 12, and of 8 with ten numbers each;
-# a chain's shops, windows of days times regions, and sliding windows times regions. For each it prints the leaves, the
-# cells, the time of one division, that time over the leaves, and peak memory; then the ratios of the time over the leaves
-# between the families; and how many cuts the last constraint takes in a tree that is settled for the others, over the
-# four per column and leaf that it may take. It proves and builds crates/pc_bench first, and measures with Debian's `time`.
+# random boxes of 3 and of 12 columns; random spans of two or three columns of 4, 8 or 12, and of 8 with ten numbers each; a
+# chain's shops, windows of days times regions, and sliding windows times regions; predicates of two to four random boxes of
+# 3 columns and of random spans of 8; random boxes of 3 columns with a line of the rows outside. For each it prints the
+# leaves, the cells, the time of one division, that time over the leaves, and peak memory; then the ratios of the time over
+# the leaves between the families; and how many cuts the last constraint takes in a tree that is settled for the others,
+# over the four per column and leaf that it may take. It proves and builds crates/pc_bench first, and measures with Debian's
+# `time`.
 # Usage: bench/cells.sh
 set -eu
 top=$(cd "$(dirname "$0")/.." && pwd)
@@ -39,6 +41,10 @@ twelve-sparse 8 40
 shops 20 4000
 windows 16 3000
 sliding 20 3000
+three-parts 4 2000
+three-parts 8 200
+eight-parts 4 200
+outside 10 5000
 PLANS
 awk '{ leaf[$1 " " $2] = $4 / $3 / $7 } END {
   printf "a leaf of three 20 over one of nested 20: %.2f\n", leaf["three 20"] / leaf["nested 20"]
