@@ -43,21 +43,21 @@ use Rattle.pc_document.specs.Told.{IsDocumentText}
 
 -- ---- lines of lists
 
-nodes_counted : {A : Type 0} (text : A → List ℕ) (xs : List A) → length (nodes_text text xs) ≡ length xs
+pub nodes_counted : {A : Type 0} (text : A → List ℕ) (xs : List A) → length (nodes_text text xs) ≡ length xs
 nodes_counted text [] = refl
 nodes_counted text (x ∷ xs) = let later = nodes_counted text xs in omega (arith, later)
 
-runs_counted : (schema : Schema) (runs : List Run) → length (runs_lines schema runs) ≡ length runs
+pub runs_counted : (schema : Schema) (runs : List Run) → length (runs_lines schema runs) ≡ length runs
 runs_counted schema [] = refl
 runs_counted schema (run ∷ runs) = let later = runs_counted schema runs in omega (arith, later)
 
-tree_counted : (t : Tree) → length (tree_lines t) ≡ length t.nodes
+pub tree_counted : (t : Tree) → length (tree_lines t) ≡ length t.nodes
 tree_counted t = nodes_counted (λ node. node_text (bare node)) t.nodes
 
 -- ---- an answer
 
 module _ (schema : Schema) (query : Query) where
-  proof_counted : (proof : Proof) → length (proof_lines schema query proof) ≡ demands.proof_lines proof
+  pub proof_counted : (proof : Proof) → length (proof_lines schema query proof) ≡ demands.proof_lines proof
   proof_counted proofs.Rows = refl
   proof_counted (proofs.Tree t) = let tree = tree_counted t in omega (arith, tree)
   proof_counted (proofs.At ratio t) = let tree = tree_counted t in omega (arith, tree)
@@ -79,7 +79,7 @@ module _ (schema : Schema) (query : Query) where
       omega (arith, both, one, two)
   why_counted (whys.Ends first second) = let both = crossing_counted first second in omega (arith, both)
 
-  relation_counted : (relation : Relation) → length (relation_lines schema query relation) ≡ demands.relation_lines relation
+  pub relation_counted : (relation : Relation) → length (relation_lines schema query relation) ≡ demands.relation_lines relation
   relation_counted (relations.Possible runs) = let each = runs_counted schema runs in omega (arith, each)
   relation_counted (relations.Impossible why) = let each = why_counted why in omega (arith, each)
   relation_counted relations.Undecided = refl
@@ -92,7 +92,7 @@ module _ (schema : Schema) (query : Query) where
   always_counted (alwayses.Tree t) = let tree = tree_counted t in omega (arith, tree)
   always_counted (alwayses.Ends first second) = let both = crossing_counted first second in omega (arith, both)
 
-  lack_counted : (lack : Lack) → length (lack_lines schema query lack) ≡ demands.lack_lines lack
+  pub lack_counted : (lack : Lack) → length (lack_lines schema query lack) ≡ demands.lack_lines lack
   lack_counted lacks.Silent = refl
   lack_counted (lacks.Never by') = let each = never_counted by' in omega (arith, each)
   lack_counted (lacks.Sometimes without with') =
@@ -103,7 +103,7 @@ module _ (schema : Schema) (query : Query) where
   lack_counted (lacks.Always by') = let each = always_counted by' in omega (arith, each)
   lack_counted lacks.Undecided = refl
 
-  end_counted : (side : Side) (end : End) → length (end_lines schema query side end) ≡ demands.mark_lines end.mark + demands.proof_lines end.proof
+  pub end_counted : (side : Side) (end : End) → length (end_lines schema query side end) ≡ demands.mark_lines end.mark + demands.proof_lines end.proof
   end_counted side end = by_mark end.mark
     where
       by_mark : (mark : Mark) → length (mark_lines schema query side end mark) ≡ demands.mark_lines mark + demands.proof_lines end.proof
@@ -124,17 +124,17 @@ module _ (schema : Schema) (query : Query) where
 
 -- ---- a block
 
-name_counted : (schema : Schema) (group name : Option ℕ) → is_none name ≡ is_none group → 1 + length (name_lines schema group name) ≡ demands.front_lines name
+pub name_counted : (schema : Schema) (group name : Option ℕ) → is_none name ≡ is_none group → 1 + length (name_lines schema group name) ≡ demands.front_lines name
 name_counted schema None None same = refl
 name_counted schema None (Some place) same = absurd (false≢true same)
 name_counted schema (Some group) None same = absurd (false≢true (sym same))
 name_counted schema (Some group) (Some place) same = refl
 
-tree_lines_counted : (schema : Schema) (tree : BlockTree) → length (block_tree_lines schema tree) ≡ tree_count tree
+pub tree_lines_counted : (schema : Schema) (tree : BlockTree) → length (block_tree_lines schema tree) ≡ tree_count tree
 tree_lines_counted schema (trees.Own t) = let each = nodes_counted (λ node. cut_node_text schema (bare_cut node)) t.nodes in omega (arith, each)
 tree_lines_counted schema trees.Same = refl
 
-block_counted : (schema : Schema) (b : Block) → IsFormedBlock schema b → length (block_lines schema b) ≡ block_count b
+pub block_counted : (schema : Schema) (b : Block) → IsFormedBlock schema b → length (block_lines schema b) ≡ block_count b
 block_counted schema b formed =
     let after : After = record { lack = b.answer.lack; ends = b.answer.ends } in
     let last = length-append (lack_lines schema b.query b.answer.lack) (ends_lines schema b.query b.answer.ends) in

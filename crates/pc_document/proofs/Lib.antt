@@ -5,6 +5,7 @@ pub mod CutPlacing
 pub mod CutSteps
 pub mod CutsFormat
 pub mod DocumentFormat
+pub mod InPlace
 pub mod LineStarts
 pub mod NodeSteps
 pub mod PartFormats
@@ -13,6 +14,8 @@ pub mod PlacedTrees
 pub mod PlacingSteps
 pub mod Reaches
 pub mod RunSteps
+pub mod Standing
+pub mod StatementParts
 pub mod Telling
 pub mod TreeFormat
 pub mod Writing

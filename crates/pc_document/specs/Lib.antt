@@ -3,4 +3,5 @@ pub mod Parts
 pub mod Places
 pub mod Reading
 pub mod Spans
+pub mod Statements
 pub mod Told

@@ -24,5 +24,7 @@ mod words;
 mod writer;
 
 pub use document::{NoDocument, read_document};
-pub use laws::{documents_read_back, lines_are_bytes, one_document, reading_tells};
+pub use laws::{
+    demands_name_their_lines, documents_read_back, lines_are_bytes, one_document, reading_tells,
+};
 pub use writer::put_document;
