@@ -16,8 +16,10 @@ use Rattle.pc_document.proofs.DocumentFormat.{only_document}
 use Rattle.pc_check.specs.declared.verdict.Verdict.{Verdict}
 use Rattle.pc_check.specs.declared.verdict.Verdict.TheVariants as verdicts
 use Rattle.pc_run_words.specs.Words.{Asked, CheckNames, check}
-use Rattle.pc_run.specs.declared.claim.Claim.{Claim}
-use Rattle.pc_run.specs.Outcome.{Obstacle, Input, claims, as_input, refused, absent, claim_under, ComesTo, AreAccepted}
+use Rattle.pc_run.specs.declared.input.Claim.{Claim}
+use Rattle.pc_run.specs.declared.input.Input.{Input}
+use Rattle.pc_run.specs.declared.input.Input.TheVariants.{Claims}
+use Rattle.pc_run.specs.Outcome.{Obstacle, as_input, refused, absent, claim_under, ComesTo, AreAccepted}
 use Rattle.pc_run.specs.Replies.{BreaksFirst, BreaksRule, HasVerdict, IsCheckable, IsNoDocument, IsSoundInput, RepliesTo, RepliesToCommand, RepliesToNone, Responds, Says, SaysFault, SaysInput, SaysOutcome, SaysProof, SaysVerdict, SpellsUnbroken, status_of}
 use Rattle.pc_run.specs.Meaning.{Call, ChecksClaim, IsAnswerable, IsDoneUnlessMemory, IsProved, Means, SaysNoUnlessMemory}
 use Rattle.pc_run.proofs.Answering.{answers, same_names}
@@ -68,9 +70,9 @@ not_unread : (status : Status) → (status ≡ ended.Done) ⊎ (status ≡ ended
 not_unread status said is = ⊎_elim (λ done. let both = sym done ∙ is in let no : ⊥ = cc in no) (λ no'. let both = sym no' ∙ is in let no : ⊥ = cc in no) said
 
 module _ (call : Call) (checks : ChecksClaim call) where
-  claim_is : (told : Option Files) (said : Input) → IsSomeAnd told (λ files. claim_under checks.names files ≡ Ok checks.claim) → ComesTo told (check checks.names) (Ok said) → claims checks.claim ≡ said
+  claim_is : (told : Option Files) (said : Input) → IsSomeAnd told (λ files. claim_under checks.names files ≡ Ok checks.claim) → ComesTo told (check checks.names) (Ok said) → Claims checks.claim ≡ said
   claim_is None said held comes = absurd held
-  claim_is (Some files) said held comes = let same : as_input claims (Ok checks.claim) ≡ Ok said = rw held at comes in cc
+  claim_is (Some files) said held comes = let same : as_input Claims (Ok checks.claim) ≡ Ok said = rw held at comes in cc
 
   module _ (status : Status) (answered : (status ≡ ended.Done) ⊎ (status ≡ ended.SaidNo)) (text : List ℕ) where
     by_outcome : (outcome : Result Input Obstacle) → IfOk outcome IsSoundInput → Says outcome status text → ComesTo call.reading.files (check checks.names) outcome → SaysOf checks.claim status

@@ -1,6 +1,7 @@
 -- A run over files that are held and accepted, where no load and no put failed, is done, or says no of a document, or has no
 -- memory.
 use Rattle.std.proofs.Common.{◌≡◌, ℕ, ⊎_elim, inl, inr, List, Option, Some, None, Result, Ok, Err, IsOk, sym, subst, refl, ◌∙◌}
+use Rattle.pc_model.specs.Refusals.{◌>>=◌}
 use Rattle.pc_model.specs.declared.schema.Schema.{Schema}
 use Rattle.pc_model.specs.declared.row.Row.{Row}
 use Rattle.pc_model.specs.declared.fault.FileKind.{FileKind}
@@ -11,10 +12,12 @@ use Rattle.pc_base.specs.Files.{Files, IsAbsent, file_of}
 use Rattle.pc_model.specs.declared.fault.Fault.{Fault}
 use Rattle.pc_rows.specs.declared.case.Case.{Case}
 use Rattle.pc_run_words.specs.Words.{BoundNames, CheckNames, ShowNames, Asked, bound, prove, check, show, gen, command_of}
-use Rattle.pc_run.specs.Outcome.{Obstacle, refused, absent, and_then, Input, asks, proves, claims, shows, makes, as_input, bytes_under, schema_under, rows_under, constraints_under, case_under, claim_under, listing_under, accepted_under, ComesTo, AreAccepted}
+use Rattle.pc_run.specs.Outcome.{Obstacle, refused, absent, as_input, made, bytes_under, schema_under, rows_under, constraints_under, case_under, claim_under, listing_under, accepted_under, ComesTo, AreAccepted}
 use Rattle.pc_run.specs.Loading.{name_of}
-use Rattle.pc_run.specs.declared.claim.Claim.{Claim}
-use Rattle.pc_run.specs.declared.listing.Listing.{Listing}
+use Rattle.pc_run.specs.declared.input.Claim.{Claim}
+use Rattle.pc_run.specs.declared.input.Input.{Input}
+use Rattle.pc_run.specs.declared.input.Input.TheVariants.{Asks, Proves, Claims, Shows}
+use Rattle.pc_run.specs.declared.input.Listing.{Listing}
 use Rattle.std.proofs.lemmas.Bool.{false≢true}
 use Rattle.pc_run.specs.Replies.{IsReached, SaysInput}
 use Rattle.pc_run.specs.Meaning.{Call, HasEnded, IsRefused, HasReadFault, Means, IsAnswer, IsAnswerable, IsAnswerUnlessMemory}
@@ -26,7 +29,7 @@ record Step {X Y : Type 0} (first : Result X Obstacle) (next : X → Result Y Ob
   first_is : first ≡ Ok value
   next_is : next value ≡ Ok y
 
-step : {X Y : Type 0} (first : Result X Obstacle) (next : X → Result Y Obstacle) (y : Y) → and_then first next ≡ Ok y → Step first next y
+step : {X Y : Type 0} (first : Result X Obstacle) (next : X → Result Y Obstacle) (y : Y) → (first >>= next) ≡ Ok y → Step first next y
 step (Ok x) next y is = record { value = x; first_is = refl; next_is = is }
 step {X} {Y} (Err obstacle) next y is = let no : ⊥ = cc in absurd no
 
@@ -135,20 +138,20 @@ show_file names files held told kinds.Document reached none = absurd reached
 held_file : (asked : Asked) (told : Option Files) → AreAccepted told asked → (file : FileKind) → IsReached told asked file → IsAbsent told (name_of asked file) → ⊥
 held_file (bound names) None accepted file reached none = absurd accepted
 held_file (bound names) (Some files) accepted file reached none =
-    let case = input_from (asks names.nodes) (case_under names files) accepted in
+    let case = input_from (Asks names.nodes) (case_under names files) accepted in
     case_file names files (case_held names files case.0 case.1) (Some files) file reached none
 held_file (prove names) None accepted file reached none = absurd accepted
 held_file (prove names) (Some files) accepted file reached none =
-    let case = input_from (proves names.nodes) (case_under names files) accepted in
+    let case = input_from (Proves names.nodes) (case_under names files) accepted in
     case_file names files (case_held names files case.0 case.1) (Some files) file ((reached_alike (Some files) names file).1 reached)
     (subst (λ (name : List ℕ). file_of files name ≡ None) (sym (named_alike names file)) none)
 held_file (check names) None accepted file reached none = absurd accepted
 held_file (check names) (Some files) accepted file reached none =
-    let claim = input_from claims (claim_under names files) accepted in
+    let claim = input_from Claims (claim_under names files) accepted in
     claim_file names files (claim_held names files claim.0 claim.1) (Some files) file reached none
 held_file (show names) None accepted file reached none = absurd accepted
 held_file (show names) (Some files) accepted file reached none =
-    let listing = input_from shows (listing_under names files) accepted in
+    let listing = input_from Shows (listing_under names files) accepted in
     show_file names files (show_held names files listing.0 listing.1) (Some files) file reached none
 held_file (gen numbers) told accepted file reached none = absurd reached
 
@@ -206,13 +209,13 @@ not_said input (Err obstacle) said text never is says = let no : ⊥ = cc in abs
 
 said_no : (asked : Asked) (told : Option Files) (said : Input) (text : List ℕ) → AreAccepted told asked → ComesTo told asked (Ok said) → SaysInput said ended.SaidNo text → IsAnswer asked ended.SaidNo
 said_no (bound names) None said text accepted comes says = absurd accepted
-said_no (bound names) (Some files) said text accepted comes says = absurd (not_said (asks names.nodes) (case_under names files) said text (λ case says. no_done says.0) comes says)
+said_no (bound names) (Some files) said text accepted comes says = absurd (not_said (Asks names.nodes) (case_under names files) said text (λ case says. no_done says.0) comes says)
 said_no (prove names) None said text accepted comes says = absurd accepted
-said_no (prove names) (Some files) said text accepted comes says = absurd (not_said (proves names.nodes) (case_under names files) said text (λ case says. no_done says.0) comes says)
+said_no (prove names) (Some files) said text accepted comes says = absurd (not_said (Proves names.nodes) (case_under names files) said text (λ case says. no_done says.0) comes says)
 said_no (check names) told said text accepted comes says = inr refl
 said_no (show names) None said text accepted comes says = absurd accepted
-said_no (show names) (Some files) said text accepted comes says = absurd (not_said shows (listing_under names files) said text (λ listing says. no_done says.0) comes says)
-said_no (gen numbers) told said text accepted comes says = absurd (not_said makes (Ok numbers) said text (λ made says. no_done says.0) comes says)
+said_no (show names) (Some files) said text accepted comes says = absurd (not_said Shows (listing_under names files) said text (λ listing says. no_done says.0) comes says)
+said_no (gen numbers) told said text accepted comes says = absurd (not_said made (Ok numbers) said text (λ made says. no_done says.0) comes says)
 
 no_is_answer : (call : Call) (can : IsAnswerable call) → HasEnded call ended.SaidNo → IsAnswer can.asked ended.SaidNo
 no_is_answer call can has =

@@ -13,13 +13,15 @@ use Rattle.pc_rows.specs.declared.case.Case.{Case}
 use Rattle.pc_run.specs.declared.stop.Stop.{Stop}
 use Rattle.pc_run.specs.declared.stop.Stop.TheVariants as stops
 use Rattle.pc_run_words.specs.Words.{BoundNames, Asked, bound, prove}
-use Rattle.pc_run.specs.Outcome.{Obstacle, refused, asks, proves, as_input, queries_of, ComesTo, schema_under, rows_under, constraints_under, case_under}
+use Rattle.pc_run.specs.declared.input.Input.TheVariants.{Asks, Proves}
+use Rattle.pc_run.specs.Outcome.{Obstacle, refused, as_input, queries_of, ComesTo, schema_under, rows_under, constraints_under, case_under}
 use Rattle.pc_model.specs.declared.fault.Refusal.{Refusal}
 use Rattle.pc_model.specs.declared.fault.Refusal.TheVariants as refusals
 use Rattle.pc_model.specs.Refusals.{RefusesAs}
 use Rattle.pc_run.specs.Stops.{stop_of}
-use Rattle.pc_run.specs.Loading.{Agrees, HasCause, name_of}
-use Rattle.pc_run.specs.Replies.{InputAgrees, StopAgrees, IsReached, IsUnread}
+use Rattle.pc_run.specs.Loading.{Agrees, HasCause, Reading, name_of}
+use Rattle.pc_run.specs.Replies.{IsRead, StopAgrees, IsReached, IsUnread}
+use Rattle.pc_run.proofs.Chains.{until_too}
 
 rises : (before middle now : ℕ) → before ≤ middle → Rose middle now → Rose before now
 rises before middle now earlier rose = omega arith
@@ -36,23 +38,20 @@ moved_cause : (X : Type 0) (name : List ℕ) (before now : ℕ) (stop : Stop) (l
 moved_cause X name before now stop later told same cause = subst (λ (t : Option Files). HasCause {X = X} t name before now (Err stop)) same cause
 
 -- a file that could not be read
-unread : (told : Option Files) (asked : Asked) (before now : ℕ) (kind file : FileKind) → kind ≡ file → IsReached told asked file → Rose before now ⊎ IsAbsent told (name_of asked file) → StopAgrees told asked before now (stops.Unread kind)
-unread told asked before now kind file is reached cause = rw is (let u : IsUnread told asked before now file = record { reached = reached; cause = cause } in u)
+unread : (reading : Reading) (asked : Asked) (kind file : FileKind) → kind ≡ file → IsReached reading.files asked file → Rose reading.before reading.after ⊎ IsAbsent reading.files (name_of asked file) → StopAgrees reading asked (stops.Unread kind)
+unread reading asked kind file is reached cause = rw is (let u : IsUnread reading asked file = record { reached = reached; cause = cause } in u)
 
-stops_at : {X : Type 0} (told : Option Files) (asked : Asked) (file : FileKind) (wanted : Files → Result X Obstacle) (before middle now : ℕ) → before ≤ middle → IsReached told asked file →
-    ((fault : Fault) → IfSome told (λ files. wanted files ≡ Err (refused fault)) → ComesTo told asked (Err (refused fault))) →
-    (stop : Stop) → Agrees file told wanted (Err stop) → HasCause {X = X} told (name_of asked file) middle now (Err stop) → StopAgrees told asked before now stop
-stops_at told asked file wanted before middle now earlier reached refuses stops.Memory agrees cause = tt
-stops_at told asked file wanted before middle now earlier reached refuses (stops.Unread kind) agrees cause =
-    unread told asked before now kind file agrees reached (later_cause told (name_of asked file) before middle now earlier cause)
-stops_at told asked file wanted before middle now earlier reached refuses (stops.Refused fault) agrees cause = refuses fault agrees
+module _ {X : Type 0} (reading : Reading) (asked : Asked) (file : FileKind) (wanted : Files → Result X Obstacle) (middle : ℕ) (earlier : reading.before ≤ middle) (reached : IsReached reading.files asked file)
+    (refuses : (fault : Fault) → IfSome reading.files (λ files. wanted files ≡ Err (refused fault)) → ComesTo reading.files asked (Err (refused fault))) where
+  stops_at : (stop : Stop) → Agrees file reading.files wanted (Err stop) → HasCause {X = X} reading.files (name_of asked file) middle reading.after (Err stop) → StopAgrees reading asked stop
+  stops_at stops.Memory agrees cause = tt
+  stops_at (stops.Unread kind) agrees cause = unread reading asked kind file agrees reached (later_cause reading.files (name_of asked file) reading.before middle reading.after earlier cause)
+  stops_at (stops.Refused fault) agrees cause = refuses fault agrees
 
--- the file at which reading stops, as the shelf tells it after the files before; what is refused there, the command comes to
-pub at_file : {X : Type 0} (told later : Option Files) → later ≡ told → (asked : Asked) (file : FileKind) (wanted : Files → Result X Obstacle) (before middle now : ℕ) → before ≤ middle → IsReached told asked file →
-    ((fault : Fault) → IfSome told (λ files. wanted files ≡ Err (refused fault)) → ComesTo told asked (Err (refused fault))) →
-    (stop : Stop) → Agrees file later wanted (Err stop) → HasCause {X = X} later (name_of asked file) middle now (Err stop) → StopAgrees told asked before now stop
-at_file {X} told later same asked file wanted before middle now earlier reached refuses stop agrees cause =
-    stops_at told asked file wanted before middle now earlier reached refuses stop (moved file wanted stop later told same agrees) (moved_cause X (name_of asked file) middle now stop later told same cause)
+  -- the file at which reading stops, as the shelf tells it after the files before; what is refused there, the command comes to
+  pub at_file : (later : Option Files) → later ≡ reading.files → (stop : Stop) → Agrees file later wanted (Err stop) → HasCause {X = X} later (name_of asked file) middle reading.after (Err stop) → StopAgrees reading asked stop
+  at_file later same stop agrees cause =
+      stops_at stop (moved file wanted stop later reading.files same agrees) (moved_cause X (name_of asked file) middle reading.after stop later reading.files same cause)
 
 -- ---- which files are read
 
@@ -100,25 +99,25 @@ unfolding case_under
 queries_refused None names schema rows constraints fault read refuses = tt
 queries_refused (Some files) names schema rows constraints fault read refuses = rw (read.rows_are.has_schema, read.rows_are.has_rows, read.has_constraints, refuses) refl
 
-pub at_queries : (told : Option Files) (names : BoundNames) (before now : ℕ) (schema : Schema) (rows : List Row) (constraints : List Constraint) → HasFiles told names.schema names.rows names.constraints schema rows constraints →
-    (refusal : Refusal) → RefusesAs refusal (queries_of schema names.queries) → StopAgrees told (bound names) before now (stop_of refusal)
-at_queries told names before now schema rows constraints read refusals.Memory refuses = tt
-at_queries told names before now schema rows constraints read (refusals.Fault fault) refuses = queries_refused told names schema rows constraints fault read refuses
+pub at_queries : (reading : Reading) (names : BoundNames) (schema : Schema) (rows : List Row) (constraints : List Constraint) → HasFiles reading.files names.schema names.rows names.constraints schema rows constraints →
+    (refusal : Refusal) → RefusesAs refusal (queries_of schema names.queries) → StopAgrees reading (bound names) (stop_of refusal)
+at_queries reading names schema rows constraints read refusals.Memory refuses = tt
+at_queries reading names schema rows constraints read (refusals.Fault fault) refuses = queries_refused reading.files names schema rows constraints fault read refuses
 
 -- and the queries are accepted
 pub at_end : (told : Option Files) (names : BoundNames) (schema : Schema) (rows : List Row) (constraints : List Constraint) (queries : List Query) → HasFiles told names.schema names.rows names.constraints schema rows constraints →
-    queries_of schema names.queries ≡ Ok queries → ComesTo told (bound names) (Ok (asks names.nodes (record { schema = schema; rows = rows; constraints = constraints; queries = queries })))
+    queries_of schema names.queries ≡ Ok queries → ComesTo told (bound names) (Ok (Asks names.nodes (record { schema = schema; rows = rows; constraints = constraints; queries = queries })))
 unfolding case_under
 at_end None names schema rows constraints queries read accepts = tt
 at_end (Some files) names schema rows constraints queries read accepts = rw (read.rows_are.has_schema, read.rows_are.has_rows, read.has_constraints, accepts) refl
 
 -- ---- a case that is answered with proofs is read as one that is asked about
 
-case_too : (nodes : ℕ) (read : Result Case Obstacle) (case : Case) → as_input (asks nodes) read ≡ Ok (asks nodes case) → as_input (proves nodes) read ≡ Ok (proves nodes case)
+case_too : (nodes : ℕ) (read : Result Case Obstacle) (case : Case) → as_input (Asks nodes) read ≡ Ok (Asks nodes case) → as_input (Proves nodes) read ≡ Ok (Proves nodes case)
 case_too nodes (Ok other) case is = let same : other ≡ case = cc in rw same refl
 case_too nodes (Err obstacle) case is = let no : ⊥ = cc in absurd no
 
-fault_too : (nodes : ℕ) (read : Result Case Obstacle) (obstacle : Obstacle) → as_input (asks nodes) read ≡ Err obstacle → as_input (proves nodes) read ≡ Err obstacle
+fault_too : (nodes : ℕ) (read : Result Case Obstacle) (obstacle : Obstacle) → as_input (Asks nodes) read ≡ Err obstacle → as_input (Proves nodes) read ≡ Err obstacle
 fault_too nodes (Ok case) obstacle is = let no : ⊥ = cc in absurd no
 fault_too nodes (Err other) obstacle is = let same : other ≡ obstacle = cc in rw same refl
 
@@ -136,16 +135,27 @@ named_alike names kinds.Constraints = refl
 named_alike names kinds.Query = refl
 named_alike names kinds.Document = refl
 
-unread_too : (told : Option Files) (names : BoundNames) (before now : ℕ) (file : FileKind) → IsUnread told (bound names) before now file → IsUnread told (prove names) before now file
-unread_too told names before now file unread = record {
-  reached = (reached_alike told names file).0 unread.reached;
-  cause = subst (λ (name : List ℕ). Rose before now ⊎ IsAbsent told name) (named_alike names file) unread.cause;
+unread_too : (reading : Reading) (names : BoundNames) (file : FileKind) → IsUnread reading (bound names) file → IsUnread reading (prove names) file
+unread_too reading names file unread = record {
+  reached = (reached_alike reading.files names file).0 unread.reached;
+  cause = subst (λ (name : List ℕ). Rose reading.before reading.after ⊎ IsAbsent reading.files name) (named_alike names file) unread.cause;
 }
 
-pub proves_too : (told : Option Files) (names : BoundNames) (before now : ℕ) (result : Result Case Stop) → InputAgrees (asks names.nodes) told (bound names) before now result → InputAgrees (proves names.nodes) told (prove names) before now result
-proves_too None names before now (Ok case) agrees = tt
-proves_too (Some files) names before now (Ok case) agrees = case_too names.nodes (case_under names files) case agrees
-proves_too None names before now (Err (stops.Refused fault)) agrees = tt
-proves_too (Some files) names before now (Err (stops.Refused fault)) agrees = fault_too names.nodes (case_under names files) (refused fault) agrees
-proves_too told names before now (Err (stops.Unread file)) agrees = unread_too told names before now file agrees
-proves_too told names before now (Err stops.Memory) agrees = tt
+case_comes : (told : Option Files) (names : BoundNames) (case : Case) → ComesTo told (bound names) (Ok (Asks names.nodes case)) → ComesTo told (prove names) (Ok (Proves names.nodes case))
+case_comes None names case comes = tt
+case_comes (Some files) names case comes = case_too names.nodes (case_under names files) case comes
+
+fault_comes : (told : Option Files) (names : BoundNames) (fault : Fault) → ComesTo told (bound names) (Err (refused fault)) → ComesTo told (prove names) (Err (refused fault))
+fault_comes None names fault comes = tt
+fault_comes (Some files) names fault comes = fault_too names.nodes (case_under names files) (refused fault) comes
+
+stop_too : (reading : Reading) (names : BoundNames) (stop : Stop) → StopAgrees reading (bound names) stop → StopAgrees reading (prove names) stop
+stop_too reading names (stops.Refused fault) agrees = fault_comes reading.files names fault agrees
+stop_too reading names (stops.Unread file) agrees = unread_too reading names file agrees
+stop_too reading names stops.Memory agrees = tt
+
+pub proves_case : (reading : Reading) (names : BoundNames) (case : Case) → IsRead reading (bound names) (Ok (Asks names.nodes case)) → IsRead reading (prove names) (Ok (Proves names.nodes case))
+proves_case reading names case read = record { agrees = case_comes reading.files names case read.agrees; loads = read.loads }
+
+pub proves_stop : (reading : Reading) (names : BoundNames) (stop : Stop) → IsRead reading (bound names) (Err stop) → IsRead reading (prove names) (Err stop)
+proves_stop reading names stop read = record { agrees = stop_too reading names stop read.agrees; loads = until_too reading.did names stop read.loads }

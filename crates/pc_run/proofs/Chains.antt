@@ -1,5 +1,5 @@
 -- Which loads there were, exit by exit.
-use Rattle.std.proofs.Common.{◌≡◌, ℕ, ⊎_elim, inl, inr, List, [], ◌∷◌, ◌++◌, Option, Some, None, Result, Ok, Err, refl, sym, subst}
+use Rattle.std.proofs.Common.{◌≡◌, ℕ, ⊎_elim, inl, inr, List, [], ◌∷◌, ◌++◌, Option, Some, None, Result, Err, refl, sym, subst}
 use Rattle.pc_model.specs.declared.fault.FileKind.{FileKind}
 use Rattle.pc_model.specs.declared.fault.FileKind.TheVariants as kinds
 use Rattle.pc_model.specs.declared.fault.Fault.{Fault}
@@ -9,12 +9,11 @@ use Rattle.pc_model.specs.Refusals.{RefusesAs}
 use Rattle.pc_base.specs.Loads.{Load, Chain}
 use Rattle.pc_base.specs.declared.outside.Loaded.{Loaded}
 use Rattle.pc_base.specs.declared.outside.Loaded.TheVariants as loads
-use Rattle.pc_rows.specs.declared.case.Case.{Case}
 use Rattle.pc_run_words.specs.Words.{BoundNames, Asked, bound, prove, check, show, gen}
 use Rattle.pc_run.specs.declared.stop.Stop.{Stop}
 use Rattle.pc_run.specs.declared.stop.Stop.TheVariants as stops
 use Rattle.pc_run.specs.Stops.{stop_of}
-use Rattle.pc_run.specs.Loading.{LoadsInVain, LoadsAll, LoadsFront, LoadsUntil, LoadsFiles, StopsAt, EndsAt, IsInOrder, AreInOrder, files_of, name_of, wholes}
+use Rattle.pc_run.specs.Loading.{LoadsInVain, LoadsAll, LoadsFront, LoadsUntil, StopsAt, EndsAt, IsInOrder, AreInOrder, files_of, name_of, wholes}
 use Rattle.pc_run.proofs.FaultFiles.{IsOf}
 
 -- ---- one file
@@ -59,7 +58,7 @@ none_left (check names) = refl
 none_left (show names) = refl
 none_left (gen numbers) = refl
 
-all_in_order : (did : List Load → Type 0) (asked : Asked) → LoadsAll did asked → IsInOrder did asked
+pub all_in_order : (did : List Load → Type 0) (asked : Asked) → LoadsAll did asked → IsInOrder did asked
 all_in_order did asked all = inl (record { front = files_of asked; rest = []; in_order = none_left asked; loads = all })
 
 pub queries_refused : {Y : Type 0} (did : List Load → Type 0) (asked : Asked) (refusal : Refusal) (wanted : Result Y Fault) → IsOf kinds.Query wanted → RefusesAs refusal wanted → LoadsAll did asked →
@@ -67,12 +66,11 @@ pub queries_refused : {Y : Type 0} (did : List Load → Type 0) (asked : Asked) 
 queries_refused did asked (refusals.Fault fault) wanted is refuses all = inr (fault_of kinds.Query wanted fault is refuses, all)
 queries_refused did asked refusals.Memory wanted is refuses all = all_in_order did asked all
 
-pub in_order : {X : Type 0} (did : List Load → Type 0) (asked : Asked) (result : Result X Stop) → LoadsFiles did asked result → IsInOrder did asked
-in_order did asked (Ok x) all = all_in_order did asked all
-in_order did asked (Err (stops.Refused fault)) ends =
+pub until_in_order : (did : List Load → Type 0) (asked : Asked) (stop : Stop) → LoadsUntil did asked stop → IsInOrder did asked
+until_in_order did asked (stops.Refused fault) ends =
     ⊎_elim (λ stopped. ⊎_elim (λ whole. inr (fault.file, loads.Whole, whole)) (λ long. inr (fault.file, loads.Long, long)) stopped) (λ query. all_in_order did asked query.1) ends
-in_order did asked (Err (stops.Unread file)) stopped = inr (file, loads.Failed, stopped)
-in_order did asked (Err stops.Memory) is = is
+until_in_order did asked (stops.Unread file) stopped = inr (file, loads.Failed, stopped)
+until_in_order did asked stops.Memory is = is
 
 -- ---- `prove` loads as `bound` does
 
@@ -85,12 +83,11 @@ module _ (did : List Load → Type 0) (names : BoundNames) where
       ⊎_elim (λ (whole : LoadsFront did (bound names)). inl (record { front = whole.front; rest = whole.rest; in_order = whole.in_order; loads = whole.loads }))
       (λ stopped. inr (stopped.0, stopped.1, stops_too stopped.0 stopped.1 stopped.2)) is
 
-  pub loads_too : (result : Result Case Stop) → LoadsFiles did (bound names) result → LoadsFiles did (prove names) result
-  loads_too (Ok case) all = all
-  loads_too (Err (stops.Refused fault)) ends =
+  pub until_too : (stop : Stop) → LoadsUntil did (bound names) stop → LoadsUntil did (prove names) stop
+  until_too (stops.Refused fault) ends =
       ⊎_elim (λ stopped. inl (⊎_elim (λ whole. inl (stops_too fault.file loads.Whole whole)) (λ long. inr (stops_too fault.file loads.Long long)) stopped)) (λ query. inr query) ends
-  loads_too (Err (stops.Unread file)) stopped = stops_too file loads.Failed stopped
-  loads_too (Err stops.Memory) is = order_too is
+  until_too (stops.Unread file) stopped = stops_too file loads.Failed stopped
+  until_too stops.Memory is = order_too is
 
 -- ---- any words
 

@@ -7,8 +7,9 @@ use Rattle.pc_model.specs.declared.fault.Fault.{Fault}
 use Rattle.pc_model.specs.declared.fault.FileKind.TheVariants as kinds
 use Rattle.pc_base.specs.Files.{Files}
 use Rattle.pc_run_words.specs.Words.{CheckNames, check}
-use Rattle.pc_run.specs.declared.claim.Claim.{Claim}
-use Rattle.pc_run.specs.Outcome.{refused, claims, bytes_under, schema_under, rows_under, constraints_under, claim_under, ComesTo}
+use Rattle.pc_run.specs.declared.input.Claim.{Claim}
+use Rattle.pc_run.specs.declared.input.Input.TheVariants.{Claims}
+use Rattle.pc_run.specs.Outcome.{refused, bytes_under, schema_under, rows_under, constraints_under, claim_under, ComesTo}
 use Rattle.pc_run.specs.Replies.{IsReached}
 use Rattle.pc_run.proofs.Cases.{HasRows, HasFiles}
 
@@ -41,7 +42,7 @@ document_refused (Some files) names schema rows constraints read fault is = rw (
 
 -- and the document is loaded
 pub at_end : (told : Option Files) (names : CheckNames) (claim : Claim) → HasFiles told names.schema names.rows names.constraints claim.schema claim.rows claim.constraints →
-    IfSome told (λ files. bytes_under kinds.Document names.document files ≡ Ok claim.bytes) → ComesTo told (check names) (Ok (claims claim))
+    IfSome told (λ files. bytes_under kinds.Document names.document files ≡ Ok claim.bytes) → ComesTo told (check names) (Ok (Claims claim))
 unfolding claim_under
 at_end None names claim read is = tt
 at_end (Some files) names claim read is = rw (read.rows_are.has_schema, read.rows_are.has_rows, read.has_constraints, is) refl

@@ -6,11 +6,11 @@ use Rattle.pc_model.specs.declared.fault.FileKind.{FileKind}
 use Rattle.pc_model.specs.declared.fault.Reason.TheVariants as reasons
 use Rattle.pc_model.specs.declared.fault.Refusal.{Refusal}
 use Rattle.pc_model.specs.declared.fault.Refusal.TheVariants as refusals
-use Rattle.pc_model.specs.Refusals.{fault_at, Gives}
+use Rattle.pc_model.specs.Refusals.{fault_at, ◌>>=◌, Gives}
 use Rattle.pc_base.specs.Files.{Files, file_of}
 use Rattle.pc_run.specs.declared.stop.Stop.{Stop}
 use Rattle.pc_run.specs.declared.stop.Stop.TheVariants as stops
-use Rattle.pc_run.specs.Outcome.{Obstacle, refused, bytes_in, bytes_under, limit_of, and_then, or_refused}
+use Rattle.pc_run.specs.Outcome.{Obstacle, refused, bytes_in, bytes_under, limit_of, or_refused}
 use Rattle.pc_run.specs.Loading.{Agrees}
 use Rattle.pc_run.specs.Stops.{stop_of}
 
@@ -43,7 +43,7 @@ stopped (Err refusal) = Err (stop_of refusal)
 
 module _ {X : Type 0} (value_of : List ℕ → Result X Fault) where
   abbrev pub value_in : Result (List ℕ) Obstacle → Result X Obstacle
-  value_in held = and_then held (λ bytes. or_refused (value_of bytes))
+  value_in held = held >>= λ bytes. or_refused (value_of bytes)
 
   read_at : (held : Result (List ℕ) Obstacle) (bytes : List ℕ) → held ≡ Ok bytes → value_in held ≡ or_refused (value_of bytes)
   read_at held bytes is = ap value_in is

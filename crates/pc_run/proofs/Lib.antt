@@ -11,6 +11,7 @@ pub mod Listings
 pub mod MadeCases
 pub mod Meanings
 pub mod Promises
+pub mod ReadFiles
 pub mod Reported
 pub mod StopReplies
 pub mod Unbroken

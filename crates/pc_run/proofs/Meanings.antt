@@ -7,7 +7,9 @@ use Rattle.pc_base.specs.Puts.{Leaves}
 use Rattle.pc_run_words.specs.Words.{Asked, command_of}
 use Rattle.pc_check.specs.declared.verdict.Verdict.{Verdict}
 use Rattle.pc_check.specs.declared.verdict.Verdict.TheVariants as verdicts
-use Rattle.pc_run.specs.Outcome.{Obstacle, Input, asks, proves, claims, shows, makes, refused, absent, ComesTo}
+use Rattle.pc_run.specs.declared.input.Input.{Input}
+use Rattle.pc_run.specs.declared.input.Input.TheVariants.{Asks, Proves, Claims, Shows, Makes}
+use Rattle.pc_run.specs.Outcome.{Obstacle, refused, absent, ComesTo}
 use Rattle.pc_model.specs.declared.fault.Fault.{Fault}
 use Rattle.pc_run.specs.Reports.{malformed_line}
 use Rattle.pc_run.specs.Replies.{SaysInput, Says, status_of, SaysOutcome, SaysFault, RepliesToCommand, RepliesToNone, LoadsOutcome, Responds}
@@ -56,11 +58,11 @@ verdict_ends verdicts.Yes = inl refl
 verdict_ends (verdicts.No line rule) = inr refl
 
 ends : (input : Input) (status : Status) (text : List ℕ) → SaysInput input status text → IsEnd status
-ends (asks nodes case) status text says = inl says.0
-ends (proves nodes case) status text says = inl says.0
-ends (claims claim) status text says = subst IsEnd (sym says.ended) (verdict_ends says.verdict)
-ends (shows listing) status text says = inl says.0
-ends (makes numbers) status text says = inl says.0
+ends (Asks nodes case) status text says = inl says.0
+ends (Proves nodes case) status text says = inl says.0
+ends (Claims claim) status text says = subst IsEnd (sym says.ended) (verdict_ends says.verdict)
+ends (Shows listing) status text says = inl says.0
+ends (Makes numbers) status text says = inl says.0
 
 ended_whole : (call : Call) (status : Status) → HasEnded call status → IsEnd status → Means call status
 ended_whole call status has end = ⊎_elim (λ done. rw done (rw done at has)) (λ no. rw no (rw no at has)) end

@@ -8,8 +8,9 @@ use Rattle.pc_base.specs.Counts.{Rose}
 use Rattle.pc_base.specs.declared.outside.Loaded.TheVariants as loadeds
 use Rattle.pc_run_words.specs.Words.{Asked, CheckNames, bound, prove, check, show, gen, command_of}
 use Rattle.pc_rows.specs.declared.case.Case.{Case}
-use Rattle.pc_run.specs.declared.claim.Claim.{Claim}
-use Rattle.pc_run.specs.Outcome.{Input, refused, claim_under, ComesTo, AreAccepted}
+use Rattle.pc_run.specs.declared.input.Claim.{Claim}
+use Rattle.pc_run.specs.declared.input.Input.{Input}
+use Rattle.pc_run.specs.Outcome.{refused, claim_under, ComesTo, AreAccepted}
 use Rattle.pc_run.specs.Loading.{Reading, LoadsAll, StopsAt, EndsAt, AreInOrder}
 use Rattle.pc_run.specs.Replies.{BreaksFirst, IsUnread, SaysInput, SaysProof, SpellsUnbroken}
 use Rattle.pc_run.specs.Reports.{usage_line, fault_line, malformed_line}
@@ -86,7 +87,7 @@ pub record HasReadFault (call : Call) : Type 0 where
   pub asked : Asked
   pub command : command_of call.words ≡ Some asked
   pub file : FileKind
-  pub unread : IsUnread call.reading.files asked call.reading.before call.reading.after file
+  pub unread : IsUnread call.reading asked file
   pub loads : StopsAt call.reading.did asked file loadeds.Failed
   pub told : IsTold call (fault_line file)
 

@@ -15,8 +15,10 @@ use Rattle.pc_base.specs.Files.{Files, file_of}
 use Rattle.pc_schema.specs.SchemaFile.{schema_of}
 use Rattle.pc_rows.specs.RowFile.{rows_of}
 use Rattle.pc_lang.specs.Files.{constraints_of, query_at}
-use Rattle.pc_run.specs.declared.claim.Claim.{Claim}
-use Rattle.pc_run.specs.declared.listing.Listing.{Listing}
+use Rattle.pc_run.specs.declared.input.Claim.{Claim}
+use Rattle.pc_run.specs.declared.input.Input.{Input}
+use Rattle.pc_run.specs.declared.input.Input.TheVariants.{Asks, Proves, Claims, Shows, Makes}
+use Rattle.pc_run.specs.declared.input.Listing.{Listing}
 use Rattle.pc_run_words.specs.Words.{BoundNames, CheckNames, ShowNames, GenNumbers, Asked, bound, prove, check, show, gen}
 
 -- a file or query that is refused, or a file that is not held
@@ -27,10 +29,6 @@ pub data Obstacle : Type 0 where
 abbrev pub or_refused : {X : Type 0} → Result X Fault → Result X Obstacle
 or_refused (Ok x) = Ok x
 or_refused (Err fault) = Err (refused fault)
-
-abbrev pub and_then : {X Y : Type 0} → Result X Obstacle → (X → Result Y Obstacle) → Result Y Obstacle
-and_then (Ok x) next = next x
-and_then (Err obstacle) next = Err obstacle
 
 -- a document may be longer than other files
 abbrev pub document_limit : ℕ
@@ -52,67 +50,71 @@ unfoldable pub bytes_under : FileKind → List ℕ → Files → Result (List �
 bytes_under file name files = bytes_in file (file_of files name)
 
 unfoldable pub schema_under : List ℕ → Files → Result Schema Obstacle
-schema_under name files = and_then (bytes_under kinds.Schema name files) (λ bytes. or_refused (schema_of bytes))
+schema_under name files = do
+  bytes ← bytes_under kinds.Schema name files
+  or_refused (schema_of bytes)
 
 unfoldable pub rows_under : Schema → List ℕ → Files → Result (List Row) Obstacle
-rows_under schema name files = and_then (bytes_under kinds.Rows name files) (λ bytes. or_refused (rows_of schema bytes))
+rows_under schema name files = do
+  bytes ← bytes_under kinds.Rows name files
+  or_refused (rows_of schema bytes)
 
 unfoldable pub constraints_under : Schema → List ℕ → Files → Result (List Constraint) Obstacle
-constraints_under schema name files = and_then (bytes_under kinds.Constraints name files) (λ bytes. or_refused (constraints_of schema bytes))
+constraints_under schema name files = do
+  bytes ← bytes_under kinds.Constraints name files
+  or_refused (constraints_of schema bytes)
 
 -- the queries of texts, the first of which has this place among them
 unfoldable pub queries_from : Schema → ℕ → List (List ℕ) → Result (List Query) Fault
 queries_from schema place [] = Ok []
-queries_from schema place (text ∷ texts) =
-    query_at schema place text >>= λ query. (queries_from schema (place + 1) texts >>= λ queries. Ok (query ∷ queries))
+queries_from schema place (text ∷ texts) = do
+  query ← query_at schema place text
+  queries ← queries_from schema (place + 1) texts
+  Ok (query ∷ queries)
 
 abbrev pub queries_of : Schema → List (List ℕ) → Result (List Query) Fault
 queries_of schema texts = queries_from schema 1 texts
 
 -- of `bound` and `prove`: the files in their order, then the queries
 unfoldable pub case_under : BoundNames → Files → Result Case Obstacle
-case_under names files =
-    and_then (schema_under names.schema files) (λ schema.
-    and_then (rows_under schema names.rows files) (λ rows.
-    and_then (constraints_under schema names.constraints files) (λ constraints.
-    and_then (or_refused (queries_of schema names.queries)) (λ queries.
-    Ok (record { schema = schema; rows = rows; constraints = constraints; queries = queries })))))
+case_under names files = do
+  schema ← schema_under names.schema files
+  rows ← rows_under schema names.rows files
+  constraints ← constraints_under schema names.constraints files
+  queries ← or_refused (queries_of schema names.queries)
+  Ok (record { schema = schema; rows = rows; constraints = constraints; queries = queries })
 
 -- of `check`: the files in their order, and the bytes of the document
 unfoldable pub claim_under : CheckNames → Files → Result Claim Obstacle
-claim_under names files =
-    and_then (schema_under names.schema files) (λ schema.
-    and_then (rows_under schema names.rows files) (λ rows.
-    and_then (constraints_under schema names.constraints files) (λ constraints.
-    and_then (bytes_under kinds.Document names.document files) (λ bytes.
-    Ok (record { schema = schema; rows = rows; constraints = constraints; bytes = bytes })))))
+claim_under names files = do
+  schema ← schema_under names.schema files
+  rows ← rows_under schema names.rows files
+  constraints ← constraints_under schema names.constraints files
+  bytes ← bytes_under kinds.Document names.document files
+  Ok (record { schema = schema; rows = rows; constraints = constraints; bytes = bytes })
 
 -- of `show`: the files in their order
 unfoldable pub listing_under : ShowNames → Files → Result Listing Obstacle
-listing_under names files =
-    and_then (schema_under names.schema files) (λ schema.
-    and_then (constraints_under schema names.constraints files) (λ constraints.
-    Ok (record { schema = schema; constraints = constraints })))
+listing_under names files = do
+  schema ← schema_under names.schema files
+  constraints ← constraints_under schema names.constraints files
+  Ok (record { schema = schema; constraints = constraints })
 
--- what a command comes to with its files: a case that is asked about, or answered with proofs, by searches of at most so
--- many nodes each; a document that is checked; constraints that are shown; or a case that is made
-pub data Input : Type 0 where
-  asks : (nodes : ℕ) → Case → Input
-  proves : (nodes : ℕ) → Case → Input
-  claims : Claim → Input
-  shows : Listing → Input
-  makes : GenNumbers → Input
-
-abbrev pub as_input : {X : Type 0} → (X → Input) → Result X Obstacle → Result Input Obstacle
+abbrev pub as_input : {X E : Type 0} → (X → Input) → Result X E → Result Input E
 as_input input (Ok x) = Ok (input x)
-as_input input (Err obstacle) = Err obstacle
+as_input input (Err stop) = Err stop
 
+-- a case that is made
+abbrev pub made : GenNumbers → Input
+made numbers = Makes (record { seed = numbers.seed; size = numbers.size })
+
+-- what a command comes to with its files
 abbrev pub accepted_under : Asked → Files → Result Input Obstacle
-accepted_under (bound names) files = as_input (asks names.nodes) (case_under names files)
-accepted_under (prove names) files = as_input (proves names.nodes) (case_under names files)
-accepted_under (check names) files = as_input claims (claim_under names files)
-accepted_under (show names) files = as_input shows (listing_under names files)
-accepted_under (gen numbers) files = Ok (makes numbers)
+accepted_under (bound names) files = as_input (Asks names.nodes) (case_under names files)
+accepted_under (prove names) files = as_input (Proves names.nodes) (case_under names files)
+accepted_under (check names) files = as_input Claims (claim_under names files)
+accepted_under (show names) files = as_input Shows (listing_under names files)
+accepted_under (gen numbers) files = Ok (made numbers)
 
 -- where the shelf tells its files, the command comes to this with them; a case that is made needs none
 abbrev pub ComesTo : Option Files → Asked → Result Input Obstacle → Type 0
@@ -120,7 +122,7 @@ ComesTo told (bound names) outcome = IfSome told (λ files. accepted_under (boun
 ComesTo told (prove names) outcome = IfSome told (λ files. accepted_under (prove names) files ≡ outcome)
 ComesTo told (check names) outcome = IfSome told (λ files. accepted_under (check names) files ≡ outcome)
 ComesTo told (show names) outcome = IfSome told (λ files. accepted_under (show names) files ≡ outcome)
-ComesTo told (gen numbers) outcome = Ok (makes numbers) ≡ outcome
+ComesTo told (gen numbers) outcome = Ok (made numbers) ≡ outcome
 
 -- the shelf tells files that are held and accepted; a case that is made needs none
 abbrev pub AreAccepted : Option Files → Asked → Type 0

@@ -23,17 +23,19 @@ use Rattle.pc_gen.specs.Generated.{generated_case}
 use Rattle.pc_rows.specs.declared.case.Case.{Case}
 use Rattle.pc_run.specs.declared.stop.Stop.{Stop}
 use Rattle.pc_run.specs.declared.stop.Stop.TheVariants as stops
-use Rattle.pc_run_words.specs.Words.{Asked, bound, prove, check, show, gen, command_of, usual_nodes}
-use Rattle.pc_run.specs.Outcome.{Obstacle, refused, absent, Input, asks, proves, claims, shows, makes, schema_under, rows_under, constraints_under, ComesTo}
+use Rattle.pc_run_words.specs.Words.{Asked, bound, prove, check, show, gen, command_of, usual_nodes, IsBudget, IsSize}
+use Rattle.pc_run.specs.Outcome.{Obstacle, refused, absent, schema_under, rows_under, constraints_under, ComesTo}
 use Rattle.pc_base.specs.Loads.{Load}
 use Rattle.pc_base.specs.declared.outside.Loaded.TheVariants as loadeds
-use Rattle.pc_run.specs.Loading.{name_of, Reading, LoadsAll, StopsAt, EndsAt}
+use Rattle.pc_run.specs.Loading.{name_of, Reading, LoadsAll, LoadsFiles, StopsAt, EndsAt}
 use Rattle.pc_run.specs.Reports.{usage_line, fault_line, malformed_line, listing_of, yes_line, no_line}
 use Rattle.pc_run.specs.Answers.{AnswersCase}
 use Rattle.pc_check.specs.declared.verdict.Verdict.{Verdict}
 use Rattle.pc_check.specs.declared.verdict.Verdict.TheVariants as verdicts
-use Rattle.pc_run.specs.declared.claim.Claim.{Claim}
-use Rattle.pc_run.specs.declared.listing.Listing.{Listing}
+use Rattle.pc_run.specs.declared.input.Claim.{Claim}
+use Rattle.pc_run.specs.declared.input.Input.{Input}
+use Rattle.pc_run.specs.declared.input.Input.TheVariants.{Asks, Proves, Claims, Shows, Makes}
+use Rattle.pc_run.specs.declared.input.Listing.{Listing}
 
 -- what the answer and its report need of what was read
 pub record IsSound (case : Case) : Type 0 where
@@ -69,26 +71,31 @@ IsReached told (show names) kinds.Constraints = IfSome told (λ files. IsOk (sch
 IsReached told asked other = ⊥
 
 -- a load of this file failed: the count of faults rose, or the shelf does not hold the name
-pub record IsUnread (told : Option Files) (asked : Asked) (before now : ℕ) (file : FileKind) : Type 0 where
-  pub reached : IsReached told asked file
-  pub cause : Rose before now ⊎ IsAbsent told (name_of asked file)
+pub record IsUnread (reading : Reading) (asked : Asked) (file : FileKind) : Type 0 where
+  pub reached : IsReached reading.files asked file
+  pub cause : Rose reading.before reading.after ⊎ IsAbsent reading.files (name_of asked file)
 
 -- why the files of a command give nothing
-abbrev pub StopAgrees : Option Files → Asked → ℕ → ℕ → Stop → Type 0
-StopAgrees told asked before now (stops.Refused fault) = ComesTo told asked (Err (refused fault))
-StopAgrees told asked before now (stops.Unread file) = IsUnread told asked before now file
-StopAgrees told asked before now stops.Memory = ⊤
+abbrev pub StopAgrees : Reading → Asked → Stop → Type 0
+StopAgrees reading asked (stops.Refused fault) = ComesTo reading.files asked (Err (refused fault))
+StopAgrees reading asked (stops.Unread file) = IsUnread reading asked file
+StopAgrees reading asked stops.Memory = ⊤
+
+-- what reading the files of a command answers
+abbrev pub InputAgrees : Reading → Asked → Result Input Stop → Type 0
+InputAgrees reading asked (Ok input) = ComesTo reading.files asked (Ok input)
+InputAgrees reading asked (Err stop) = StopAgrees reading asked stop
+
+-- the files of a command are read, each once and in their order
+pub record IsRead (reading : Reading) (asked : Asked) (result : Result Input Stop) : Type 0 where
+  pub agrees : InputAgrees reading asked result
+  pub loads : LoadsFiles reading.did asked result
 
 -- the reply where files give nothing
 abbrev pub RepliesToStop : Stop → Status → List ℕ → Type 0
 RepliesToStop (stops.Refused fault) status text = (status ≡ ended.Malformed) × (text ≡ malformed_line fault)
 RepliesToStop (stops.Unread file) status text = (status ≡ ended.ReadFault) × (text ≡ fault_line file)
 RepliesToStop stops.Memory status text = ⊥
-
--- what reading the files of a command answers, as the input that it stands for
-abbrev pub InputAgrees : {X : Type 0} → (X → Input) → Option Files → Asked → ℕ → ℕ → Result X Stop → Type 0
-InputAgrees input told asked before now (Ok x) = ComesTo told asked (Ok (input x))
-InputAgrees input told asked before now (Err stop) = StopAgrees told asked before now stop
 
 -- the text is the report of a document that answers the case, by searches of at most so many nodes each
 pub record SaysReport (nodes : ℕ) (case : Case) (text : List ℕ) : Type 0 where
@@ -171,11 +178,11 @@ pub record SaysListing (listing : Listing) (text : List ℕ) : Type 0 where
   pub listed : text ≡ listing_of listing disjoint
 
 abbrev pub SaysInput : Input → Status → List ℕ → Type 0
-SaysInput (asks nodes case) status text = (status ≡ ended.Done) × SaysReport nodes case text
-SaysInput (proves nodes case) status text = (status ≡ ended.Done) × SaysProof nodes case text
-SaysInput (claims claim) status text = SaysVerdict claim status text
-SaysInput (shows listing) status text = (status ≡ ended.Done) × SaysListing listing text
-SaysInput (makes numbers) status text = (status ≡ ended.Done) × SaysSummary (generated_case numbers.seed numbers.size) text
+SaysInput (Asks nodes case) status text = (status ≡ ended.Done) × SaysReport nodes case text
+SaysInput (Proves nodes case) status text = (status ≡ ended.Done) × SaysProof nodes case text
+SaysInput (Claims claim) status text = SaysVerdict claim status text
+SaysInput (Shows listing) status text = (status ≡ ended.Done) × SaysListing listing text
+SaysInput (Makes numbers) status text = (status ≡ ended.Done) × SaysSummary (generated_case numbers.seed numbers.size) text
 
 -- the reply to files that are accepted, or refused
 abbrev pub Says : Result Input Obstacle → Status → List ℕ → Type 0
@@ -185,11 +192,11 @@ Says (Err (absent file)) status text = ⊥
 
 -- what was read is as its command needs it
 abbrev pub IsSoundInput : Input → Type 0
-IsSoundInput (asks nodes case) = IsSound case
-IsSoundInput (proves nodes case) = IsSound case
-IsSoundInput (claims claim) = IsCheckable claim
-IsSoundInput (shows listing) = IsShowable listing
-IsSoundInput (makes numbers) = ⊤
+IsSoundInput (Asks nodes case) = IsSound case × IsBudget nodes
+IsSoundInput (Proves nodes case) = IsSound case × IsBudget nodes
+IsSoundInput (Claims claim) = IsCheckable claim
+IsSoundInput (Shows listing) = IsShowable listing
+IsSoundInput (Makes numbers) = IsSize numbers.size
 
 -- which loads there were before this outcome
 abbrev pub LoadsOutcome : (List Load → Type 0) → Asked → Result Input Obstacle → Type 0
@@ -208,7 +215,7 @@ pub record SaysOutcome (reading : Reading) (asked : Asked) (status : Status) (te
 -- the reply to a load that failed, which was the last one
 pub record SaysFault (reading : Reading) (asked : Asked) (status : Status) (text : List ℕ) : Type 0 where
   pub file : FileKind
-  pub unread : IsUnread reading.files asked reading.before reading.after file
+  pub unread : IsUnread reading asked file
   pub loads : StopsAt reading.did asked file loadeds.Failed
   pub ended : status ≡ ended.ReadFault
   pub line : text ≡ fault_line file

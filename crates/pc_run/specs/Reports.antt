@@ -5,7 +5,7 @@ use Rattle.pc_model.specs.declared.fault.FileKind.{FileKind}
 use Rattle.pc_model.specs.declared.fault.Fault.{Fault}
 use Rattle.pc_model.specs.FaultTexts.{number_of, name_of, file_name_of}
 use Rattle.pc_lang.specs.Canonical.{constraints_text}
-use Rattle.pc_run.specs.declared.listing.Listing.{Listing}
+use Rattle.pc_run.specs.declared.input.Listing.{Listing}
 
 -- a text that ends with a line break
 abbrev pub line_break : List ℕ

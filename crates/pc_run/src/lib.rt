@@ -6,11 +6,9 @@ ghost use Rattle.pc_run_words.specs.Words.{command_of, file_count};
 ghost use Rattle.pc_run.specs.Meaning.{KeepsPromise, call_of, writing_of, after_failed_put};
 ghost use Rattle.pc_run.specs.Loading.{reading_of};
 
-mod case;
-mod claim;
+mod input;
 mod laws;
 mod line;
-mod listing;
 mod loading;
 mod making;
 mod reply;

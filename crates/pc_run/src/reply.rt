@@ -1,15 +1,12 @@
-ghost use Rattle.std.specs.Prelude.{◌≡◌, ◌≤◌, ◌+◌, map, IfOk, string_bytes};
+ghost use Rattle.std.specs.Prelude.{◌≡◌, ◌≤◌, ◌+◌, map, Some, IfOk, string_bytes};
 ghost use Rattle.pc_base.specs.Loads.{Chain};
-ghost use Rattle.pc_run_words.specs.Commands.{bound_names, check_names, gen_numbers, show_names};
-ghost use Rattle.pc_run.specs.Replies.{IsSound, RepliesTo, RepliesToStop, Responds, SaysInput, SaysProof, SaysReport};
+ghost use Rattle.pc_run_words.specs.Commands.{asked_in, HasNumbers};
+ghost use Rattle.pc_run_words.specs.Words.{command_of, file_count, IsBudget};
 ghost use Rattle.pc_run.specs.Loading.{reading_of, AreInOrder, IsInOrder};
-ghost use Rattle.pc_run.specs.Outcome.{makes};
-ghost use Rattle.pc_run_words.specs.Words.{bound, check, gen, prove, show, command_of, file_count, IsBudget, IsSize};
+ghost use Rattle.pc_run.specs.Replies.{IsSound, IsSoundInput, RepliesTo, RepliesToStop, Responds, SaysInput, SaysProof, SaysReport};
 
-use crate::case::read_case;
-use crate::claim::read_claim;
+use crate::input::{Input, read_input};
 use crate::line::{fault_line, malformed_line, usage_line};
-use crate::listing::read_listing;
 use crate::making::summarize;
 use crate::show::report_listing;
 use crate::stop::Stop;
@@ -20,7 +17,7 @@ use pc_group::answer_all;
 use pc_num::Memory;
 use pc_report::put_report;
 use pc_rows::Case;
-use pc_run_words::{Bound, Check, Command, Gen, Show, read_command};
+use pc_run_words::{Command, read_command};
 use std::alloc::Global;
 
 /// The status with which a run ends, and the text that it writes.
@@ -31,7 +28,7 @@ pub(crate) struct Reply {
 }
 
 /// The reply to any words.
-#[tactic(auto, using(crate::proofs::Chains::order_of_command, crate::proofs::Chains::nothing_loaded, crate::proofs::StopReplies::made_replies))]
+#[tactic(auto, using(crate::proofs::Chains::order_of_command, crate::proofs::Chains::nothing_loaded))]
 pub(crate) fn respond<F: Shelf>(
     alloc: Global,
     words: &[String],
@@ -44,11 +41,7 @@ pub(crate) fn respond<F: Shelf>(
     ensures calls { F.calls files.new ≤ F.calls files.old + file_count (command_of (map string_bytes words.now)) }
 {
     match read_command(alloc, words)? {
-        Some(Command::Bound(command)) => reply_to_bound(alloc, files, &command),
-        Some(Command::Prove(command)) => reply_to_prove(alloc, files, &command),
-        Some(Command::Check(command)) => reply_to_check(alloc, files, &command),
-        Some(Command::Show(command)) => reply_to_show(alloc, files, &command),
-        Some(Command::Gen(command)) => reply_to_gen(alloc, &command),
+        Some(command) => reply_to(alloc, files, &command),
         None => Ok(Reply {
             status: Status::Usage,
             text: usage_line(alloc)?.into_bytes(),
@@ -56,82 +49,46 @@ pub(crate) fn respond<F: Shelf>(
     }
 }
 
-/// The reply to `bound`.
-fn reply_to_bound<F: Shelf>(alloc: Global, files: &mut F, command: &Bound) -> Result<Reply, Memory>
-    requires { IsBudget command.now.nodes }
-    ensures replies { IfOk result (λ reply. RepliesTo (reading_of F.files F.faults F.leads files.old files.new) (bound (bound_names command.now)) reply.status reply.text.items) }
-    ensures in_order { IsInOrder (Chain F.leads files.old files.new) (bound (bound_names command.now)) }
+/// The reply to a command.
+#[tactic(auto, using(crate::proofs::StopReplies::input_replies, crate::proofs::StopReplies::stop_replies))]
+fn reply_to<F: Shelf>(alloc: Global, files: &mut F, command: &Command) -> Result<Reply, Memory>
+    requires { HasNumbers command.now }
+    ensures replies { IfOk result (λ reply. RepliesTo (reading_of F.files F.faults F.leads files.old files.new) (asked_in command.now) reply.status reply.text.items) }
+    ensures in_order { IsInOrder (Chain F.leads files.old files.new) (asked_in command.now) }
     ensures files_stay { F.files files.new ≡ F.files files.old }
     ensures faults_stay { F.faults files.old ≤ F.faults files.new }
-    ensures calls { F.calls files.new ≤ F.calls files.old + 3 }
+    ensures calls { F.calls files.new ≤ F.calls files.old + file_count (Some (asked_in command.now)) }
 {
-    match read_case(alloc, files, command) {
-        Ok(case) => Ok(Reply {
+    match read_input(alloc, files, command) {
+        Ok(input) => reply_with(alloc, &input),
+        Err(stop) => reply_to_stop(alloc, stop),
+    }
+}
+
+/// The reply where files give an input.
+fn reply_with(alloc: Global, input: &Input) -> Result<Reply, Memory>
+    requires { IsSoundInput input.now }
+    ensures { IfOk result (λ reply. SaysInput input.now reply.status reply.text.items) }
+{
+    match input {
+        Input::Asks { nodes, case } => Ok(Reply {
             status: Status::Done,
-            text: report_case(alloc, &case, command.nodes)?,
+            text: report_case(alloc, case, *nodes)?,
         }),
-        Err(stop) => reply_to_stop(alloc, stop),
-    }
-}
-
-/// The reply to `prove`.
-fn reply_to_prove<F: Shelf>(alloc: Global, files: &mut F, command: &Bound) -> Result<Reply, Memory>
-    requires { IsBudget command.now.nodes }
-    ensures replies { IfOk result (λ reply. RepliesTo (reading_of F.files F.faults F.leads files.old files.new) (prove (bound_names command.now)) reply.status reply.text.items) }
-    ensures in_order { IsInOrder (Chain F.leads files.old files.new) (prove (bound_names command.now)) }
-    ensures files_stay { F.files files.new ≡ F.files files.old }
-    ensures faults_stay { F.faults files.old ≤ F.faults files.new }
-    ensures calls { F.calls files.new ≤ F.calls files.old + 3 }
-{
-    match read_case(alloc, files, command) {
-        Ok(case) => Ok(Reply {
+        Input::Proves { nodes, case } => Ok(Reply {
             status: Status::Done,
-            text: prove_case(alloc, &case, command.nodes)?,
+            text: prove_case(alloc, case, *nodes)?,
         }),
-        Err(stop) => reply_to_stop(alloc, stop),
-    }
-}
-
-/// The reply to `check`.
-fn reply_to_check<F: Shelf>(alloc: Global, files: &mut F, command: &Check) -> Result<Reply, Memory>
-    ensures replies { IfOk result (λ reply. RepliesTo (reading_of F.files F.faults F.leads files.old files.new) (check (check_names command.now)) reply.status reply.text.items) }
-    ensures in_order { IsInOrder (Chain F.leads files.old files.new) (check (check_names command.now)) }
-    ensures files_stay { F.files files.new ≡ F.files files.old }
-    ensures faults_stay { F.faults files.old ≤ F.faults files.new }
-    ensures calls { F.calls files.new ≤ F.calls files.old + 4 }
-{
-    match read_claim(alloc, files, command) {
-        Ok(claim) => report_verdict(alloc, &claim),
-        Err(stop) => reply_to_stop(alloc, stop),
-    }
-}
-
-/// The reply to `show`.
-fn reply_to_show<F: Shelf>(alloc: Global, files: &mut F, command: &Show) -> Result<Reply, Memory>
-    ensures replies { IfOk result (λ reply. RepliesTo (reading_of F.files F.faults F.leads files.old files.new) (show (show_names command.now)) reply.status reply.text.items) }
-    ensures in_order { IsInOrder (Chain F.leads files.old files.new) (show (show_names command.now)) }
-    ensures files_stay { F.files files.new ≡ F.files files.old }
-    ensures faults_stay { F.faults files.old ≤ F.faults files.new }
-    ensures calls { F.calls files.new ≤ F.calls files.old + 2 }
-{
-    match read_listing(alloc, files, command) {
-        Ok(listing) => Ok(Reply {
+        Input::Claims(claim) => report_verdict(alloc, claim),
+        Input::Shows(listing) => Ok(Reply {
             status: Status::Done,
-            text: report_listing(alloc, &listing)?,
+            text: report_listing(alloc, listing)?,
         }),
-        Err(stop) => reply_to_stop(alloc, stop),
+        Input::Makes(numbers) => Ok(Reply {
+            status: Status::Done,
+            text: summarize(alloc, numbers)?,
+        }),
     }
-}
-
-/// The reply to `gen`, which has no files.
-fn reply_to_gen(alloc: Global, command: &Gen) -> Result<Reply, Memory>
-    requires { IsSize command.now.size }
-    ensures { IfOk result (λ reply. SaysInput (makes (gen_numbers command.now)) reply.status reply.text.items) }
-{
-    Ok(Reply {
-        status: Status::Done,
-        text: summarize(alloc, command)?,
-    })
 }
 
 /// The reply where files give nothing.

@@ -2,7 +2,7 @@ ghost use Rattle.std.specs.Prelude.{◌≡◌, IfOk};
 ghost use Rattle.pc_run.specs.Replies.{IsShowable, SaysListing};
 ghost use Rattle.pc_run.specs.Reports.{disjoint_line, listing_of};
 
-use crate::listing::Listing;
+use crate::input::Listing;
 use pc_cells::pairwise_apart;
 use pc_lang::put_constraints;
 use pc_num::Memory;

@@ -1,7 +1,7 @@
 ghost use Rattle.std.specs.Prelude.{◌≡◌, IfOk};
 ghost use Rattle.pc_run.specs.Replies.{HasVerdict, IsCheckable, SaysVerdict, status_of};
 
-use crate::claim::Claim;
+use crate::input::Claim;
 use crate::line::verdict_line;
 use crate::reply::Reply;
 use pc_base::Status;

@@ -1,13 +1,9 @@
-use Rattle.pc_base.specs.Loads.{Chain}
-use Rattle.pc_run_words.specs.Commands.{bound_names}
-use Rattle.pc_run_words.specs.Words.{bound, prove}
-use Rattle.pc_run.proofs.Chains.{order_of_command}
+use Rattle.std.proofs.Common.{inr}
+use Rattle.std.proofs.lemmas.Result.{IfOk-weaker}
+use Rattle.pc_run_words.specs.Commands.{asked_in}
 use Rattle.pc_run.proofs.reply.respond.Goals as goal
 
-pub returns-in-Some-Bound-clause-in_order : goal.returns-in-Some-Bound-clause-in_order
-returns-in-Some-Bound-clause-in_order g c =
-    order_of_command (Chain g.F.Shelf.leads c.args.files.now c.reply_to_bound.new.files) (bound (bound_names c.in-Some-Bound.command)) _ (rw (c.in-Some-Bound.is, c.in-Some-Bound.field-0-is) at c.in_ok-command.ensures.reads) c.reply_to_bound.ensures.in_order
-
-pub returns-in-Some-Prove-clause-in_order : goal.returns-in-Some-Prove-clause-in_order
-returns-in-Some-Prove-clause-in_order g c =
-    order_of_command (Chain g.F.Shelf.leads c.args.files.now c.reply_to_prove.new.files) (prove (bound_names c.in-Some-Prove.command)) _ (rw (c.in-Some-Prove.is, c.in-Some-Prove.field-0-is) at c.in_ok-command.ensures.reads) c.reply_to_prove.ensures.in_order
+pub returns-in-Some-clause-responds : goal.returns-in-Some-clause-responds
+returns-in-Some-clause-responds g c =
+    let command = rw c.in-Some.is at c.in_ok-command.ensures.reads in
+    IfOk-weaker c.reply_to.result _ _ (λ reply replies. inr (record { asked = asked_in c.in-Some.command; command = command; replies = replies })) c.reply_to.ensures.replies

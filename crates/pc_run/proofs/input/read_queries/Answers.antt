@@ -4,7 +4,7 @@ use Rattle.std.proofs.lemmas.Result.{err_from_is_err_and}
 use Rattle.pc_model.specs.Accepted.{IsQuery}
 use Rattle.pc_model.specs.Refusals.{RefusesAs}
 use Rattle.pc_run.proofs.Asked.{none_read, next_word, refused_word, all_words}
-use Rattle.pc_run.proofs.case.read_queries.Goals as goal
+use Rattle.pc_run.proofs.input.read_queries.Goals as goal
 
 pub loop-place-init : goal.loop-place-init
 loop-place-init c = rw c.new-queries.ensures (record { read = none_read c.args.schema.now (map (λ (text : Bor (List ℕ)). text.now) c.args.texts.now); asked = All-nil (IsQuery c.args.schema.now) })

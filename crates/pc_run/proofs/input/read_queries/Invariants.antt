@@ -2,7 +2,7 @@ use Rattle.std.proofs.Common.{◌≡◌, ℕ, map, All, Bor, List}
 use Rattle.pc_model.specs.Accepted.{IsQuery}
 use Rattle.pc_run.specs.Outcome.{queries_of}
 use Rattle.pc_run.proofs.Asked.{read_from}
-use Rattle.pc_run.proofs.case.read_queries.Given as goal
+use Rattle.pc_run.proofs.input.read_queries.Given as goal
 
 abbrev pub invariant-loop-place : goal.invariant-loop-place
 invariant-loop-place l = record {

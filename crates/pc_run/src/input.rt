@@ -1,0 +1,154 @@
+ghost use Rattle.std.specs.Prelude.{◌≡◌, ◌≤◌, ◌+◌, map, Some, All, IfOk};
+ghost use Rattle.pc_model.specs.Accepted.{IsQuery};
+ghost use Rattle.pc_model.specs.Refusals.{Gives};
+ghost use Rattle.pc_model.specs.WellFormed.{IsWellFormed};
+ghost use Rattle.pc_run_words.specs.Commands.{asked_in, bound_names, check_names, show_names, HasNumbers};
+ghost use Rattle.pc_run_words.specs.Words.{bound, check, show, file_count};
+ghost use Rattle.pc_run.specs.declared.input.Input.TheVariants.{Asks};
+ghost use Rattle.pc_run.specs.Loading.{reading_of};
+ghost use Rattle.pc_run.specs.Outcome.{as_input, queries_of};
+ghost use Rattle.pc_run.specs.Replies.{IsRead, IsSound, IsSoundInput};
+
+use crate::loading::{load_constraints, load_document, load_rows, load_schema};
+use crate::stop::Stop;
+use pc_base::Shelf;
+use pc_lang::read_query;
+use pc_list::Seq;
+use pc_model::{Constraint, Query, Refusal, Schema};
+use pc_rows::{Case, Rows};
+use pc_run_words::{Bound, Check, Command, Gen, Show};
+use std::alloc::Global;
+
+/// What is checked: the bytes of a document, and the schema, the observed rows and the constraints that it is for.
+#[derive(Debug, Drop)]
+pub(crate) struct Claim {
+    pub schema: Schema,
+    pub rows: Rows,
+    pub constraints: Seq<Constraint>,
+    pub bytes: Seq<u8>,
+}
+
+/// What is shown: constraints, and the schema that they are of.
+#[derive(Debug, Drop)]
+pub(crate) struct Listing {
+    pub schema: Schema,
+    pub constraints: Seq<Constraint>,
+}
+
+/// What a command comes to with its files: a case that is asked about, or answered with proofs, by searches of at most so
+/// many nodes each; a document that is checked; constraints that are shown; or a case that is made.
+#[derive(Debug, Drop)]
+pub(crate) enum Input {
+    Asks { nodes: u32, case: Case },
+    Proves { nodes: u32, case: Case },
+    Claims(Claim),
+    Shows(Listing),
+    Makes(Gen),
+}
+
+/// Reads the files of a command in their order, each once.
+#[tactic(auto, using(crate::proofs::Cases::proves_case, crate::proofs::ReadFiles::made_is_read))]
+pub(crate) fn read_input<F: Shelf>(
+    alloc: Global,
+    files: &mut F,
+    command: &Command,
+) -> Result<Input, Stop>
+    requires { HasNumbers command.now }
+    ensures is_read { IsRead (reading_of F.files F.faults F.leads files.old files.new) (asked_in command.now) result }
+    ensures sound { IfOk result IsSoundInput }
+    ensures files_stay { F.files files.new ≡ F.files files.old }
+    ensures faults_stay { F.faults files.old ≤ F.faults files.new }
+    ensures calls { F.calls files.new ≤ F.calls files.old + file_count (Some (asked_in command.now)) }
+{
+    match command {
+        Command::Bound(command) => match read_case(alloc, files, command) {
+            Ok(case) => Ok(Input::Asks {
+                nodes: command.nodes,
+                case,
+            }),
+            Err(stop) => Err(stop),
+        },
+        Command::Prove(command) => match read_case(alloc, files, command) {
+            Ok(case) => Ok(Input::Proves {
+                nodes: command.nodes,
+                case,
+            }),
+            Err(stop) => Err(stop),
+        },
+        Command::Check(command) => read_claim(alloc, files, command),
+        Command::Show(command) => read_listing(alloc, files, command),
+        Command::Gen(command) => Ok(Input::Makes(*command)),
+    }
+}
+
+/// Reads the files of `bound`, and then its queries. Those of `prove` are read alike.
+#[tactic(auto, using(pc_model::proofs::FewNames::have_few_names))]
+fn read_case<F: Shelf>(alloc: Global, files: &mut F, command: &Bound) -> Result<Case, Stop>
+    ensures is_read { IsRead (reading_of F.files F.faults F.leads files.old files.new) (bound (bound_names command.now)) (as_input (Asks command.now.nodes) result) }
+    ensures sound { IfOk result IsSound }
+    ensures files_stay { F.files files.new ≡ F.files files.old }
+    ensures faults_stay { F.faults files.old ≤ F.faults files.new }
+    ensures calls { F.calls files.new ≤ F.calls files.old + 3 }
+{
+    let schema = load_schema(alloc, files, command.schema)?;
+    let rows = load_rows(alloc, files, command.rows, &schema)?;
+    let constraints = load_constraints(alloc, files, command.constraints, &schema)?;
+    let queries = read_queries(alloc, &schema, command.queries.as_slice())?;
+    Ok(Case {
+        schema,
+        rows,
+        constraints,
+        queries,
+    })
+}
+
+/// Reads the files of `check`, and loads the document.
+#[tactic(auto, using(pc_model::proofs::FewNames::have_few_names))]
+fn read_claim<F: Shelf>(alloc: Global, files: &mut F, command: &Check) -> Result<Input, Stop>
+    ensures is_read { IsRead (reading_of F.files F.faults F.leads files.old files.new) (check (check_names command.now)) result }
+    ensures sound { IfOk result IsSoundInput }
+    ensures files_stay { F.files files.new ≡ F.files files.old }
+    ensures faults_stay { F.faults files.old ≤ F.faults files.new }
+    ensures calls { F.calls files.new ≤ F.calls files.old + 4 }
+{
+    let schema = load_schema(alloc, files, command.schema)?;
+    let rows = load_rows(alloc, files, command.rows, &schema)?;
+    let constraints = load_constraints(alloc, files, command.constraints, &schema)?;
+    let bytes = load_document(alloc, files, command.document)?;
+    Ok(Input::Claims(Claim {
+        schema,
+        rows,
+        constraints,
+        bytes,
+    }))
+}
+
+/// Reads the files of `show`.
+fn read_listing<F: Shelf>(alloc: Global, files: &mut F, command: &Show) -> Result<Input, Stop>
+    ensures is_read { IsRead (reading_of F.files F.faults F.leads files.old files.new) (show (show_names command.now)) result }
+    ensures sound { IfOk result IsSoundInput }
+    ensures files_stay { F.files files.new ≡ F.files files.old }
+    ensures faults_stay { F.faults files.old ≤ F.faults files.new }
+    ensures calls { F.calls files.new ≤ F.calls files.old + 2 }
+{
+    let schema = load_schema(alloc, files, command.schema)?;
+    let constraints = load_constraints(alloc, files, command.constraints, &schema)?;
+    Ok(Input::Shows(Listing {
+        schema,
+        constraints,
+    }))
+}
+
+/// Reads the queries in their order. The place of a fault is that of the query among them.
+fn read_queries(alloc: Global, schema: &Schema, texts: &[&str]) -> Result<Seq<Query>, Refusal>
+    requires well_formed { IsWellFormed schema.now }
+    ensures gives { Gives result (queries_of schema.now (map (λ text. text.now) texts.now)) }
+    ensures asked { IfOk result (All (IsQuery schema.now)) }
+{
+    let mut queries = Seq::new(alloc);
+    for (place, text) in texts.iter().enumerate() {
+        let query = read_query(alloc, schema, text, place as u64 + 1)?;
+        queries.push(query).map_err(|_| Refusal::Memory)?;
+    }
+    Ok(queries)
+}
