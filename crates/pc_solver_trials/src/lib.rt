@@ -12,6 +12,8 @@ mod greedy;
 #[cfg(test)]
 mod lists;
 #[cfg(test)]
+mod nested;
+#[cfg(test)]
 mod plain;
 #[cfg(test)]
 mod programs;

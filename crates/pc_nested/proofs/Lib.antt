@@ -1,0 +1,14 @@
+pub mod Building
+pub mod Certified
+pub mod Choosing
+pub mod Dearest
+pub mod Ending
+pub mod Ends
+pub mod Few
+pub mod Giving
+pub mod Prices
+pub mod Shared
+pub mod Sizes
+pub mod Starts
+pub mod Totals
+pub mod Undoing

@@ -1,0 +1,6 @@
+use Rattle.std.proofs.Common.{◌≡◌, ℕ, ◌<◌, false}
+use Rattle.pc_program.specs.Settled.{is_in}
+use Rattle.pc_nested.proofs.pricing.price_of.Given as goal
+
+abbrev pub invariant-loop-cell : goal.invariant-loop-cell
+invariant-loop-cell l = (i : ℕ) → i < l.cell → is_in l.p i l.place ≡ false
