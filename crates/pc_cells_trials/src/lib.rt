@@ -6,6 +6,8 @@ mod boxes;
 #[cfg(test)]
 mod cells;
 #[cfg(test)]
+mod first_cuts;
+#[cfg(test)]
 mod runs;
 #[cfg(test)]
 mod trees;
