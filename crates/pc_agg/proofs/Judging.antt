@@ -90,7 +90,7 @@ module _ (schema : Schema) (constraints : List Constraint) (query : Query) (seen
   owes_none observed by_tree found picks answer lacks observing rows always sure is =
       subst (Owes s budget) (sym is)
       (owes_always schema constraints query seen nodes formed limited tree budget asking found (relation_from picks found) (alwayses.Tree by_tree) always.lawful (relation_may picks found)
-      (relation_is u budget picks found rows always.totals) lacks (observing.none always.unseen, always.shows) tt (λ seen_rows. always.fits) (λ disjoint. relation_decided picks found (sure disjoint)))
+      (relation_is u budget picks found rows always.totals) lacks (observing.none always.unseen, always.shows) tt (λ seen_rows. always.fits) (λ nested. relation_decided picks found (sure nested)))
 
   -- ---- both ends
 
@@ -135,11 +135,11 @@ module _ (schema : Schema) (constraints : List Constraint) (query : Query) (seen
             is.lack_is
 
         listed : IsEasy schema constraints → 0 < length found
-        listed disjoint = subst (λ l. 0 < length l) (sym stands.grown) (more_found grounds.found stands.more (sure disjoint).0.listed)
+        listed nested = subst (λ l. 0 < length l) (sym stands.grown) (more_found grounds.found stands.more (sure nested).0.listed)
 
         lack_sure : IsEasy schema constraints → IsSettledLack is.lack
-        lack_sure disjoint =
-            let own = (sure disjoint).0 in
+        lack_sure nested =
+            let own = (sure nested).0 in
             lack_settled u observed budget low.picks found grounds.lacking is.lack
             (subst (λ l. IsLacking u observed budget l grounds.lacking) (sym stands.grown) (lacking_grown u observed budget grounds.found stands.more grounds.lacking are.lacking_is))
             (subst (λ l. IsLackingSurely u l grounds.lacking) (sym stands.grown) (surely_grown u grounds.found stands.more grounds.lacking own.lacking_surely))
@@ -155,7 +155,7 @@ module _ (schema : Schema) (constraints : List Constraint) (query : Query) (seen
               do_cross schema constraints query seen nodes formed limited tree budget asking found lawful is.low_end is.high_end low_done high_done crossed',
               subst IsExtreme (sym agg_is) (is_extreme far),
             ) (low_done.base.searched, high_done.base.searched)
-            (both_fit schema constraints query seen nodes formed limited tree budget asking found lawful is.low_end is.high_end low_done high_done) (λ disjoint. relation_decided low.picks found (listed disjoint))
+            (both_fit schema constraints query seen nodes formed limited tree budget asking found lawful is.low_end is.high_end low_done high_done) (λ nested. relation_decided low.picks found (listed nested))
 
         by_test : (test : Bool) → int_lt is.high_end.value.num is.low_end.value.num ≡ test →
             Owes s budget (cond test (crossed observed (relation_from low.picks found) is.low_end is.high_end) (record { relation = relation_from low.picks found; lack = is.lack; ends = Some (is.low_end, is.high_end) }))
@@ -163,12 +163,12 @@ module _ (schema : Schema) (constraints : List Constraint) (query : Query) (seen
         by_test false e =
             owes_both schema constraints query seen nodes formed limited tree budget asking found lawful is.low_end is.high_end low_done high_done (relation_from low.picks found) is.lack
             (relation_may low.picks found) (relation_is u budget low.picks found rows totals) lack_is e
-            (λ disjoint.
-            let all = sure disjoint in (
-              relation_decided low.picks found (listed disjoint),
+            (λ nested.
+            let all = sure nested in (
+              relation_decided low.picks found (listed nested),
               stand_exact low found is.low_end.mark is.low_is.marked all.1,
               stand_exact high found is.high_end.mark is.high_is.marked all.2,
-              lack_sure disjoint,
+              lack_sure nested,
             ))
 
         pub owes_judged : Owes s budget answer

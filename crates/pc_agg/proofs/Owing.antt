@@ -220,7 +220,7 @@ module _ (schema : Schema) (constraints : List Constraint) (query : Query) (seen
       OwesSettled s budget relation lacks.Silent found
   settled_as found relation always lawful is decided =
       settled_with found relation lacks.Silent lawful is (sym (ap (λ test. test || plain.is_impossible (plain_relation relation)) always)) tt tt tt (All-nil (IsThere found)) (λ answer from. tt)
-      (λ disjoint. (decided disjoint, tt)) (λ no ends. absurd (true≢false (sym always ∙ no))) (silent_left found) (λ disjoint no ends. absurd (true≢false (sym always ∙ no)))
+      (λ nested. (decided nested, tt)) (λ no ends. absurd (true≢false (sym always ∙ no))) (silent_left found) (λ nested no ends. absurd (true≢false (sym always ∙ no)))
 
   pub owes_settled : (settled : Settled) → always_has_value query.agg ≡ true → IsSettled u budget settled → (IsEasy schema constraints → IsDecided settled.relation) → OwesSettled s budget settled.relation settled.lack settled.found
   owes_settled settled always is decided =
@@ -229,8 +229,8 @@ module _ (schema : Schema) (constraints : List Constraint) (query : Query) (seen
   -- nothing is possible, whatever the aggregate
   pub settled_impossible : (why : Why) → ShowsImpossible u why → IsOfCells why → OwesSettled s budget (relations.Impossible why) lacks.Silent []
   settled_impossible why shows of =
-      settled_with [] (relations.Impossible why) lacks.Silent (All-nil (AreLawful u)) (shows, of) (sym (or_true (always_has_value query.agg))) tt tt tt (All-nil (IsThere [])) (λ answer from. tt) (λ disjoint. (tt, tt))
-      (λ no ends. absurd (true≢false ends.0)) (silent_left []) (λ disjoint no ends. absurd (true≢false ends.0))
+      settled_with [] (relations.Impossible why) lacks.Silent (All-nil (AreLawful u)) (shows, of) (sym (or_true (always_has_value query.agg))) tt tt tt (All-nil (IsThere [])) (λ answer from. tt) (λ nested. (tt, tt))
+      (λ no ends. absurd (true≢false ends.0)) (silent_left []) (λ nested no ends. absurd (true≢false ends.0))
 
   relation_done : (found : List (List ℕ)) (relation : Relation) → All (AreLawful u) found → IsRelation u budget found relation → IsRelationDone s budget found relation
   relation_done found relation lawful is = record {
@@ -267,7 +267,7 @@ module _ (schema : Schema) (constraints : List Constraint) (query : Query) (seen
     licensed = record { relation = tt; lack = tt; low = tt; high = tt; low_unshown = tt; high_unshown = tt };
     searched = record { relation = searched; lack = tt; low = tt; high = tt };
     formed = λ seen_rows. formed_answer s formed limited tree_at (impossible_by why) (impossible_form why) (impossible_unbroken why shows) (record { relation = fits seen_rows; lack = tt; ends = tt });
-    sharp = λ disjoint. (record { decided = tt; ends = tt }, tt);
+    sharp = λ nested. (record { decided = tt; ends = tt }, tt);
     ordered = tt;
   }
 
@@ -298,7 +298,7 @@ module _ (schema : Schema) (constraints : List Constraint) (query : Query) (seen
     };
     searched = record { relation = relation_searched found relation is; lack = searched; low = tt; high = tt };
     formed = λ seen_rows. formed_answer s formed limited tree_at (always_as relation by') form unbroken (record { relation = relation_fits found relation is; lack = fits seen_rows; ends = tt });
-    sharp = λ disjoint. (record { decided = decided disjoint; ends = tt }, tt);
+    sharp = λ nested. (record { decided = decided nested; ends = tt }, tt);
     ordered = tt;
   }
     where
@@ -359,7 +359,7 @@ module _ (schema : Schema) (constraints : List Constraint) (query : Query) (seen
           };
           searched = record { relation = is.searched; lack = done.searched; low = low_end.searched; high = high_end.searched };
           formed = λ seen_rows. formed_answer s formed limited tree_at (with_ends relation lack) form unbroken (record { relation = is.fits; lack = done.fits; ends = (low_end.fits seen_rows, high_end.fits seen_rows) });
-          sharp = λ disjoint. let all = decided disjoint in (record { decided = all.0; ends = (all.1, all.2) }, all.3);
+          sharp = λ nested. let all = decided nested in (record { decided = all.0; ends = (all.1, all.2) }, all.3);
           ordered = ordered;
         }
       where
@@ -436,7 +436,7 @@ module _ (schema : Schema) (constraints : List Constraint) (query : Query) (seen
         by_test : (test : Bool) → (is_open relation && int_lt high.value.num low.value.num) ≡ test →
             Owes s budget (cond test (impossible_by (whys.Ends (bounded_by low) (bounded_by high))) (both_ends relation lacks.Silent))
         by_test true e = crossing (inl always) (and_parts (is_open relation) (int_lt high.value.num low.value.num) e).1
-        by_test false e = owes_both relation lacks.Silent may is (silent_done found always) (are_apart relation always may is e) (λ disjoint. let all = decided disjoint in (all.0, all.1, all.2, tt))
+        by_test false e = owes_both relation lacks.Silent may is (silent_done found always) (are_apart relation always may is e) (λ nested. let all = decided nested in (all.0, all.1, all.2, tt))
 
   -- ---- an answer of a count or a sum
 
@@ -449,8 +449,8 @@ module _ (schema : Schema) (constraints : List Constraint) (query : Query) (seen
         let high_done = end_done schema constraints query seen nodes formed limited tree always budget settled.found is.lawful asking few_seen small_seen High high is_high high_among between.high_end between.high_is in
         subst (Owes s budget) (sym between.answer_is)
         (owes_between settled.found is.lawful between.low_end between.high_end low_done high_done relation always may (subst (IsRelation u budget settled.found) same is.relation)
-        (λ disjoint.
-        let all = decided disjoint in (
+        (λ nested.
+        let all = decided nested in (
           subst IsDecided same all.0,
           end_exact schema constraints query seen nodes formed limited tree always budget settled.found is.lawful asking few_seen small_seen Low low is_low low_among between.low_end between.low_is all.1,
           end_exact schema constraints query seen nodes formed limited tree always budget settled.found is.lawful asking few_seen small_seen High high is_high high_among between.high_end between.high_is all.2,

@@ -98,7 +98,7 @@ module _ (schema : Schema) (constraints : List Constraint) (query : Query) (seen
       let owed =
       settled_with schema constraints query seen nodes formed limited tree budget asking found (relation_from is.picks found) lack lawful (relation_is u budget is.picks found is.rows totals)
       (silent ∙ sym (ap₂ ◌||◌ lacks_value (relation_may is.picks found))) holds searched fits from licensed
-      (λ disjoint. let own = sure disjoint in (relation_decided is.picks found own.0, own.1)) (λ no ends. gives ends.1) open_lack (λ disjoint no ends. surely disjoint ends.1) in
+      (λ nested. let own = sure nested in (relation_decided is.picks found own.0, own.1)) (λ no ends. gives ends.1) open_lack (λ nested no ends. surely nested ends.1) in
       subst (OwesSettled s budget settled.relation settled.lack) (sym is.found_is)
       (subst (λ relation. OwesSettled s budget relation settled.lack found) (sym is.relation_is)
       (subst (λ l. OwesSettled s budget (relation_from is.picks found) l found) (sym same) owed))
@@ -113,21 +113,21 @@ module _ (schema : Schema) (constraints : List Constraint) (query : Query) (seen
       (settled_impossible schema constraints query seen nodes formed limited tree budget asking why is.0 is.1)
   owes_grounded observed observing (grounded.Always by_tree found) settled is sure from =
       settled_over found settled (lacks.Always (alwayses.Tree by_tree)) from.0 from.1 is.lawful is.totals refl (observing.none is.unseen, is.shows) tt is.fits (All-nil (IsThere found)) (λ answer shown. tt)
-      (λ disjoint. (sure disjoint, tt)) (λ may. absurd (true≢false may)) (settled_lack_left (lacks.Always (alwayses.Tree by_tree)) found refl) (λ disjoint may. absurd (true≢false may))
+      (λ nested. (sure nested, tt)) (λ may. absurd (true≢false may)) (settled_lack_left (lacks.Always (alwayses.Tree by_tree)) found refl) (λ nested may. absurd (true≢false may))
   owes_grounded observed observing (grounded.Open grounds) settled is sure from =
       let done =
       lack_done schema constraints query seen nodes formed tree budget asking lacks_value observed observing from.0.picks from.0.rows grounds.found is.lawful grounds.lacking settled.lack
       is.lacking_is is.doubt from.1 in
       settled_over grounds.found settled settled.lack from.0 refl is.lawful is.totals (done.silent ∙ lacks_value) done.holds done.searched done.fits done.from done.licensed
-      (λ disjoint.
-      let own = sure disjoint in
+      (λ nested.
+      let own = sure nested in
       (own.listed, lack_settled u observed budget from.0.picks grounds.found grounds.lacking settled.lack is.lacking_is own.lacking_surely own.found_some from.1))
       (λ may'. (
         can_give schema constraints query seen nodes budget asking observed observing is.some,
         may_give schema constraints query seen nodes budget asking observed grounds.found observing is.doubt,
       ))
       (lack_left schema constraints query seen nodes budget asking observed from.0.picks grounds.found grounds.lacking settled.lack observing is.lawful is.lacking_is from.1)
-      (λ disjoint may'. surely_giving schema constraints query seen nodes budget asking observed grounds.found observing (sure disjoint).found_some)
+      (λ nested may'. surely_giving schema constraints query seen nodes budget asking observed grounds.found observing (sure nested).found_some)
 
 -- whether rows were observed, by their number
 pub observing_count : (schema : Schema) (constraints : List Constraint) (query : Query) (seen : Folded) (nodes : List CutNode) (asking : Asking schema constraints query seen) →

@@ -48,7 +48,7 @@ pub(crate) fn aim_at_both(alloc: Global, problem: &Problem<'_>) -> Result<BothAi
     requires ungrouped { problem.now.query.now.group ≡ None }
     requires has_value { always_has_value problem.now.query.now.agg ≡ true }
     ensures aimed { IfOk result (AreAimedAt problem.now) }
-    ensures disjoint { IsEasyFor problem.now → IfOk result (AreAimedReachedAt problem.now) }
+    ensures nested { IsEasyFor problem.now → IfOk result (AreAimedReachedAt problem.now) }
 {
     let extreme = Extreme::Low;
     match aim_at(alloc, problem, extreme)? {
@@ -65,7 +65,7 @@ fn aim_on(alloc: Global, problem: &Problem<'_>, low: Aim) -> Result<BothAimed, M
     requires has_value { always_has_value problem.now.query.now.agg ≡ true }
     requires low { IsAimOf problem.now Low low }
     ensures aimed { IfOk result (AreAimedAt problem.now) }
-    ensures disjoint { IsEasyFor problem.now → IsReached (program_towards (setting_of problem.now) problem.now.query.now.agg Low) low.limit.most low.limit.found → IfOk result (AreAimedReachedAt problem.now) }
+    ensures nested { IsEasyFor problem.now → IsReached (program_towards (setting_of problem.now) problem.now.query.now.agg Low) low.limit.most low.limit.found → IfOk result (AreAimedReachedAt problem.now) }
 {
     let extreme = Extreme::High;
     match aim_at(alloc, problem, extreme)? {
@@ -85,7 +85,7 @@ pub(crate) fn aim_at(
     requires ungrouped { problem.now.query.now.group ≡ None }
     requires has_value { always_has_value problem.now.query.now.agg ≡ true }
     ensures aimed { IfOk result (IsAimedAt problem.now extreme) }
-    ensures disjoint { IsEasyFor problem.now → IfOk result (IsAimReachedAt problem.now extreme) }
+    ensures nested { IsEasyFor problem.now → IfOk result (IsAimReachedAt problem.now extreme) }
 {
     let targets = find_targets(alloc, problem, extreme)?;
     let Targets { gains, picks } = targets;

@@ -96,7 +96,7 @@ fn settle_over(alloc: Global, problem: &Problem<'_>, aims: &Aims) -> Result<Sett
     ensures settled { IfOk result (IsSettled (setting_of problem.now) problem.now.nodes) }
     ensures low { IfOk result (λ settled. IsAmong settled.found aims.now.low.limit) }
     ensures high { IfOk result (λ settled. IsAmong settled.found aims.now.high.limit) }
-    ensures disjoint { IsEasyFor problem.now → IfOk result (λ settled. IsDecided settled.relation) }
+    ensures nested { IsEasyFor problem.now → IfOk result (λ settled. IsDecided settled.relation) }
 {
     let found = found_by(alloc, &aims.low.limit, &aims.high.limit)?;
     if !found.is_empty() {

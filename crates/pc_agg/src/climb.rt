@@ -42,7 +42,7 @@ pub(crate) fn climb(
     requires some { 0 < length ladder.now.rungs }
     requires lawful { All (AreLawful (setting_of problem.now)) found }
     ensures climbed { IfOk result (IsClimbedTo problem.now ladder.now want found) }
-    ensures disjoint { IsEasyFor problem.now → IfOk result (IsClimbedSurelyTo problem.now ladder.now want) }
+    ensures nested { IsEasyFor problem.now → IfOk result (IsClimbedSurelyTo problem.now ladder.now want) }
 {
     let mut span = Span {
         from: 0,
@@ -106,7 +106,7 @@ fn halve(
     requires inside { span.to < length ladder.now.rungs }
     requires lawful { All (AreLawful (setting_of problem.now)) span.found }
     ensures halved { IfOk result (HalvesSpan problem.now ladder.now want span) }
-    ensures disjoint { IsEasyFor problem.now → IfOk result (HalvesSurely problem.now ladder.now want span) }
+    ensures nested { IsEasyFor problem.now → IfOk result (HalvesSurely problem.now ladder.now want span) }
 {
     let Span {
         from,

@@ -134,7 +134,7 @@ fn stand_both(
     requires lawful { All (AreLawful (setting_of problem.now)) found }
     requires doubt { MayHaveValue problem.now number found }
     ensures pair { IfOk result (IsPairAt problem.now far number found) }
-    ensures disjoint { IsEasyFor problem.now → 0 < length found → HaveValue problem.now number found → IfOk result IsPairSurely }
+    ensures nested { IsEasyFor problem.now → 0 < length found → HaveValue problem.now number found → IfOk result IsPairSurely }
 {
     let stood = search_end(
         alloc,

@@ -51,7 +51,7 @@ pub(crate) fn ground(
 ) -> Result<Grounded, Memory>
     requires posed { IsPosed problem.now }
     ensures grounded { IfOk result (IsGroundedAt problem.now observed) }
-    ensures disjoint { IsEasyFor problem.now → IfOk result (IsGroundedSurelyAt problem.now observed) }
+    ensures nested { IsEasyFor problem.now → IfOk result (IsGroundedSurelyAt problem.now observed) }
 {
     let Settled {
         relation,
@@ -78,7 +78,7 @@ fn ground_unseen(
     requires lawful { All (AreLawful (setting_of problem.now)) found }
     requires totals { IsUnlistedIfNone (setting_of problem.now) problem.now.nodes found }
     ensures grounded { IfOk result (IsGroundedAt problem.now false) }
-    ensures disjoint { IsEasyFor problem.now → 0 < length found → IfOk result (IsGroundedSurelyAt problem.now false) }
+    ensures nested { IsEasyFor problem.now → 0 < length found → IfOk result (IsGroundedSurelyAt problem.now false) }
 {
     if !has_chosen(problem.cells) {
         let tree = flat_tree(alloc, problem.constraints.len())?;
@@ -121,7 +121,7 @@ fn ground_most(
     requires totals { IsUnlistedIfNone (setting_of problem.now) problem.now.nodes found }
     requires lacking { IsLacking (setting_of problem.now) observed problem.now.nodes found lacking }
     ensures grounded { IfOk result (IsGroundedAt problem.now observed) }
-    ensures disjoint { IsEasyFor problem.now → 0 < length found → IsLackingSurely (setting_of problem.now) found lacking → IfOk result (IsGroundedSurelyAt problem.now observed) }
+    ensures nested { IsEasyFor problem.now → 0 < length found → IsLackingSurely (setting_of problem.now) found lacking → IfOk result (IsGroundedSurelyAt problem.now observed) }
 {
     let most = chosen_program(alloc, problem, 1)?;
     let want = want_for(observed);
@@ -147,7 +147,7 @@ fn probe_once(
     requires met { All (IsMet program) found }
     requires nodes { (1 ≤ nodes) × (nodes ≤ 100_000) }
     ensures probed { IfOk result (IsProbed program want nodes found) }
-    ensures disjoint { IsEasyProgram program → IfOk result (IsSure program want) }
+    ensures nested { IsEasyProgram program → IfOk result (IsSure program want) }
 {
     probe(alloc, &program, want, found, nodes)
 }

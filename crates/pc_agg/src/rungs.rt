@@ -31,7 +31,7 @@ pub(crate) fn program_at(
     ensures program { IfOk result (λ p. p ≡ program_at (setting_of problem.now) ladder.now place) }
     ensures is_program { IfOk result IsProgram }
     ensures small { IfOk result HasSmallGains }
-    ensures disjoint { IsEasyFor problem.now → IfOk result IsEasyProgram }
+    ensures nested { IsEasyFor problem.now → IfOk result IsEasyProgram }
 {
     tested(alloc, problem.constraints, problem.cells, ladder, place)
 }

@@ -49,7 +49,7 @@ pub(crate) fn settle_open(
     requires high { IsLimitOfGain (setting_of problem.now) problem.now.nodes high.now }
     requires closed { IsEasyFor problem.now → low.now.found ≡ None → ⊥ }
     ensures settled { IfOk result (IsSettled (setting_of problem.now) problem.now.nodes) }
-    ensures disjoint { IsEasyFor problem.now → IfOk result (λ settled. IsDecided settled.relation) }
+    ensures nested { IsEasyFor problem.now → IfOk result (λ settled. IsDecided settled.relation) }
 {
     if are_open_totals(low, high) {
         return Ok(undecided(alloc));
@@ -96,7 +96,7 @@ fn undecided(alloc: Global) -> Settled
 pub(crate) fn settle_totals(alloc: Global, problem: &Problem<'_>) -> Result<Settled, Memory>
     requires posed { IsPosed problem.now }
     ensures settled { IfOk result (IsSettled (setting_of problem.now) problem.now.nodes) }
-    ensures disjoint { IsEasyFor problem.now → IfOk result (λ settled. IsDecided settled.relation) }
+    ensures nested { IsEasyFor problem.now → IfOk result (λ settled. IsDecided settled.relation) }
 {
     let most = match find_total(alloc, problem, 1)? {
         Total::Settled(settled) => return Ok(settled),
@@ -123,7 +123,7 @@ fn find_total(alloc: Global, problem: &Problem<'_>, gain: i128) -> Result<Total,
     requires posed { IsPosed problem.now }
     requires one { (gain ≡ pos 1) ⊎ (gain ≡ neg_ℤ (pos 1)) }
     ensures total { IfOk result (IsTotalAt problem.now gain) }
-    ensures disjoint { IsEasyFor problem.now → IfOk result IsTotalDecided }
+    ensures nested { IsEasyFor problem.now → IfOk result IsTotalDecided }
 {
     let gains = equal_gains(alloc, problem.cells.cells.len(), gain)?;
     match seek(alloc, problem, gains)? {

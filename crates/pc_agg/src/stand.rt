@@ -62,7 +62,7 @@ pub(crate) fn search_end(
     requires doubt { MayHaveValue problem.now seen found }
     requires small_seen { IfSome seen (λ m. nat_abs m ≤ 2 ^ 63) }
     ensures stood { IfOk result (IsStoodOf problem.now extreme test seen found) }
-    ensures disjoint { IsEasyFor problem.now → 0 < length found → HaveValue problem.now seen found → IfOk result IsStoodSurely }
+    ensures nested { IsEasyFor problem.now → 0 < length found → HaveValue problem.now seen found → IfOk result IsStoodSurely }
 {
     let Targets { gains, picks } = find_keys(alloc, problem, extreme)?;
     let observed = seen.is_some();

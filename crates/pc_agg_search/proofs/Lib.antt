@@ -11,7 +11,7 @@ pub mod Limits
 pub mod ListedPrograms
 pub mod LoweredCaps
 pub mod ManyCells
-pub mod OneBits
+pub mod NestedCells
 pub mod PosedPrograms
 pub mod Posing
 pub mod Probing

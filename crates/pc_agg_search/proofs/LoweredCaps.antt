@@ -1,4 +1,4 @@
--- A program with lower caps keeps its form, its small gains, and that its constraints share no cell.
+-- A program with lower caps keeps its form, its small gains, and that its constraints are nested.
 use Rattle.std.proofs.Common.{◌≡◌, ℕ, ◌<◌, ◌≤◌, ◌*◌, List, length, arith}
 use Rattle.std.specs.Prelude.{pos, nat_abs, ◌*ℤ◌, ◌≤ℤ◌}
 use Rattle.std.proofs.Math.Nat.{mul-le-mul_left}
@@ -40,4 +40,4 @@ module _ (p : Program) (caps : List ℕ) (lower : (i : ℕ) → i < cells_of p �
       record { gains = small.gains; sum = omega (arith, ints, less, whole) }
 
   pub lowered_easy : IsEasyProgram p → IsEasyProgram lowered
-  lowered_easy bits = record { bit_of = bits.bit_of; only = bits.only; two = bits.two; floors = bits.floors; small = bits.small; few = bits.few }
+  lowered_easy easy = record { pairs = easy.pairs; small = easy.small; few = easy.few }

@@ -26,7 +26,7 @@ use Rattle.pc_program_bound.proofs.SumBelow.{sum_below-zero, sum_below-suc}
 use Rattle.pc_branch.specs.Ends.{HasSmallGains}
 use Rattle.pc_agg_search.specs.Limits.{greatest_gain, greatest_worth}
 use Rattle.pc_agg_search.proofs.CellPrograms.{cap_small}
-use Rattle.pc_agg_search.proofs.OneBits.{Differ}
+use Rattle.pc_agg_search.proofs.NestedCells.{Differ}
 
 -- ---- a number for each cell, below twice as many as there are sets of constraints
 

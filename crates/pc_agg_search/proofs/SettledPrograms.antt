@@ -1,4 +1,4 @@
--- The program of the cells of a settled tree over disjoint constraints.
+-- The program of the cells of a settled tree, which is nested over nested constraints.
 use Rattle.std.proofs.Common.{◌≡◌, ℕ, ◌<◌, ◌≤◌, List, length, map, get_or, All, AllPairs, Contains, sym, ap, subst, ◌∙◌, arith}
 use Rattle.std.specs.Prelude.{ℤ, pos, nat_abs}
 use Rattle.std.proofs.lemmas.List.{length-map}
@@ -27,37 +27,23 @@ use Rattle.pc_cells.specs.Found.{class_of_cell, cells_of}
 use Rattle.pc_cells.proofs.Decomposed.{classes_of_cells}
 use Rattle.pc_program_bound.specs.CellPrograms.{program_with}
 use Rattle.pc_agg_search.specs.Limits.{greatest_gain}
-use Rattle.pc_agg_search.proofs.OneBits.{Differ, cell_bit, no_third, few_cells}
+use Rattle.pc_agg_search.proofs.NestedCells.{Differ, nested_pairs, few}
 use Rattle.pc_program_bound.proofs.CellPlaces.{no_class, cell_inside, mask_is, floor_is}
 use Rattle.pc_agg_search.proofs.ManyCells.{many_cells, small_gains}
 use Rattle.pc_agg_search.proofs.ProgramEnds.{is_program}
 
 -- ---- of classes with rows that differ
 
-module _ (schema : Schema) (constraints : List Constraint) (chosen : Area) (classes : List Class) (gains : List ℤ) (disjoint : IsEasy schema constraints)
+module _ (schema : Schema) (constraints : List Constraint) (chosen : Area) (classes : List Class) (gains : List ℤ) (nested : IsEasy schema constraints)
     (rows : All (HasRowOf schema constraints chosen) classes) (differ : AllPairs Differ classes) where
   abbrev program : Program
   program = program_with constraints classes gains
 
-  in_class : (i k : ℕ) → i < length classes → is_in program i k ≡ has_bit (get_or classes i no_class).mask k
-  in_class i k h = ap (λ mask. has_bit mask k) (mask_is constraints classes gains i h)
-
   is_easy : AreConstraints schema constraints → length gains ≡ length classes → All (λ gain. nat_abs gain ≤ greatest_gain) gains → IsEasyProgram program
   is_easy are sized small = record {
-    bit_of = λ i h.
-        let there = inside i h in
-        let bit = (cell_bit schema constraints chosen classes disjoint rows differ i there).bit_of in
-        (bit.0, omega (arith, bit.1, length-map constraints (λ (c : Constraint). c.least)), in_class i bit.0 there ∙ bit.2);
-    only = λ i j k h first second.
-        let there = inside i h in
-        (cell_bit schema constraints chosen classes disjoint rows differ i there).only j k (sym (in_class i j there) ∙ first) (sym (in_class i k there) ∙ second);
-    two = λ h i j k first second there a b c.
-        let last = inside j there in
-        no_third schema constraints chosen classes disjoint rows differ h i j k first second last
-        (sym (in_class h k (omega arith)) ∙ a) (sym (in_class i k (omega arith)) ∙ b) (sym (in_class j k last) ∙ c);
-    floors = λ i h. floor_is constraints classes gains i (inside i h);
+    pairs = nested_pairs schema constraints chosen classes gains nested rows differ;
     small = λ i h. let there = inside i h in let gain = small i (pos 0) (omega (arith, there, sized)) in omega (arith, gain);
-    few = omega (arith, are.few, few_cells schema constraints chosen classes disjoint rows differ, length-map classes (λ (class : Class). class.mask));
+    few = let all = few schema constraints chosen classes gains nested rows differ in let limit = are.few in omega (arith, limit, all);
   }
     where
       inside : (i : ℕ) → i < length program.masks → i < length classes
@@ -85,9 +71,9 @@ module _ (schema : Schema) (constraints : List Constraint) (chosen : Area) (node
 
   pub cells_easy : (p : Program) → p ≡ program_with constraints (map class_of_cell cells) gains → AreConstraints schema constraints → IsEasy schema constraints
       → length gains ≡ length cells → All (λ gain. nat_abs gain ≤ greatest_gain) gains → IsEasyProgram p
-  cells_easy p is are disjoint sized small =
+  cells_easy p is are nested sized small =
       subst IsEasyProgram (sym is)
-      (is_easy schema constraints chosen (map class_of_cell cells) gains disjoint (subst (All (HasRowOf schema constraints chosen)) (sym classes_are) (have_rows schema constraints chosen nodes formed tree))
+      (is_easy schema constraints chosen (map class_of_cell cells) gains nested (subst (All (HasRowOf schema constraints chosen)) (sym classes_are) (have_rows schema constraints chosen nodes formed tree))
       (subst (AllPairs Differ) (sym classes_are) (classes_of-differ (leaves_in schema nodes))) are (sized_classes sized) small)
 
   pub cells_small : (p : Program) → p ≡ program_with constraints (map class_of_cell cells) gains → AreConstraints schema constraints

@@ -64,7 +64,7 @@ module _ (schema : Schema) (constraints : List Constraint) (query : Query) (node
       for_small = cells_small schema constraints query.chosen nodes (cells_of (leaves_in schema nodes)) gains formed tree refl (program_for u gain) same are sized all_small
 
       pub for_easy : IsEasy schema constraints → IsEasyProgram (program_for u gain)
-      for_easy disjoint = cells_easy schema constraints query.chosen nodes (cells_of (leaves_in schema nodes)) gains formed tree refl (program_for u gain) same are disjoint sized all_small
+      for_easy nested = cells_easy schema constraints query.chosen nodes (cells_of (leaves_in schema nodes)) gains formed tree refl (program_for u gain) same are nested sized all_small
 
   -- ---- chosen cells that are closed
 
@@ -96,4 +96,4 @@ module _ (schema : Schema) (constraints : List Constraint) (query : Query) (node
     without_small = lowered_small p caps lower (for_small (on_chosen (λ class. pos 1)) one_small)
 
     pub without_easy : IsEasy schema constraints → IsEasyProgram (program_without u closed)
-    without_easy disjoint = lowered_easy p caps lower (for_easy (on_chosen (λ class. pos 1)) one_small disjoint)
+    without_easy nested = lowered_easy p caps lower (for_easy (on_chosen (λ class. pos 1)) one_small nested)

@@ -29,7 +29,7 @@ pub fn gained_program(
     ensures program { IfOk result (λ p. p ≡ gained_program problem.now gains) }
     ensures is_program { IfOk result IsProgram }
     ensures small { IfOk result HasSmallGains }
-    ensures disjoint { IsEasyFor problem.now → IfOk result IsEasyProgram }
+    ensures nested { IsEasyFor problem.now → IfOk result IsEasyProgram }
 {
     program_of(
         alloc,
@@ -46,7 +46,7 @@ pub fn chosen_program(alloc: Global, problem: &Problem<'_>, gain: i128) -> Resul
     ensures program { IfOk result (λ p. p ≡ program_for (setting_of problem.now) (on_chosen (λ _. gain))) }
     ensures is_program { IfOk result IsProgram }
     ensures small { IfOk result HasSmallGains }
-    ensures disjoint { IsEasyFor problem.now → IfOk result IsEasyProgram }
+    ensures nested { IsEasyFor problem.now → IfOk result IsEasyProgram }
 {
     chosen_alone(alloc, problem.constraints, problem.cells, gain)
 }
@@ -72,7 +72,7 @@ pub fn total_program(alloc: Global, problem: &Problem<'_>, gain: i128) -> Result
     ensures program { IfOk result (λ p. p ≡ program_for (setting_of problem.now) (λ _. gain)) }
     ensures is_program { IfOk result IsProgram }
     ensures small { IfOk result HasSmallGains }
-    ensures disjoint { IsEasyFor problem.now → IfOk result IsEasyProgram }
+    ensures nested { IsEasyFor problem.now → IfOk result IsEasyProgram }
 {
     total_alone(alloc, problem.constraints, problem.cells, gain)
 }

@@ -15,7 +15,7 @@ mod want;
 
 pub use extreme::Extreme;
 pub use gains::{chosen_gains, chosen_program, equal_gains, gained_program, total_program};
-pub use laws::fitting_answers_are_formed;
+pub use laws::{disjoint_constraints_are_easy, fitting_answers_are_formed};
 pub use limit::{Limit, Sought, seek};
 pub use one_leaf::flat_tree;
 pub use probes::{FoundCounts, ProbeVerdict, Probed, find_wanted, probe};

@@ -37,7 +37,7 @@ pub fn seek(alloc: Global, problem: &Problem<'_>, gains: Seq<i128>) -> Result<So
     requires sized { length gains ≡ length problem.now.cells.now.cells }
     requires small_gains { All (λ gain. nat_abs gain ≤ greatest_gain) gains }
     ensures sought { IfOk result (IsSought (gained_program problem.now gains) problem.now.nodes) }
-    ensures disjoint { IsEasyFor problem.now → IfOk result (IsClosed (gained_program problem.now gains)) }
+    ensures nested { IsEasyFor problem.now → IfOk result (IsClosed (gained_program problem.now gains)) }
 {
     let program = gained_program(alloc, problem, gains)?;
     let outcome = solve(alloc, &program, problem.nodes)?;

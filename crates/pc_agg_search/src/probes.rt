@@ -49,7 +49,7 @@ pub fn probe(
     requires met { All (IsMet program.now) found }
     requires nodes { (1 ≤ nodes) × (nodes ≤ 100_000) }
     ensures probed { IfOk result (IsProbed program.now want nodes found) }
-    ensures disjoint { IsEasyProgram program.now → IfOk result (IsSure program.now want) }
+    ensures nested { IsEasyProgram program.now → IfOk result (IsSure program.now want) }
 {
     if let Some(_place) = find_wanted(program, want, found.as_slice()) {
         return Ok(Probed {

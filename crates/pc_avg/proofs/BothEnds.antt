@@ -44,7 +44,7 @@ module _ (schema : Schema) (constraints : List Constraint) (query : Query) (seen
   by_both (Some low) None low_is high_is low_sure high_sure =
       absurd (no_outermost schema constraints query seen nodes formed limited tree budget asking agg_is relation lack found settled has High high_is)
   by_both (Some low) (Some high) low_is high_is low_sure high_sure =
-      owes_average schema constraints query seen nodes formed limited tree budget asking agg_is relation lack found settled has low high low_is high_is (λ disjoint. (low_sure disjoint, high_sure disjoint))
+      owes_average schema constraints query seen nodes formed limited tree budget asking agg_is relation lack found settled has low high low_is high_is (λ nested. (low_sure nested, high_sure nested))
 
   -- the answer with both ends in it
   pub owes_both_ends : (answer : Answer) (low high : Option End) (ends : Option (End × End)) → answer ≡ answer_of relation lack → ends ≡ both low high → IsEndIfAny u seen budget Low found low →

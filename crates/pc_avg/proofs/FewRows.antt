@@ -22,7 +22,7 @@ use Rattle.pc_program_bound.proofs.SumBelow.{sum_below-zero, sum_below-suc, sum_
 use Rattle.pc_avg_ratio.specs.Fractional.{most_added, most_room}
 use Rattle.pc_agg_search.proofs.CellPrograms.{cap_small}
 use Rattle.pc_agg_search.proofs.ManyCells.{many_cells}
-use Rattle.pc_agg_search.proofs.OneBits.{Differ}
+use Rattle.pc_agg_search.proofs.NestedCells.{Differ}
 
 sum_small : (n m : ℕ) (f : ℕ → ℤ) → ((i : ℕ) → i < n → f i ≤ℤ pos m) → sum_below n f ≤ℤ pos (n * m)
 sum_small zero m f each = rw (sum_below-zero f) (omega (arith, ints))

@@ -103,7 +103,7 @@ module _ (schema : Schema) (constraints : List Constraint) (query : Query) (seen
     licensed = settled.licensed;
     searched = settled.searched;
     formed = λ seen_rows. record { relation = settled.formed.0; lack = settled.formed.1; ends = tt; silent = settled.silent; absent = no_ends relation lack none };
-    sharp = λ disjoint. let all = settled.sharp disjoint in (record { decided = all.0; ends = tt }, all.1);
+    sharp = λ nested. let all = settled.sharp nested in (record { decided = all.0; ends = tt }, all.1);
     ordered = tt;
   }
 
@@ -213,10 +213,10 @@ module _ (schema : Schema) (constraints : List Constraint) (query : Query) (seen
     ends = ends_of relation lack has
 
     decided : IsEasy schema constraints → IsDecided relation × IsExact low.mark × IsExact high.mark × IsSettledLack lack
-    decided disjoint =
-        let settles = settled.sharp disjoint in
-        let given = settled.surely_gives disjoint lacks_value ends in
-        let sure = surely disjoint in (
+    decided nested =
+        let settles = settled.sharp nested in
+        let given = settled.surely_gives nested lacks_value ends in
+        let sure = surely nested in (
           settles.0,
           exact_of schema constraints query seen nodes formed tree asking agg_is Low found low.value low.mark low.proof sure.0 given,
           exact_of schema constraints query seen nodes formed tree asking agg_is High found high.value high.mark high.proof sure.1 given,

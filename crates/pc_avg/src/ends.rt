@@ -33,7 +33,7 @@ pub(crate) fn search_end(
     requires small_seen { nat_abs seen.now.sum ≤ 1_000_000 * 10 ^ 15 }
     requires lawful { All (AreLawful (setting_of problem.now)) found.now }
     ensures end { IfOk result (IsEndIfAny (setting_of problem.now) seen.now problem.now.nodes extreme found.now) }
-    ensures disjoint { IsEasyFor problem.now → IfOk result (IsEndSurely (setting_of problem.now) seen.now extreme found.now) }
+    ensures nested { IsEasyFor problem.now → IfOk result (IsEndSurely (setting_of problem.now) seen.now extreme found.now) }
 {
     let side = side_of(alloc, problem, seen, extreme)?;
     end_on(alloc, extreme, &side, found, problem.nodes)
@@ -50,7 +50,7 @@ fn end_on(
     requires side { (u : Setting) × (seen : Folded) × IsSide u seen extreme side.now × All (AreLawful u) found.now }
     requires nodes { (1 ≤ nodes) × (nodes ≤ 100_000) }
     ensures end { (u : Setting) (seen : Folded) → IsSide u seen extreme side.now → IfOk result (IsEndIfAny u seen nodes extreme found.now) }
-    ensures disjoint { (u : Setting) (seen : Folded) → IsSide u seen extreme side.now → IsEasyProgram side.now.fraction.rows → IfOk result (IsEndSurely u seen extreme found.now) }
+    ensures nested { (u : Setting) (seen : Folded) → IsSide u seen extreme side.now → IsEasyProgram side.now.fraction.rows → IfOk result (IsEndSurely u seen extreme found.now) }
 {
     let Some(outermost) = side.outermost else {
         return Ok(None);

@@ -34,7 +34,7 @@ pub(crate) fn fraction_of(
     ensures sums { IfOk result (λ f. f.sums ≡ program_for (setting_of problem.now) (on_chosen (key_of (setting_of problem.now) extreme))) }
     ensures count { IfOk result (λ f. f.count ≡ seen.now.count) }
     ensures sum { IfOk result (λ f. 0 < seen.now.count → f.sum ≡ signed extreme seen.now.sum) }
-    ensures disjoint { IsEasyFor problem.now → IfOk result (λ f. IsEasyProgram f.rows) }
+    ensures nested { IsEasyFor problem.now → IfOk result (λ f. IsEasyProgram f.rows) }
 {
     let rows = chosen_program(alloc, problem, 1)?;
     let sums = gained_program(alloc, problem, keys)?;

@@ -34,7 +34,7 @@ pub(crate) fn side_of(
     requires few_seen { seen.now.count ≤ 1_000_000 }
     requires small_seen { nat_abs seen.now.sum ≤ 1_000_000 * 10 ^ 15 }
     ensures side { IfOk result (IsSide (setting_of problem.now) seen.now extreme) }
-    ensures disjoint { IsEasyFor problem.now → IfOk result (λ side. IsEasyProgram side.fraction.rows) }
+    ensures nested { IsEasyFor problem.now → IfOk result (λ side. IsEasyProgram side.fraction.rows) }
 {
     let Targets { gains, picks } = find_keys(alloc, problem, extreme)?;
     let outermost = outermost_of(problem, extreme, gains.as_slice(), seen);

@@ -172,11 +172,4 @@ module _ (f : Fractional) (fractional : IsFractional f) where
         }
 
     pub program_easy : IsEasyProgram f.rows → IsEasyProgram (program_at f r)
-    program_easy bits = record {
-      bit_of = bits.bit_of;
-      only = bits.only;
-      two = bits.two;
-      floors = bits.floors;
-      small = program_small.gains;
-      few = bits.few;
-    }
+    program_easy easy = record { pairs = easy.pairs; small = program_small.gains; few = easy.few }

@@ -20,7 +20,7 @@ pub(crate) fn program_at(alloc: Global, f: &Fractional, ratio: Frac) -> Result<P
     ensures program { IfOk result (λ p. p ≡ program_at f.now (ratio_of ratio)) }
     ensures is_program { IfOk result IsProgram }
     ensures small { IfOk result HasSmallGains }
-    ensures disjoint { IsEasyProgram f.now.rows → IfOk result IsEasyProgram }
+    ensures nested { IsEasyProgram f.now.rows → IfOk result IsEasyProgram }
 {
     let gain = gains_over(alloc, f, ratio)?;
     let mut program = f.rows.clone()?;

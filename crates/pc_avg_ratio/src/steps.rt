@@ -59,7 +59,7 @@ pub fn greatest_ratio(
     requires some { pos 0 <ℤ rows_with f.now start }
     requires nodes { (1 ≤ nodes) × (nodes ≤ 100_000) }
     ensures highest { IfOk result (IsHighest f.now outermost nodes (ratio_with f.now start)) }
-    ensures disjoint { IsEasyProgram f.now.rows → IfOk result IsSurely }
+    ensures nested { IsEasyProgram f.now.rows → IfOk result IsSurely }
 {
     let average = Average {
         fraction: f,
@@ -80,7 +80,7 @@ fn take_step(alloc: Global, average: &Average<'_>, standing: Standing) -> Result
     requires asked { IsAsked average.now }
     requires standing { IsStanding average.now.fraction.now standing }
     ensures step { IfOk result (IsStepOver average.now standing) }
-    ensures disjoint { IsEasyProgram average.now.fraction.now.rows → IfOk result IsStepSurely }
+    ensures nested { IsEasyProgram average.now.fraction.now.rows → IfOk result IsStepSurely }
 {
     let program = program_at(alloc, average.fraction, standing.ratio)?;
     match solve(alloc, &program, average.nodes)? {

@@ -2,7 +2,7 @@
 use Rattle.std.specs.Prelude.{◌≡◌, ℕ, ℤ, ◌≤ℤ◌, ◌<ℤ◌, List, Option, Some, None, MatchOption, ⊤}
 use Rattle.pc_program_bound.specs.declared.program.Program.{Program}
 use Rattle.pc_program_bound.specs.Allocation.{IsAllocation, worth}
-use Rattle.pc_program.specs.Settled.{HasOneBits}
+use Rattle.pc_nested.specs.Nested.{IsNested}
 use Rattle.pc_num.specs.declared.Frac.{Frac}
 use Rattle.pc_model.specs.declared.tree.Mult.{Mult}
 use Rattle.pc_simplex_tableau.specs.Point.{Relaxation, vertex, IsRelaxation}
@@ -74,7 +74,7 @@ IsOutcome p budget (Spent e found tree) = IsInPreorder tree.nodes × IsSpent p b
 
 -- every search ends within its budget
 abbrev pub IsEasyProgram : Program → Type 0
-IsEasyProgram p = HasOneBits p
+IsEasyProgram p = IsNested p
 
 abbrev pub IsDecided : Outcome → Type 0
 IsDecided (Best counts value tree) = ⊤

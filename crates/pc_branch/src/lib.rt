@@ -3,8 +3,8 @@
 
 mod end_laws;
 mod ended;
-mod greedily;
 mod laws;
+mod one_leaf;
 mod outcome;
 mod point;
 mod round;

@@ -6,26 +6,30 @@ ghost use Rattle.pc_branch.specs.Outcome.{IsOutcome, IsDecided, IsEasyProgram};
 ghost use Rattle.pc_branch.specs.Steps.{budget_of, IsAt};
 
 use crate::ended::outcome;
-use crate::greedily::greedily;
+use crate::one_leaf::in_one_leaf;
 use crate::outcome::Outcome;
 use crate::search::{Hand, Search};
 use crate::start::start;
+use pc_nested::{is_nested, solve_nested};
 use pc_num::Memory;
-use pc_program::has_one_bits;
+use pc_program::{greedy, has_one_bits};
 use pc_program_bound::Program;
 use std::alloc::Global;
 
-/// The greatest worth of a program, by a tree of at most so many nodes. Where no two constraints share a cell and no cell
-/// has a floor, it is found without a search.
+/// The greatest worth of a program, by a tree of at most so many nodes. Where any two constraints share no cell or one is
+/// inside the other, it is found without a search.
 pub fn solve(alloc: Global, p: &Program, nodes: u32) -> Result<Outcome, Memory>
     requires program { IsProgram p.now }
     requires width { HasFitWidth p.now (no_multipliers p.now) }
     requires nodes { (1 ≤ nodes) × (nodes ≤ 100_000) }
     ensures outcome { IfOk result (IsOutcome p.now nodes) }
-    ensures disjoint { IsEasyProgram p.now → IfOk result IsDecided }
+    ensures nested { IsEasyProgram p.now → IfOk result IsDecided }
 {
     if has_one_bits(p) {
-        return greedily(alloc, p, nodes);
+        return in_one_leaf(alloc, greedy(alloc, p)?, nodes);
+    }
+    if is_nested(p) {
+        return in_one_leaf(alloc, solve_nested(alloc, p)?, nodes);
     }
     search(alloc, p, nodes)
 }

@@ -12,7 +12,7 @@ use std::rt::Files;
 use trouble::Trouble;
 
 /// The folders of the examples.
-const EXAMPLES: [&str; 17] = [
+const EXAMPLES: [&str; 18] = [
     "shop",
     "shop-prove",
     "shop-check",
@@ -23,6 +23,7 @@ const EXAMPLES: [&str; 17] = [
     "uncovered",
     "outside",
     "parts",
+    "hierarchy",
     "observed",
     "overlap",
     "groups",

@@ -1,5 +1,6 @@
 mod drawn;
 mod listed;
+mod nested;
 mod pairs;
 mod stuck;
 mod worked;

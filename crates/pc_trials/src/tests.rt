@@ -11,6 +11,7 @@ mod documents;
 mod extremes;
 mod failing;
 mod groups;
+mod nested;
 mod overlaps;
 mod refused;
 mod shown;

@@ -19,7 +19,7 @@ fn mask(draws: &mut Draws, is_triangle: bool, cell: usize) -> u32 {
     (draws.below(7) + 1) as u32
 }
 
-fn with_ends(draws: &mut Draws, small: Small) -> Small {
+pub(super) fn with_ends(draws: &mut Draws, small: Small) -> Small {
     let mut small = small;
     for place in 0..small.constraints.min(3) {
         let most = draws.below(4) + 1;
@@ -29,7 +29,7 @@ fn with_ends(draws: &mut Draws, small: Small) -> Small {
     small
 }
 
-fn gain(draws: &mut Draws) -> i128 {
+pub(super) fn gain(draws: &mut Draws) -> i128 {
     let gain = draws.below(3) as i128 + 2;
     if draws.below(5) == 0 { 0 - gain } else { gain }
 }
@@ -57,7 +57,7 @@ fn drawn(draws: &mut Draws) -> Small {
 
 /// What an answer is by the plain search.
 #[derive(Clone, Copy)]
-enum Verdict {
+pub(super) enum Verdict {
     Wrong,
     Open,
     Settled,
@@ -68,7 +68,7 @@ fn if_right(is_right: bool, said: Verdict) -> Verdict {
 }
 
 /// Whether the plain search finds no more than what is said, and as much as that where the search came to its end.
-fn said_of(p: &Program, greatest: Option<i128>, outcome: &Outcome) -> Verdict {
+pub(super) fn said_of(p: &Program, greatest: Option<i128>, outcome: &Outcome) -> Verdict {
     match outcome {
         Outcome::Best {
             counts,

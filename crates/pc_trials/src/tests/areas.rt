@@ -109,7 +109,7 @@ fn areas_and_rows_outside(rt: HostRuntime) -> Result<(), Fail> {
 }
 
 /// Whether `check` says yes to what `prove` writes.
-fn is_proved(rt: &impl Abort, alloc: Global, trial: &Trial<'_>) -> Result<bool, Fail> {
+pub(super) fn is_proved(rt: &impl Abort, alloc: Global, trial: &Trial<'_>) -> Result<bool, Fail> {
     let (schema, rows, constraints, queries, _) = *trial;
     let words = words_of(alloc, "prove", queries)?;
     let shelf = shelf_of(alloc, schema, rows, constraints)?;

@@ -12,10 +12,10 @@ returns-in-Within-clause-aimed c =
       picked = c.in_ok-targets.ensures.picks;
     }
 
-pub returns-in-Within-clause-disjoint : goal.returns-in-Within-clause-disjoint
-returns-in-Within-clause-disjoint c =
+pub returns-in-Within-clause-nested : goal.returns-in-Within-clause-nested
+returns-in-Within-clause-nested c =
     let is = ap (gained_program c.args.problem.now) c.in_ok-targets.ensures.gains in
-    λ easy. subst (λ p. IsReached p c.in-Within.limit.most c.in-Within.limit.found) is (rw c.in-Within.is at (c.in_ok-limit.ensures.disjoint easy))
+    λ easy. subst (λ p. IsReached p c.in-Within.limit.most c.in-Within.limit.found) is (rw c.in-Within.is at (c.in_ok-limit.ensures.nested easy))
 
 pub returns-in-Nothing-clause-aimed : goal.returns-in-Nothing-clause-aimed
 returns-in-Nothing-clause-aimed c =

@@ -12,7 +12,7 @@ pub settle_over-requires-clause-aims : goal.settle_over-requires-clause-aims
 settle_over-requires-clause-aims c = rw c.in-At.is at c.in_ok-aims.ensures.aimed
 
 pub settle_over-requires-clause-reached : goal.settle_over-requires-clause-reached
-settle_over-requires-clause-reached c disjoint = rw c.in-At.is at (c.in_ok-aims.ensures.disjoint disjoint)
+settle_over-requires-clause-reached c nested = rw c.in-At.is at (c.in_ok-aims.ensures.nested nested)
 
 pub between-requires-clause-low : goal.between-requires-clause-low
 between-requires-clause-low c =
@@ -35,9 +35,9 @@ returns-in_ok-settled-in-At c =
           (λ answer is asking.
           owes c.args.problem.now.schema.now c.args.problem.now.constraints.now c.args.problem.now.query.now c.args.seen.now c.args.problem.now.cells.now.tree.nodes asked.posed.formed asked.posed.limited asked.posed.found.tree c.args.problem.now.nodes asking asked.few_seen asked.small_seen c.requires.has_value
           c.in_ok-settled-in-At.settled settled.settled c.in-At.aims.low c.in-At.aims.high aims.low aims.high settled.low settled.high
-          (λ disjoint.
-          let reached = (rw c.in-At.is at (c.in_ok-aims.ensures.disjoint disjoint)) in
-          (settled.disjoint disjoint, reached.low, reached.high))
+          (λ nested.
+          let reached = (rw c.in-At.is at (c.in_ok-aims.ensures.nested nested)) in
+          (settled.nested nested, reached.low, reached.high))
           answer is)
           c.between.ensures;
     }

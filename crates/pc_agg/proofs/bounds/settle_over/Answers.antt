@@ -56,8 +56,8 @@ returns-then-not-is_empty-clause-high c =
     (high_among c.args.problem.now.schema.now c.args.problem.now.constraints.now c.args.problem.now.query.now c.args.problem.now.cells.now.tree.nodes c.requires.posed.limited c.args.problem.now.query.now.agg c.args.problem.now.nodes Low High c.args.aims.now.low c.args.aims.now.high aims.low aims.high)))
     c.listed.ensures
 
-pub returns-then-not-is_empty-clause-disjoint : goal.returns-then-not-is_empty-clause-disjoint
-returns-then-not-is_empty-clause-disjoint c disjoint = IfOk-weaker c.listed.result _ _ (λ settled is. rw is tt) c.listed.ensures
+pub returns-then-not-is_empty-clause-nested : goal.returns-then-not-is_empty-clause-nested
+returns-then-not-is_empty-clause-nested c nested = IfOk-weaker c.listed.result _ _ (λ settled is. rw is tt) c.listed.ensures
 
 pub settle_open-requires-clause-low : goal.settle_open-requires-clause-low
 settle_open-requires-clause-low c =
@@ -68,7 +68,7 @@ settle_open-requires-clause-high c =
     (gain_towards (setting_of c.args.problem.now) c.args.problem.now.query.now.agg High, c.requires.aims.high.limit)
 
 pub settle_open-requires-clause-closed : goal.settle_open-requires-clause-closed
-settle_open-requires-clause-closed c disjoint none = rw none at (c.requires.reached disjoint).low
+settle_open-requires-clause-closed c nested none = rw none at (c.requires.reached nested).low
 
 pub returns-clause-low : goal.returns-clause-low
 returns-clause-low c =

@@ -22,12 +22,12 @@ returns-clause-halved c = λ found is.
     subst (IsHalved u c.args.problem.now.nodes c.args.ladder.now c.args.want found span) (sym c.narrowed.ensures)
     (is_halved u c.args.problem.now.nodes c.args.ladder.now c.args.want found span middle is (omega arith) (omega (arith, c.requires.several)) c.in_ok-probed.probed probed)
 
-pub returns-clause-disjoint : goal.returns-clause-disjoint
-returns-clause-disjoint c = λ disjoint sure.
+pub returns-clause-nested : goal.returns-clause-nested
+returns-clause-nested c = λ nested sure.
     let u = setting_of c.args.problem.now in
     let span = c.args.span in
     let middle = span.from + (span.to - span.from) / 2 in
     let probed = subst (λ p. IsProbed p c.args.want c.args.problem.now.nodes span.found c.in_ok-probed.probed) c.in_ok-program.ensures.program c.in_ok-probed.ensures.probed in
-    let sure_probe = subst (λ p. IsSure p c.args.want c.in_ok-probed.probed) c.in_ok-program.ensures.program (c.in_ok-probed.ensures.disjoint (c.in_ok-program.ensures.disjoint disjoint)) in
+    let sure_probe = subst (λ p. IsSure p c.args.want c.in_ok-probed.probed) c.in_ok-program.ensures.program (c.in_ok-probed.ensures.nested (c.in_ok-program.ensures.nested nested)) in
     subst (IsSureHalf u c.args.ladder.now c.args.want) (sym c.narrowed.ensures)
     (is_sure_half u c.args.problem.now.nodes c.args.ladder.now c.args.want span middle c.in_ok-probed.probed probed sure_probe sure)

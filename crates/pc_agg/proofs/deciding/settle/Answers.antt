@@ -20,7 +20,7 @@ pub returns-then-always_has_value : goal.returns-then-always_has_value
 returns-then-always_has_value c = record {
   lawful = IfOk-weaker c.settle_totals.result _ _ (λ settled is. is.lawful) c.settle_totals.ensures.settled;
   owes =
-      ok_both c.settle_totals.result _ _ _ c.settle_totals.ensures.settled c.settle_totals.ensures.disjoint
+      ok_both c.settle_totals.result _ _ _ c.settle_totals.ensures.settled c.settle_totals.ensures.nested
       (λ settled is decided asking.
       owes_settled c.args.schema.now c.args.constraints.now c.args.query.now c.args.seen.now c.args.cells.now.tree.nodes c.requires.asked.formed c.requires.asked.limited
       c.requires.asked.found.tree c.args.nodes asking settled (sym c.always_has_value.ensures ∙ c.if-always_has_value.true) is decided);
@@ -38,6 +38,6 @@ returns c = record {
       (λ settled from asking.
       owes_grounded c.args.schema.now c.args.constraints.now c.args.query.now c.args.seen.now c.args.cells.now.tree.nodes c.requires.asked.formed c.requires.asked.limited
       c.requires.asked.found.tree c.args.nodes asking (sym c.always_has_value.ensures ∙ c.if-always_has_value.false) (nat_lt 0 c.args.seen.now.count)
-      (observing_count c.args.schema.now c.args.constraints.now c.args.query.now c.args.seen.now c.args.cells.now.tree.nodes asking) c.in_ok-grounded.grounded settled c.in_ok-grounded.ensures.grounded c.in_ok-grounded.ensures.disjoint from)
+      (observing_count c.args.schema.now c.args.constraints.now c.args.query.now c.args.seen.now c.args.cells.now.tree.nodes asking) c.in_ok-grounded.grounded settled c.in_ok-grounded.ensures.grounded c.in_ok-grounded.ensures.nested from)
       c.settle_grounded.ensures;
 }

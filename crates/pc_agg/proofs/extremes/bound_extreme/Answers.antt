@@ -26,7 +26,7 @@ returns-in-Always c =
           (numbers_of c.args.problem.now.schema.now c.args.problem.now.query.now c.args.far c.requires.extreme asked.well) c.args.far c.requires.extreme)
           (rows_of_cells c.args.problem.now.schema.now c.args.problem.now.constraints.now c.args.problem.now.query.now nodes asked.posed.formed asked.posed.found.tree c.args.problem.now.cells.now.cells is.0 asked.posed.found.listed is.1)
           (rw (c.is_some-observed.ensures, c.seen_number-number.ensures) at (rw c.in-Always.is at c.in_ok-grounded.ensures.grounded))
-          (λ disjoint. (rw c.in-Always.is at (c.in_ok-grounded.ensures.disjoint disjoint))) (rw c.as_slice.ensures at is.2))
+          (λ nested. (rw c.in-Always.is at (c.in_ok-grounded.ensures.nested nested))) (rw c.as_slice.ensures at is.2))
           c.always_by.ensures;
     }
 
@@ -63,9 +63,9 @@ returns-in-At c =
           (rw (c.is_some-observed.ensures, c.seen_number-number.ensures) at (rw c.in-Open.is at c.in_ok-grounded.ensures.grounded)) c.in-At.low c.in-At.high c.in-At.found
           (rw c.seen_number-number.ensures at (rw c.in-At.is at c.in_ok-pair.ensures.pair)) answer
           (rw (c.is_some-observed.ensures, c.seen_number-number.ensures) at is)
-          (λ disjoint.
-          let own = (rw c.in-Open.is at (c.in_ok-grounded.ensures.disjoint disjoint)) in
-          let ends = (rw c.in-At.is at (c.in_ok-pair.ensures.disjoint disjoint own.listed (rw c.is_some-observed.ensures at own.found_some))) in
+          (λ nested.
+          let own = (rw c.in-Open.is at (c.in_ok-grounded.ensures.nested nested)) in
+          let ends = (rw c.in-At.is at (c.in_ok-pair.ensures.nested nested own.listed (rw c.is_some-observed.ensures at own.found_some))) in
           ((rw (c.is_some-observed.ensures, c.seen_number-number.ensures) at own), ends.0, ends.1)))
           c.judge.ensures;
     }

@@ -26,13 +26,13 @@ returns-clause-pair c =
     (rw (c.test_at.ensures, c.key_at.ensures) at (rw c.in-At.is at c.in_ok-stood.ensures.stood)) c.in_ok-stood-2.stood c.pair_at.result
     (rw (c.test_at-2.ensures, c.key_at-2.ensures) at c.in_ok-stood-2.ensures.stood) c.pair_at.ensures
 
-pub returns-clause-disjoint : goal.returns-clause-disjoint
-returns-clause-disjoint c disjoint some found =
+pub returns-clause-nested : goal.returns-clause-nested
+returns-clause-nested c nested some found =
     let u = setting_of c.args.problem.now in
     let low_at = (rw (c.test_at.ensures, c.key_at.ensures) at (rw c.in-At.is at c.in_ok-stood.ensures.stood)) in
-    let low_some = (rw c.in-At.is at (c.in_ok-stood.ensures.disjoint disjoint some
+    let low_some = (rw c.in-At.is at (c.in_ok-stood.ensures.nested nested some
     (subst (λ o. Any (IsFound (most_chosen u) (want_for o)) c.args.found) (sym (ap is_some c.key_at.ensures ∙ key_some Low c.args.number)) found))) in
-    let high_some = c.in_ok-stood-2.ensures.disjoint disjoint
+    let high_some = c.in_ok-stood-2.ensures.nested nested
     (some_first u c.args.problem.now.nodes c.args.far c.args.number c.args.found c.in-At.on.stand c.in-At.on.found low_at some)
     (subst (λ o. Any (IsFound (most_chosen u) (want_for o)) c.in-At.on.found) (sym (ap is_some c.key_at-2.ensures ∙ key_some High c.args.number))
     (chosen_first u c.args.problem.now.nodes c.args.far c.args.number c.args.found c.in-At.on.stand c.in-At.on.found low_at (is_some c.args.number) found)) in

@@ -9,10 +9,10 @@ returns-then-observed c =
     let u = setting_of c.args.problem.now in
     record {
       grounded = subst (λ observed. IfOk c.ground_most.result (IsGrounded u observed c.args.problem.now.nodes)) (sym c.if-observed.true) c.ground_most.ensures.grounded;
-      disjoint = λ disjoint.
+      nested = λ nested.
           subst (λ observed. IfOk c.ground_most.result (IsGroundedSurely u observed)) (sym c.if-observed.true)
-          (c.ground_most.ensures.disjoint disjoint
-          (listed_left u c.args.problem.now.nodes c.in_ok-relation.field-0.found c.in_ok-relation.field-0.relation c.in_ok-relation.ensures.settled.relation c.in_default.not-Impossible (c.in_ok-relation.ensures.disjoint disjoint)) tt);
+          (c.ground_most.ensures.nested nested
+          (listed_left u c.args.problem.now.nodes c.in_ok-relation.field-0.found c.in_ok-relation.field-0.relation c.in_ok-relation.ensures.settled.relation c.in_default.not-Impossible (c.in_ok-relation.ensures.nested nested)) tt);
     }
 
 pub returns : goal.returns
@@ -20,8 +20,8 @@ returns c =
     let u = setting_of c.args.problem.now in
     record {
       grounded = subst (λ observed. IfOk c.ground_unseen.result (IsGrounded u observed c.args.problem.now.nodes)) (sym c.if-observed.false) c.ground_unseen.ensures.grounded;
-      disjoint = λ disjoint.
+      nested = λ nested.
           subst (λ observed. IfOk c.ground_unseen.result (IsGroundedSurely u observed)) (sym c.if-observed.false)
-          (c.ground_unseen.ensures.disjoint disjoint
-          (listed_left u c.args.problem.now.nodes c.in_ok-relation.field-0.found c.in_ok-relation.field-0.relation c.in_ok-relation.ensures.settled.relation c.in_default.not-Impossible (c.in_ok-relation.ensures.disjoint disjoint)));
+          (c.ground_unseen.ensures.nested nested
+          (listed_left u c.args.problem.now.nodes c.in_ok-relation.field-0.found c.in_ok-relation.field-0.relation c.in_ok-relation.ensures.settled.relation c.in_default.not-Impossible (c.in_ok-relation.ensures.nested nested)));
     }

@@ -43,12 +43,12 @@ returns-clause-grounded c =
     most_probed u c.args.observed c.args.problem.now.nodes c.args.found c.in_ok-verdict.field-0 c.in_ok-most.most c.want_for-want.result c.in_ok-most.ensures.program c.want_for-want.ensures c.in_ok-verdict.ensures.probed in
     most_open u c.args.observed c.args.problem.now.nodes c.args.found c.requires.lawful c.requires.totals c.in_ok-verdict.field-0 probed c.args.lacking c.in-Open.is c.requires.some c.requires.lacking
 
-pub returns-clause-disjoint : goal.returns-clause-disjoint
-returns-clause-disjoint c = λ disjoint some lacks.
+pub returns-clause-nested : goal.returns-clause-nested
+returns-clause-nested c = λ nested some lacks.
     let u = setting_of c.args.problem.now in
     let probed =
     most_probed u c.args.observed c.args.problem.now.nodes c.args.found c.in_ok-verdict.field-0 c.in_ok-most.most c.want_for-want.result c.in_ok-most.ensures.program c.want_for-want.ensures c.in_ok-verdict.ensures.probed in
     let sure =
     most_sure u c.args.observed c.in_ok-verdict.field-0 c.in_ok-most.most c.want_for-want.result c.in_ok-most.ensures.program c.want_for-want.ensures
-    (c.in_ok-verdict.ensures.disjoint (c.in_ok-most.ensures.disjoint disjoint)) in
+    (c.in_ok-verdict.ensures.nested (c.in_ok-most.ensures.nested nested)) in
     most_surely u c.args.observed c.args.problem.now.nodes c.args.found c.requires.lawful c.requires.totals c.in_ok-verdict.field-0 probed c.args.lacking c.in-Open.is some lacks sure

@@ -52,12 +52,12 @@ ground_most-requires-clause-lacking c =
           (fewest_open u c.args.problem.now.nodes c.args.found c.in_ok-verdict.field-0 probed w.in-Open.is)
     ]
 
-pub returns-clause-disjoint : goal.returns-clause-disjoint
-returns-clause-disjoint c = λ disjoint some.
+pub returns-clause-nested : goal.returns-clause-nested
+returns-clause-nested c = λ nested some.
     let u = setting_of c.args.problem.now in
     let probed = subst (λ p. IsProbed p wants.Without c.args.problem.now.nodes c.args.found c.in_ok-verdict.field-0) c.in_ok-fewest.ensures.program c.in_ok-verdict.ensures.probed in
-    let sure = subst (λ p. IsSure p wants.Without c.in_ok-verdict.field-0) c.in_ok-fewest.ensures.program (c.in_ok-verdict.ensures.disjoint (c.in_ok-fewest.ensures.disjoint disjoint)) in
-    c.ground_most.ensures.disjoint disjoint (probed_some u (on_chosen minus_one) wants.Without c.args.problem.now.nodes c.args.found c.in_ok-verdict.field-0 probed some)
+    let sure = subst (λ p. IsSure p wants.Without c.in_ok-verdict.field-0) c.in_ok-fewest.ensures.program (c.in_ok-verdict.ensures.nested (c.in_ok-fewest.ensures.nested nested)) in
+    c.ground_most.ensures.nested nested (probed_some u (on_chosen minus_one) wants.Without c.args.problem.now.nodes c.args.found c.in_ok-verdict.field-0 probed some)
     (elim c.match-verdict.branch [
       | in-Short w ↦ subst (IsLackingSurely u c.in_ok-verdict.field-0.found) (sym w.lacking-is) tt
       | in-Open w ↦

@@ -24,9 +24,9 @@ returns-clause-small c =
     (at_small c.args.problem.now c.requires.posed c.args.ladder.now c.requires.keyed c.args.place)
     c.tested.ensures
 
-pub returns-clause-disjoint : goal.returns-clause-disjoint
-returns-clause-disjoint c =
-    λ disjoint.
+pub returns-clause-nested : goal.returns-clause-nested
+returns-clause-nested c =
+    λ nested.
     IfOk-weaker c.tested.result _ _
-    (λ p is. at_easy c.args.problem.now c.requires.posed c.args.ladder.now c.requires.keyed c.args.place p is disjoint)
+    (λ p is. at_easy c.args.problem.now c.requires.posed c.args.ladder.now c.requires.keyed c.args.place p is nested)
     c.tested.ensures

@@ -10,5 +10,5 @@ returns-then-are_open_totals-clause-settled c =
     open_totals (setting_of c.args.problem.now) c.args.problem.now.nodes c.args.low.now c.args.high.now
     c.undecided.result (program (pos 1)) (program (neg_ℤ (pos 1))) c.requires.low c.requires.high (c.if-are_open_totals.ensures refl) c.undecided.ensures
 
-pub returns-then-are_open_totals-clause-disjoint : goal.returns-then-are_open_totals-clause-disjoint
-returns-then-are_open_totals-clause-disjoint c disjoint = absurd (c.requires.closed disjoint (c.if-are_open_totals.ensures refl).none_low)
+pub returns-then-are_open_totals-clause-nested : goal.returns-then-are_open_totals-clause-nested
+returns-then-are_open_totals-clause-nested c nested = absurd (c.requires.closed nested (c.if-are_open_totals.ensures refl).none_low)

@@ -14,5 +14,5 @@ returns-clause-settled c =
     (settled_by_fewest (setting_of c.args.problem.now) c.args.problem.now.nodes c.in-Open.limit c.in_ok-fewest.fewest
     (rw c.in-Open.is at c.in_ok-settled.ensures.total) c.in_ok-fewest.ensures.total)
 
-pub returns-clause-disjoint : goal.returns-clause-disjoint
-returns-clause-disjoint c disjoint = absurd (rw c.in-Open.is at (c.in_ok-settled.ensures.disjoint disjoint))
+pub returns-clause-nested : goal.returns-clause-nested
+returns-clause-nested c nested = absurd (rw c.in-Open.is at (c.in_ok-settled.ensures.nested nested))

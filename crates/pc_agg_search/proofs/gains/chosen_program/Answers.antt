@@ -26,10 +26,10 @@ returns-clause-small c =
     (λ p is. chosen_small c.args.problem.now c.requires.posed c.args.gain p is c.requires.gain)
     (rw same at c.chosen_alone.ensures)
 
-pub returns-clause-disjoint : goal.returns-clause-disjoint
-returns-clause-disjoint c =
+pub returns-clause-nested : goal.returns-clause-nested
+returns-clause-nested c =
     let same : to_z w128 (of_z w128 c.args.gain) ≡ c.args.gain = omega (arith, ints) in
-    λ disjoint.
+    λ nested.
     IfOk-weaker c.chosen_alone.result _ _
-    (λ p is. chosen_easy c.args.problem.now c.requires.posed c.args.gain p is c.requires.gain disjoint)
+    (λ p is. chosen_easy c.args.problem.now c.requires.posed c.args.gain p is c.requires.gain nested)
     (rw same at c.chosen_alone.ensures)

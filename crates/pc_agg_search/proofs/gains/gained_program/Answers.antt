@@ -17,8 +17,8 @@ returns-clause-small c =
     (λ p is. gained_small c.args.problem.now c.requires.posed c.args.gains p is c.requires.sized c.requires.small_gains)
     (rw (← c.as_slice.ensures) c.program_of.ensures)
 
-pub returns-clause-disjoint : goal.returns-clause-disjoint
-returns-clause-disjoint c =
+pub returns-clause-nested : goal.returns-clause-nested
+returns-clause-nested c =
     λ easy.
     IfOk-weaker c.program_of.result _ _
     (λ p is. gained_easy c.args.problem.now c.requires.posed c.args.gains p is c.requires.sized c.requires.small_gains easy)

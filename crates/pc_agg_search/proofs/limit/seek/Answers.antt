@@ -9,7 +9,7 @@ solve-requires-clause-width c = HasFitWidth-small c.in_ok-program.program c.in_o
 pub returns-clause-sought : goal.returns-clause-sought
 returns-clause-sought c = subst (λ p. IsSought p c.args.problem.now.nodes c.sought_of.result) c.in_ok-program.ensures.program c.sought_of.ensures.sought
 
-pub returns-clause-disjoint : goal.returns-clause-disjoint
-returns-clause-disjoint c =
-    λ disjoint.
-    subst (λ p. IsClosed p c.sought_of.result) c.in_ok-program.ensures.program (c.sought_of.ensures.decided (c.in_ok-outcome.ensures.disjoint (c.in_ok-program.ensures.disjoint disjoint)))
+pub returns-clause-nested : goal.returns-clause-nested
+returns-clause-nested c =
+    λ nested.
+    subst (λ p. IsClosed p c.sought_of.result) c.in_ok-program.ensures.program (c.sought_of.ensures.decided (c.in_ok-outcome.ensures.nested (c.in_ok-program.ensures.nested nested)))

@@ -17,10 +17,10 @@ returns-in-Best-clause-probed c =
     (rw c.in-Best.is at c.in_ok-counts.ensures.outcome) is)
     (rw same at c.within.ensures)
 
-pub returns-in-Best-clause-disjoint : goal.returns-in-Best-clause-disjoint
-returns-in-Best-clause-disjoint c =
+pub returns-in-Best-clause-nested : goal.returns-in-Best-clause-nested
+returns-in-Best-clause-nested c =
     let same : to_z w128 (of_z w128 c.in-Best.value) ≡ c.in-Best.value = omega (arith, ints) in
-    λ disjoint.
+    λ nested.
     IfOk-weaker c.within.result _ _
     (λ probed is. sure_best c.args.program.now c.args.nodes c.args.want c.args.found c.requires.program c.requires.small c.in-Best.counts c.in-Best.value c.in-Best.tree probed
     (rw c.in-Best.is at c.in_ok-counts.ensures.outcome) is)

@@ -29,7 +29,7 @@ returns-clause-owes c = λ asking.
     c.args.nodes asking c.requires.average c.args.settled.now.relation c.args.settled.now.lack c.as_slice-found.result.now
     (subst (λ (found : List (List ℕ)). OwesSettled s c.args.nodes c.args.settled.now.relation c.args.settled.now.lack found) (sym c.as_slice-found.ensures) (c.requires.settled asking))
     (sym c.has_ends.ensures ∙ c.if-not-has_ends.false)
-    c.in_ok-answer.answer c.in_ok-low.low c.in_ok-high.high c.both.result c.in_ok-answer.ensures c.both.ensures c.in_ok-low.ensures.end c.in_ok-high.ensures.end c.in_ok-low.ensures.disjoint c.in_ok-high.ensures.disjoint
+    c.in_ok-answer.answer c.in_ok-low.low c.in_ok-high.high c.both.result c.in_ok-answer.ensures c.both.ensures c.in_ok-low.ensures.end c.in_ok-high.ensures.end c.in_ok-low.ensures.nested c.in_ok-high.ensures.nested
 
 pub returns-clause-short : goal.returns-clause-short
 returns-clause-short c =

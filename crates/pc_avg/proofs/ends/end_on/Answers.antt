@@ -21,8 +21,8 @@ returns-in_default-highest_of-clause-end c u seen is =
     let same : to_z w128 (of_z w128 c.in-Some.outermost) ≡ c.in-Some.outermost = omega (arith, ints) in
     unvalued_end u seen c.args.extreme c.args.side.now is c.args.nodes c.args.found.now c.in-Some.outermost c.in-Some.is c.end_by_values.result c.in_default-highest_of.ensures (rw same at c.end_by_values.ensures)
 
-pub returns-in_default-highest_of-clause-disjoint : goal.returns-in_default-highest_of-clause-disjoint
-returns-in_default-highest_of-clause-disjoint c u seen is one_bits =
+pub returns-in_default-highest_of-clause-nested : goal.returns-in_default-highest_of-clause-nested
+returns-in_default-highest_of-clause-nested c u seen is nested =
     let same : to_z w128 (of_z w128 c.in-Some.outermost) ≡ c.in-Some.outermost = omega (arith, ints) in
     unvalued_surely u seen c.args.extreme c.args.side.now is c.args.found.now c.in-Some.outermost c.end_by_values.result c.in_default-highest_of.ensures (rw same at c.end_by_values.ensures)
 
@@ -56,6 +56,6 @@ returns-clause-end c u seen is =
     sought_end u seen c.args.extreme c.args.side.now is c.args.nodes c.args.found.now c.in-Some.outermost c.in-Some.is c.in_ok-end.end c.in-Some-highest_of.place c.in_ok-highest.highest c.in-Some-highest_of.ensures
     (subst (λ counts. IsHighest c.args.side.now.fraction c.in-Some.outermost c.args.nodes (ratio_with c.args.side.now.fraction counts) c.in_ok-highest.highest) start at) (rw c.as_slice.ensures at c.in_ok-end.ensures)
 
-pub returns-clause-disjoint : goal.returns-clause-disjoint
-returns-clause-disjoint c u seen is one_bits =
-    sought_surely u seen c.args.extreme c.args.side.now is c.args.found.now c.in_ok-highest.highest c.in_ok-end.end (c.in_ok-highest.ensures.disjoint one_bits) (rw c.as_slice.ensures at c.in_ok-end.ensures)
+pub returns-clause-nested : goal.returns-clause-nested
+returns-clause-nested c u seen is nested =
+    sought_surely u seen c.args.extreme c.args.side.now is c.args.found.now c.in_ok-highest.highest c.in_ok-end.end (c.in_ok-highest.ensures.nested nested) (rw c.as_slice.ensures at c.in_ok-end.ensures)

@@ -8,6 +8,6 @@ end_on-requires-clause-side c =
 pub returns-clause-end : goal.returns-clause-end
 returns-clause-end c = c.end_on.ensures.end (setting_of c.args.problem.now) c.args.seen.now c.in_ok-side.ensures.side
 
-pub returns-clause-disjoint : goal.returns-clause-disjoint
-returns-clause-disjoint c disjoint =
-    c.end_on.ensures.disjoint (setting_of c.args.problem.now) c.args.seen.now c.in_ok-side.ensures.side (c.in_ok-side.ensures.disjoint disjoint)
+pub returns-clause-nested : goal.returns-clause-nested
+returns-clause-nested c nested =
+    c.end_on.ensures.nested (setting_of c.args.problem.now) c.args.seen.now c.in_ok-side.ensures.side (c.in_ok-side.ensures.nested nested)

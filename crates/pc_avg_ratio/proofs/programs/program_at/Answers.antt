@@ -19,8 +19,8 @@ returns-clause-small c =
     subst HasSmallGains (sym (returns-clause-program c))
     (program_small c.args.f.now c.requires.fractional (ratio_of c.args.ratio) c.requires.positive c.requires.small_den c.requires.small_num)
 
-pub returns-clause-disjoint : goal.returns-clause-disjoint
-returns-clause-disjoint c =
-    λ bits.
+pub returns-clause-nested : goal.returns-clause-nested
+returns-clause-nested c =
+    λ easy.
     subst IsEasyProgram (sym (returns-clause-program c))
-    (program_easy c.args.f.now c.requires.fractional (ratio_of c.args.ratio) c.requires.positive c.requires.small_den c.requires.small_num bits)
+    (program_easy c.args.f.now c.requires.fractional (ratio_of c.args.ratio) c.requires.positive c.requires.small_den c.requires.small_num easy)

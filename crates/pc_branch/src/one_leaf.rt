@@ -1,25 +1,23 @@
 ghost use Rattle.std.specs.Prelude.{◌≡◌, ◌≤◌, ◌∷◌, [], IfOk};
-ghost use Rattle.pc_program_bound.specs.Allocation.{IsProgram};
-ghost use Rattle.pc_program.specs.Settled.{HasOneBits};
+ghost use Rattle.pc_program_bound.specs.declared.program.Program.{Program};
+ghost use Rattle.pc_program.specs.Solved.{IsSolved, AreFitMultipliers};
 ghost use Rattle.pc_branch.specs.Outcome.{IsOutcome, IsDecided};
 
 use crate::outcome::Outcome;
 use pc_list::Seq;
 use pc_model::{Tree, TreeNode};
 use pc_num::Memory;
-use pc_program::{Solved, greedy};
-use pc_program_bound::Program;
+use pc_program::Solved;
 use std::alloc::Global;
 
-/// The answer for constraints that share no cell, with a tree of one leaf, whatever the number of nodes.
-pub(crate) fn greedily(alloc: Global, p: &Program, nodes: u32) -> Result<Outcome, Memory>
-    requires program { IsProgram p.now }
-    requires one_bits { HasOneBits p.now }
+/// The outcome for a program that is solved without a search: a tree of one leaf, whatever the number of nodes.
+pub(crate) fn in_one_leaf(alloc: Global, solved: Solved, nodes: u32) -> Result<Outcome, Memory>
     requires nodes { 1 ≤ nodes }
-    ensures outcome { IfOk result (IsOutcome p.now nodes) }
+    requires fits { AreFitMultipliers solved }
+    ensures outcome { (p : Program) → IsSolved p solved → IfOk result (IsOutcome p nodes) }
     ensures decided { IfOk result IsDecided }
 {
-    match greedy(alloc, p)? {
+    match solved {
         Solved::Best {
             counts,
             value,
