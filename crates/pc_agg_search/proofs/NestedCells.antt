@@ -1,5 +1,5 @@
 -- Cells of nested constraints: their programs are nested, and they are few.
-use Rattle.std.proofs.Common.{◌≡◌, ℕ, ◌<◌, ◌≤◌, ◌==◌, Bool, true, false, true≢false, List, length, map, get_or, All, AllPairs, count_by, inl, inr, refl, sym, ap, ap₂, ◌∙◌, arith}
+use Rattle.std.proofs.Common.{◌≡◌, ℕ, ◌*◌, ◌<◌, ◌≤◌, Bool, true, false, true≢false, List, length, map, get_or, All, AllPairs, count_by, inl, inr, refl, sym, ap, ap₂, ◌∙◌, arith}
 use Rattle.std.specs.Prelude.{ℤ}
 use Rattle.std.proofs.lemmas.Bool.{cases_eq, cases_lt}
 use Rattle.std.proofs.lemmas.List.{length-map, get_or_default}
@@ -51,7 +51,7 @@ module _ (schema : Schema) (constraints : List Constraint) (chosen : Area) (clas
   limits : constraints_of program ≡ length constraints
   limits = length-map constraints (λ (c : Constraint). c.least)
 
-  row_at : (i : ℕ) → i < length classes → Row
+  abbrev row_at : (i : ℕ) → i < length classes → Row
   row_at i h = (rows i no_class h).0
 
   row_mask : (i : ℕ) (h : i < length classes) → mask_of constraints (row_at i h) ≡ (class_at i).mask
@@ -126,5 +126,3 @@ module _ (schema : Schema) (constraints : List Constraint) (chosen : Area) (clas
 
   pub few : cells_of program ≤ 2 * length constraints
   few = let all = few_cells program (λ i. (class_at i).chosen) nested_pairs covered differ_on_sides in omega (arith, all, limits)
-
-pub ruleset disjoint = (nested-from_disjoint)

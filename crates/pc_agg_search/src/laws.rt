@@ -22,7 +22,6 @@ pub fn fitting_answers_are_formed()
 {}
 
 /// Constraints of which no two speak of one row leave nothing open.
-#[tactic(auto, using(crate::proofs::NestedCells::disjoint))]
 pub fn disjoint_constraints_are_easy()
     ensures { (schema : Schema) (constraints : List Constraint) → AreDisjoint schema constraints → IsEasy schema constraints }
 {}
