@@ -155,13 +155,16 @@ pub ruleset cuts = (as_long, along, passed, all_passed)
 
 -- ---- the best of the cuts so far
 
-module _ (P : Candidate → Type 0) where
-  pub best_more : (before : Option Candidate) (after other : Candidate) (A : Type 0) → MatchOption before A P → P other → MatchOption before (after ≡ other) (λ best. (after ≡ best) ⊎ (after ≡ other)) → P after
-  best_more None after other A says new e = subst P (sym e) new
-  best_more (Some best) after other A says new (inl e) = subst P (sym e) says
-  best_more (Some best) after other A says new (inr e) = subst P (sym e) new
+module _ (P : Cut → Type 0) where
+  abbrev HasSuch : Option Candidate → Type 0 → Type 0
+  HasSuch best A = MatchOption best A (λ (candidate : Candidate). P candidate.cut)
 
-  pub best_same : (before : Option Candidate) (A B : Type 0) → MatchOption before A P → (A → B) → MatchOption before B P
+  pub best_more : (before : Option Candidate) (after : Candidate) (cut : Cut) (A : Type 0) → HasSuch before A → P cut → MatchOption before (after.cut ≡ cut) (λ best. (after.cut ≡ best.cut) ⊎ (after.cut ≡ cut)) → P after.cut
+  best_more None after cut A says new e = subst P (sym e) new
+  best_more (Some best) after cut A says new (inl e) = subst P (sym e) says
+  best_more (Some best) after cut A says new (inr e) = subst P (sym e) new
+
+  pub best_same : (before : Option Candidate) (A B : Type 0) → HasSuch before A → (A → B) → HasSuch before B
   best_same None A B says more = more says
   best_same (Some best) A B says more = says
 

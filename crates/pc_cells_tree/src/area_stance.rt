@@ -17,6 +17,7 @@ pub(crate) enum AreaStance {
 impl AreaStance {
     // With a box before the others that is crossed: of the crossed ones the one with the fewest open faces, the
     // first of equals.
+    #[inline(always)]
     fn with_box(self, place: usize, faces: u32) -> AreaStance
         ensures { IsWithBox place faces self result }
     {
@@ -28,6 +29,7 @@ impl AreaStance {
     }
 }
 
+#[inline(always)]
 #[tactic(auto, using(crate::proofs::AreaStances::whole))]
 pub(crate) fn compare_area(part: &Region, area: &Area) -> AreaStance
     requires alike { IsAlikeToArea part.now area.now }
@@ -37,8 +39,23 @@ pub(crate) fn compare_area(part: &Region, area: &Area) -> AreaStance
     compare_boxes(part, area.boxes.as_slice())
 }
 
+// Most areas have one box, which is compared in place.
+#[inline(always)]
 #[tactic(auto, using(crate::proofs::AreaStances::rounds))]
 fn compare_boxes(part: &Region, boxes: &[Region]) -> AreaStance
+    requires alike { All (AreAlike part.now) boxes.now }
+    requires few { length part.now.sides ≤ column_limit }
+    ensures { IsStanceFrom part.now boxes.now 0 result }
+{
+    if boxes.len() == 1 {
+        return compare_from(part, boxes, 0, AreaStance::Apart);
+    }
+    compare_each(part, boxes)
+}
+
+#[inline(never)]
+#[tactic(auto, using(crate::proofs::AreaStances::rounds))]
+fn compare_each(part: &Region, boxes: &[Region]) -> AreaStance
     requires alike { All (AreAlike part.now) boxes.now }
     requires few { length part.now.sides ≤ column_limit }
     ensures { IsStanceFrom part.now boxes.now 0 result }
@@ -51,6 +68,7 @@ fn compare_boxes(part: &Region, boxes: &[Region]) -> AreaStance
 }
 
 // How it stands to the boxes from this place on, where it is known how to the later ones.
+#[inline(always)]
 #[tactic(auto, using(crate::proofs::AreaStances::steps))]
 fn compare_from(part: &Region, boxes: &[Region], place: usize, later: AreaStance) -> AreaStance
     requires alike { All (AreAlike part.now) boxes.now }

@@ -6,11 +6,11 @@ ghost use Rattle.pc_cells_tree.specs.Stances.{column_limit, span_cut, set_cut, s
 use pc_box::apart;
 use pc_model::{Constraint, Cut, Region, Side, When};
 
-/// A cut, and through how many predicates it passes.
+/// A cut, and through how many predicates it passes, once it was counted.
 #[derive(Clone, Copy, Debug, PartialEq, Eq)]
 struct Candidate {
     cut: Cut,
-    passed: usize,
+    passed: Option<usize>,
 }
 
 /// A cut through a region that a box crosses: of one for each column, the first of those that pass through the
@@ -41,20 +41,47 @@ fn cut_along(part: &Region, region: &Region, constraints: &[Constraint]) -> Opti
     let mut best = None;
     for (place, side) in sides.iter().enumerate() {
         if let Some(cut) = side_cut(place as u8, side, &others[place]) {
-            let passed = passed_by(part, constraints, &cut);
-            best = Some(fewer(best, Candidate { cut, passed }));
+            best = Some(fewer(part, constraints, best, cut));
         }
     }
     best
 }
 
-// The best so far, or another that passes through fewer.
-fn fewer(best: Option<Candidate>, other: Candidate) -> Candidate
-    ensures { MatchOption best (result ≡ other) (λ before. (result ≡ before) ⊎ (result ≡ other)) }
+// The best so far, or another that passes through fewer. The first one is not counted before there is another.
+fn fewer(part: &Region, constraints: &[Constraint], best: Option<Candidate>, cut: Cut) -> Candidate
+    requires { All (IsAlikeTo part.now) constraints.now }
+    ensures { MatchOption best (result.cut ≡ cut) (λ before. (result.cut ≡ before.cut) ⊎ (result.cut ≡ cut)) }
 {
     match best {
-        Some(best) if best.passed <= other.passed => best,
-        _ => other,
+        None => Candidate { cut, passed: None },
+        Some(best) => fewer_of(part, constraints, best, cut),
+    }
+}
+
+fn fewer_of(part: &Region, constraints: &[Constraint], best: Candidate, cut: Cut) -> Candidate
+    requires { All (IsAlikeTo part.now) constraints.now }
+    ensures { (result.cut ≡ best.cut) ⊎ (result.cut ≡ cut) }
+{
+    let fewest = passed_by_best(part, constraints, &best);
+    let passed = passed_by(part, constraints, &cut);
+    if fewest <= passed {
+        return Candidate {
+            cut: best.cut,
+            passed: Some(fewest),
+        };
+    }
+    Candidate {
+        cut,
+        passed: Some(passed),
+    }
+}
+
+fn passed_by_best(part: &Region, constraints: &[Constraint], best: &Candidate) -> usize
+    requires { All (IsAlikeTo part.now) constraints.now }
+{
+    match best.passed {
+        Some(passed) => passed,
+        None => passed_by(part, constraints, &best.cut),
     }
 }
 
@@ -72,6 +99,7 @@ fn passed_by(part: &Region, constraints: &[Constraint], cut: &Cut) -> usize
 }
 
 // What is outside has no box of its own, and the areas that bound it are counted.
+#[inline(always)]
 fn passes(part: &Region, when: &When, cut: &Cut) -> bool
     requires { IsAlikeToWhen part.now when.now }
 {
@@ -92,6 +120,7 @@ fn passes_some(part: &Region, boxes: &[Region], cut: &Cut) -> bool
     false
 }
 
+#[inline(always)]
 fn is_split(part: &Region, region: &Region, cut: &Cut) -> bool {
     match *cut {
         Cut::At { column, at } => match region.sides.as_slice().get(column as usize) {

@@ -29,6 +29,7 @@ pub(crate) enum Finding {
 
 impl Finding {
     /// With a constraint before the others that speaks of all rows or of none.
+    #[inline(always)]
     fn with_bit(self, bit: bool) -> Finding
         requires { HasShortMask self }
         ensures { result ≡ with_bit bit self }
@@ -42,6 +43,7 @@ impl Finding {
     }
 
     /// With one before them that is crossed.
+    #[inline(always)]
     fn with_crossing(self, crossing: Crossing) -> Finding
         ensures { IsWithCrossing crossing self result }
     {
@@ -76,6 +78,7 @@ pub(crate) fn decide(part: &Region, constraints: &[Constraint], chosen: &Area) -
 }
 
 // Of a box of which each constraint speaks of all rows or of none: whether its rows are chosen, or how to cut it.
+#[inline(always)]
 #[tactic(auto, using(crate::proofs::Decisions::sides))]
 fn decide_side(part: &Region, constraints: &[Constraint], chosen: &Area, mask: u32) -> Decision
     requires comparable { IsComparable constraints.now chosen.now part.now }
@@ -97,6 +100,7 @@ fn decide_side(part: &Region, constraints: &[Constraint], chosen: &Area, mask: u
 }
 
 // The box of the area that is crossed, or the values.
+#[inline(always)]
 #[tactic(auto, using(crate::proofs::Decisions::regions))]
 fn crossed_region(constraints: &[Constraint], crossing: Crossing) -> &Region
     requires there { crossing.place < length constraints.now }
@@ -120,6 +124,7 @@ fn box_of(when: &When, place: usize) -> &Region
     }
 }
 
+#[inline(always)]
 #[tactic(auto, using(crate::proofs::Decisions::rounds))]
 pub(crate) fn find(part: &Region, constraints: &[Constraint]) -> Finding
     requires few { length constraints.now ≤ constraint_limit }
@@ -135,6 +140,7 @@ pub(crate) fn find(part: &Region, constraints: &[Constraint]) -> Finding
 }
 
 // What the constraints from this place on say, where it is known what the later ones do.
+#[inline(always)]
 #[tactic(auto, using(crate::proofs::Decisions::steps))]
 fn find_from(part: &Region, constraints: &[Constraint], place: usize, later: Finding) -> Finding
     requires few { length constraints.now ≤ constraint_limit }

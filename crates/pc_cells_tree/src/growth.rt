@@ -13,6 +13,7 @@ pub struct Growth {
 }
 
 impl Growth {
+    #[inline(always)]
     pub(crate) fn with_leaf(mut self, region: Region, mark: LeafMark) -> Result<Growth, Memory>
         ensures { IfOk result (λ more. more ≡ with_leaf self region mark) }
     {
@@ -22,6 +23,7 @@ impl Growth {
     }
 
     // With a place kept for a node whose parts are still to be grown.
+    #[inline(always)]
     pub(crate) fn with_place(mut self) -> Result<Growth, Memory>
         ensures { IfOk result (λ more. more ≡ with_place self) }
     {
@@ -31,6 +33,7 @@ impl Growth {
     }
 
     // With a cut in a kept place: its first part stands behind it, and its second comes next.
+    #[inline(always)]
     pub(crate) fn with_inner(self, place: usize, cut: Cut) -> Result<Growth, Memory>
         requires there { place < length self.nodes }
         ensures { IfOk result (λ more. more ≡ with_inner self place cut) }
@@ -48,6 +51,7 @@ impl Growth {
 }
 
 // A count as the number of a node; a list with more nodes than numbers would want too much memory.
+#[inline(always)]
 pub(crate) fn number(count: usize) -> Result<u32, Memory>
     ensures same { IfOk result (λ number. number ≡ count) }
     ensures small { OnOk result (count < 2 ^ 32) }

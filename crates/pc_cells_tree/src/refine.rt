@@ -135,6 +135,7 @@ fn settled(
     Ok(boxed)
 }
 
+#[inline(always)]
 fn settled_at(
     alloc: Global,
     constraints: &[Constraint],
@@ -158,6 +159,7 @@ fn settled_at(
     }
 }
 
+#[inline(always)]
 fn is_leaf(node: &CutNode) -> bool
     ensures { result ≡ is_leaf_node node.now }
 {
@@ -169,6 +171,7 @@ fn is_leaf(node: &CutNode) -> bool
 
 impl Boxed {
     // With a cut at a leaf, whose two parts are leaves at the end.
+    #[inline(always)]
     fn with_cut(self, alloc: Global, place: usize, at: Cut) -> Result<Boxed, Memory>
         requires there { place < length self.nodes }
         requires long { length self.boxes ≡ length self.nodes }
@@ -184,6 +187,7 @@ impl Boxed {
     }
 }
 
+#[inline(always)]
 fn boxes_cut(
     alloc: Global,
     mut boxes: Seq<Region>,
@@ -201,6 +205,7 @@ fn boxes_cut(
     Ok(boxes)
 }
 
+#[inline(always)]
 fn nodes_cut(nodes: Seq<CutNode>, place: usize, cut: Cut) -> Result<Seq<CutNode>, Memory>
     requires there { place < length nodes }
     ensures { IfOk result (λ after. after ≡ nodes_cut nodes place cut) }

@@ -14,6 +14,7 @@ pub(crate) enum Stance {
     Across { faces: u32 },
 }
 
+#[inline(always)]
 #[tactic(auto, using(crate::proofs::Stances::steps))]
 pub(crate) fn compare(part: &Region, region: &Region) -> Stance
     requires alike { AreAlike part.now region.now }
@@ -30,6 +31,7 @@ pub(crate) fn compare(part: &Region, region: &Region) -> Stance
 }
 
 /// Along how many of its ends and sets a box reaches beyond a region.
+#[inline(always)]
 #[tactic(auto, using(crate::proofs::Stances::counting))]
 fn open_faces(part: &Region, region: &Region) -> u32
     requires alike { AreAlike part.now region.now }
@@ -45,6 +47,7 @@ fn open_faces(part: &Region, region: &Region) -> u32
     faces
 }
 
+#[inline(always)]
 #[tactic(auto, unfolding(crate::specs::Stances::side_faces))]
 fn side_faces(side: &Side, other: &Side) -> u32
     ensures { result ≡ side_faces side.now other.now }

@@ -11,9 +11,9 @@ use pc_model::{Constraint, Region, When};
 #[derive(Clone, Copy, Debug, PartialEq, Eq)]
 pub(crate) struct Crossing {
     pub place: usize,
-    pub within: bool,
     pub box_place: usize,
     pub faces: u32,
+    pub within: bool,
 }
 
 /// Whether a constraint speaks of all rows of a box or of none; else an area that is crossed, its own or, where it is
@@ -27,6 +27,7 @@ pub(crate) enum Standing {
 
 impl Standing {
     // With an area before the others that is crossed.
+    #[inline(always)]
     fn with_area(self, crossing: Crossing) -> Standing
         ensures { IsWithArea crossing self result }
     {
@@ -40,6 +41,7 @@ impl Standing {
 
 /// Which of two crossings is cut along. Values come before areas, since their outer part is settled at once; then the
 /// one with fewer open faces.
+#[inline(always)]
 pub(crate) fn is_before(one: Crossing, other: Crossing) -> bool {
     if one.within != other.within {
         return one.within;
@@ -47,6 +49,7 @@ pub(crate) fn is_before(one: Crossing, other: Crossing) -> bool {
     one.faces < other.faces
 }
 
+#[inline(always)]
 #[tactic(auto, using(crate::proofs::Standings::one))]
 pub(crate) fn stand(part: &Region, constraints: &[Constraint], place: usize) -> Standing
     requires few { length part.now.sides ≤ column_limit }
@@ -73,6 +76,7 @@ pub(crate) fn stand(part: &Region, constraints: &[Constraint], place: usize) -> 
 }
 
 // What is outside holds a box that is apart from every area, and none of one that some area holds.
+#[inline(never)]
 #[tactic(auto, using(crate::proofs::Standings::rounds))]
 fn stand_outside(part: &Region, constraints: &[Constraint]) -> Standing
     requires few { length part.now.sides ≤ column_limit }
@@ -86,6 +90,7 @@ fn stand_outside(part: &Region, constraints: &[Constraint]) -> Standing
     standing
 }
 
+#[inline(always)]
 #[tactic(auto, using(crate::proofs::Standings::steps))]
 fn stand_outside_from(
     part: &Region,

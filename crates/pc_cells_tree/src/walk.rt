@@ -83,6 +83,7 @@ fn walked(
     Ok(walk.growth)
 }
 
+#[inline(always)]
 fn stepped(
     alloc: Global,
     constraints: &[Constraint],
@@ -107,6 +108,7 @@ fn stepped(
     }
 }
 
+#[inline(always)]
 fn visited(
     alloc: Global,
     constraints: &[Constraint],
@@ -133,6 +135,7 @@ fn visited(
     }
 }
 
+#[inline(always)]
 fn mark_of(part: &Region, constraints: &[Constraint], chosen: &Area) -> LeafMark
     requires few { length constraints.now ≤ constraint_limit }
     requires comparable { IsComparable constraints.now chosen.now part.now }
@@ -146,6 +149,7 @@ fn mark_of(part: &Region, constraints: &[Constraint], chosen: &Area) -> LeafMark
 }
 
 // A place is kept for the cut, which is set into it once its first part stands; the second part comes after that.
+#[inline(always)]
 fn opened(
     alloc: Global,
     walk: Walk,
