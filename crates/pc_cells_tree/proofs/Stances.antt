@@ -1,8 +1,8 @@
 -- Open faces of a box, and the cuts along them.
-use Rattle.std.proofs.Common.{◌≡◌, ℕ, ◌+◌, ◌*◌, ◌<◌, ◌≤◌, ◌==◌, ◌&&◌, cond, int_le, int_lt, Bool, true, false, List, [], ◌∷◌, length, get_or, drop, refl, sym, ◌∙◌, ap, true≢false, arith, add-one, drop-cons}
+use Rattle.std.proofs.Common.{◌≡◌, ℕ, ◌+◌, ◌*◌, ◌<◌, ◌≤◌, ◌==◌, ◌&&◌, cond, if◌then◌else◌, int_le, int_lt, Bool, true, false, List, [], ◌∷◌, length, get_or, drop, refl, sym, ◌∙◌, ap, subst, Option, Some, None, true≢false, arith, add-one, drop-cons}
 use Rattle.std.specs.Cmp.Lexicographic.{pointwise}
 use Rattle.std.proofs.lemmas.Int.{ints}
-use Rattle.std.proofs.lemmas.Bool.{and_parts, and_from}
+use Rattle.std.proofs.lemmas.Bool.{and_parts, and_from, eqb-true, eqb-false}
 use Rattle.std.proofs.lemmas.List.{drop_all}
 use Rattle.pc_model.specs.declared.region.Side.{Side}
 use Rattle.pc_model.specs.declared.region.Side.TheVariants.{Span, Names}
@@ -10,11 +10,14 @@ use Rattle.pc_model.specs.declared.region.Region.{Region}
 use Rattle.pc_model.specs.CutTrees.{IsInside}
 use Rattle.pc_model.specs.Places.{places_outside}
 use Rattle.pc_model.proofs.Between.{le_from_test, test_from_le}
+use Rattle.pc_model.proofs.Pairs.{pointwise-drop, pointwise_end}
 use Rattle.pc_box.specs.Boxes.{are_like, AreAlike}
-use Rattle.pc_box.specs.Sides.{is_within, region_within}
+use Rattle.pc_box.specs.Sides.{sides_meet, regions_meet, is_within, region_within}
 use Rattle.pc_box.proofs.Likeness.{are_all_like, as_many_sides}
-use Rattle.pc_box.proofs.Rows.{inside_means}
-use Rattle.pc_cells_tree.specs.Stances.{column_limit, side_faces, faces_of, open_faces}
+use Rattle.pc_box.proofs.Rows.{apart_from_test, test_from_apart, inside_means}
+use Rattle.pc_cells_tree.specs.declared.stance.Stance.{Stance}
+use Rattle.pc_cells_tree.specs.declared.stance.Stance.TheVariants.{Inside, Apart, Across}
+use Rattle.pc_cells_tree.specs.Stances.{column_limit, side_faces, faces_of, open_faces, stance_of, HasMet, IsAcross, IsStance}
 
 -- ---- one side
 
@@ -91,7 +94,7 @@ faces_few (x ∷ xs) (y ∷ ys) = omega (arith, few_faces x y, faces_few xs ys)
 
 -- ---- boxes
 
-pub inside-from_faces : (a b : Region) → AreAlike a b → open_faces a b ≡ 0 → IsInside a b
+inside-from_faces : (a b : Region) → AreAlike a b → open_faces a b ≡ 0 → IsInside a b
 unfolding region_within
 inside-from_faces a b alike none = (inside_means a b true alike (sym (all_within a.sides b.sides alike none))).0 refl
 
@@ -99,10 +102,25 @@ pub faces-from_inside : (a b : Region) → AreAlike a b → IsInside a b → ope
 unfolding region_within
 faces-from_inside a b alike inside = all_unopened a.sides b.sides ((inside_means a b (pointwise is_within a.sides b.sides) alike refl).1 inside)
 
-pub not_inside : (a b : Region) (faces : ℕ) → AreAlike a b → faces ≡ open_faces a b → (faces ≡ 0 → ⊥) → IsInside a b → ⊥
+not_inside : (a b : Region) (faces : ℕ) → AreAlike a b → faces ≡ open_faces a b → (faces ≡ 0 → ⊥) → IsInside a b → ⊥
 not_inside a b faces alike e some inside = some (e ∙ faces-from_inside a b alike inside)
 
-pub ruleset steps = (inside-from_faces, not_inside)
+by_faces : (a b : Region) (faces : ℕ) (test : Bool) → AreAlike a b → regions_meet a b ≡ true → faces ≡ open_faces a b → (faces == 0) ≡ test → IsStance a b (if test then Inside else Across faces)
+by_faces a b faces true alike meet e f = inside-from_faces a b alike (sym e ∙ eqb-true faces 0 f)
+by_faces a b faces false alike meet e f = record {
+  not_inside = not_inside a b faces alike e (eqb-false faces 0 f);
+  not_apart = λ apart. true≢false (sym meet ∙ test_from_apart a b alike apart);
+}
+
+pub met-none : (a b : Region) (found : Option ℕ) → AreAlike a b → HasMet a b found → found ≡ None → IsStance a b Apart
+met-none a b found alike says e = apart_from_test a b alike (subst (HasMet a b) e says)
+
+pub met-some : (a b : Region) (found : Option ℕ) (faces : ℕ) (stance : Stance) → AreAlike a b → HasMet a b found → found ≡ Some faces → stance ≡ stance_of faces → IsStance a b stance
+met-some a b found faces stance alike says e is =
+    let met : HasMet a b (Some faces) = subst (HasMet a b) e says in
+    subst (IsStance a b) (sym is) (by_faces a b faces (faces == 0) alike met.0 met.1 refl)
+
+pub ruleset steps = (met-none, met-some)
 
 -- ---- counting
 
@@ -122,4 +140,18 @@ module _ (part region : Region) (xs ys : List Side) (is_xs : xs ≡ part.sides) 
   pub faces_fit : length part.sides ≤ column_limit → faces_of xs ys ≤ 24
   faces_fit few = omega (arith, faces_few xs ys, few, ap length is_xs)
 
-pub ruleset counting = (as_long, faces_more, faces_end, faces_whole, faces_fit)
+  -- as far as the sides meet
+  pub met_more : (place : ℕ) (d e : Side) → place < length xs → sides_meet (get_or xs place d) (get_or ys place e) ≡ true →
+      pointwise sides_meet (drop place xs) (drop place ys) ≡ pointwise sides_meet (drop (place + 1) xs) (drop (place + 1) ys)
+  met_more place d e inside meet = rw (pointwise-drop sides_meet xs ys place d e inside (omega (arith, inside, as_long)), meet) refl
+
+  pub met_stop : (place : ℕ) (d e : Side) → place < length xs → pointwise sides_meet xs ys ≡ pointwise sides_meet (drop place xs) (drop place ys) →
+      sides_meet (get_or xs place d) (get_or ys place e) ≡ false → regions_meet part region ≡ false
+  unfolding regions_meet
+  met_stop place d e inside so_far apart = rw (sym is_xs, sym is_ys, so_far, pointwise-drop sides_meet xs ys place d e inside (omega (arith, inside, as_long)), apart) refl
+
+  pub met_end : (place : ℕ) → length xs ≤ place → pointwise sides_meet xs ys ≡ pointwise sides_meet (drop place xs) (drop place ys) → regions_meet part region ≡ true
+  unfolding regions_meet
+  met_end place past so_far = rw (sym is_xs, sym is_ys, so_far) (pointwise_end sides_meet xs ys place past (omega (arith, past, as_long)))
+
+pub ruleset counting = (as_long, faces_more, faces_end, faces_whole, faces_fit, met_more, met_stop, met_end)

@@ -1,5 +1,5 @@
 -- How a box stands to a region and to an area, its open faces, and the cuts along them.
-use Rattle.std.specs.Prelude.{◌≡◌, ℕ, ◌+◌, ◌<◌, ℤ, pos, ◌-ℤ◌, int_lt, ◌==◌, cond, if◌then◌else◌, true, List, [], ◌∷◌, length, drop, slice_index_or, All, Any, ◌⊎◌, Option, Some, None, MatchOption}
+use Rattle.std.specs.Prelude.{◌≡◌, ℕ, ◌+◌, ◌<◌, ℤ, pos, ◌-ℤ◌, int_lt, ◌==◌, cond, if◌then◌else◌, true, false, List, [], ◌∷◌, length, drop, slice_index_or, All, Any, ◌⊎◌, Option, Some, None, MatchOption}
 use Rattle.pc_model.specs.declared.region.Side.{Side}
 use Rattle.pc_model.specs.declared.region.Side.TheVariants.{Span, Names}
 use Rattle.pc_model.specs.declared.region.Region.{Region}
@@ -8,7 +8,7 @@ use Rattle.pc_model.specs.declared.tree.Cut.{Cut}
 use Rattle.pc_model.specs.declared.tree.Cut.TheVariants.{At, Among}
 use Rattle.pc_model.specs.CutTrees.{IsInside, IsApart, IsInsideArea, IsApartFromArea, side_at}
 use Rattle.pc_model.specs.Places.{places_outside}
-use Rattle.pc_box.specs.Sides.{region_within}
+use Rattle.pc_box.specs.Sides.{regions_meet, region_within}
 use Rattle.pc_cells_tree.specs.declared.choice.Candidate.{Candidate}
 use Rattle.pc_cells_tree.specs.declared.stance.Stance.{Stance}
 use Rattle.pc_cells_tree.specs.declared.stance.Stance.TheVariants.{Inside, Apart, Across}
@@ -78,6 +78,15 @@ abbrev pub IsStance : Region → Region → Stance → Type 0
 IsStance part region Inside = IsInside part region
 IsStance part region Apart = IsApart part region
 IsStance part region (Across faces) = IsAcross part region
+
+-- how a box that meets the region stands, by its open faces
+abbrev pub stance_of : ℕ → Stance
+stance_of faces = if faces == 0 then Inside else Across faces
+
+-- the open faces of a box that meets the region
+abbrev pub HasMet : Region → Region → Option ℕ → Type 0
+HasMet part region None = regions_meet part region ≡ false
+HasMet part region (Some faces) = (regions_meet part region ≡ true) × (faces ≡ open_faces part region)
 
 -- ---- a box and an area
 

@@ -63,7 +63,7 @@ fn fewer_of(part: &Region, constraints: &[Constraint], best: Candidate, cut: Cut
     ensures { (result.cut ≡ best.cut) ⊎ (result.cut ≡ cut) }
 {
     let fewest = passed_by_best(part, constraints, &best);
-    let passed = passed_by(part, constraints, &cut);
+    let passed = passed_by(part, constraints, &cut, fewest);
     if fewest <= passed {
         return Candidate {
             cut: best.cut,
@@ -81,16 +81,20 @@ fn passed_by_best(part: &Region, constraints: &[Constraint], best: &Candidate) -
 {
     match best.passed {
         Some(passed) => passed,
-        None => passed_by(part, constraints, &best.cut),
+        None => passed_by(part, constraints, &best.cut, constraints.len()),
     }
 }
 
-/// How many predicates have rows of the box on either hand of the cut, as far as its column tells.
-fn passed_by(part: &Region, constraints: &[Constraint], cut: &Cut) -> usize
+/// How many predicates have rows of the box on either hand of the cut, as far as its column tells; no more are
+/// counted than the most that is asked for.
+fn passed_by(part: &Region, constraints: &[Constraint], cut: &Cut, most: usize) -> usize
     requires alike { All (IsAlikeTo part.now) constraints.now }
 {
     let mut passed = 0;
     for constraint in constraints {
+        if most <= passed {
+            return passed;
+        }
         if passes(part, &constraint.when, cut) {
             passed += 1;
         }

@@ -1,8 +1,8 @@
 ghost use Rattle.std.specs.Prelude.{◌≡◌, ◌≤◌, length};
 ghost use Rattle.pc_box.specs.Boxes.{AreAlike};
-ghost use Rattle.pc_cells_tree.specs.Stances.{column_limit, side_faces, open_faces, IsStance};
+ghost use Rattle.pc_box.specs.Sides.{sides_meet};
+ghost use Rattle.pc_cells_tree.specs.Stances.{column_limit, side_faces, stance_of, HasMet, IsStance};
 
-use pc_box::apart;
 use pc_model::{Region, Side};
 
 /// How a box stands to a region: its rows are all in it, or none is, or it reaches beyond the region along so
@@ -21,30 +21,47 @@ pub(crate) fn compare(part: &Region, region: &Region) -> Stance
     requires few { length part.now.sides ≤ column_limit }
     ensures { IsStance part.now region.now result }
 {
-    if apart(part, region) {
-        return Stance::Apart;
-    }
-    match open_faces(part, region) {
-        0 => Stance::Inside,
-        faces => Stance::Across { faces },
+    match met_faces(part, region) {
+        None => Stance::Apart,
+        Some(faces) => stance_of(faces),
     }
 }
 
-/// Along how many of its ends and sets a box reaches beyond a region.
+#[inline(always)]
+fn stance_of(faces: u32) -> Stance
+    ensures { result ≡ stance_of faces }
+{
+    if faces == 0 {
+        return Stance::Inside;
+    }
+    Stance::Across { faces }
+}
+
+/// Along how many of its ends and sets a box reaches beyond a region that it meets.
 #[inline(always)]
 #[tactic(auto, using(crate::proofs::Stances::counting))]
-fn open_faces(part: &Region, region: &Region) -> u32
+fn met_faces(part: &Region, region: &Region) -> Option<u32>
     requires alike { AreAlike part.now region.now }
     requires few { length part.now.sides ≤ column_limit }
-    ensures { result ≡ open_faces part.now region.now }
+    ensures { HasMet part.now region.now result }
 {
     let sides = part.sides.as_slice();
     let others = region.sides.as_slice();
     let mut faces = 0;
     for (place, side) in sides.iter().enumerate() {
+        if !sides_meet(side, &others[place]) {
+            return None;
+        }
         faces += side_faces(side, &others[place]);
     }
-    faces
+    Some(faces)
+}
+
+#[inline(always)]
+fn sides_meet(side: &Side, other: &Side) -> bool
+    ensures { result ≡ sides_meet side.now other.now }
+{
+    side.meet(*other).is_some()
 }
 
 #[inline(always)]
