@@ -1,6 +1,6 @@
 -- What constraints say of a box, from the last one to the first, and what is done with the box.
 use Rattle.std.proofs.Common.{◌≡◌, ℕ, zero, suc, ◌+◌, ◌*◌, ◌/◌, ◌<◌, ◌≤◌, ◌^◌, cond, Bool, true, false, List, [], ◌∷◌, length, get_or, drop, refl, sym, ◌∙◌, ap, subst, arith, pow-suc, inl, inr, All, Any, length-drop}
-use Rattle.std.specs.Prelude.{⊤}
+use Rattle.std.specs.Prelude.{⊤, Option, Some, None}
 use Rattle.std.specs.Int.{bit_at}
 use Rattle.std.proofs.lemmas.Bool.{eqb-false}
 use Rattle.std.proofs.lemmas.List.{drop_all, drop_more, get_or_default}
@@ -28,7 +28,7 @@ use Rattle.pc_cells_tree.specs.declared.standing.Standing.TheVariants.{OfAll, Of
 use Rattle.pc_cells_tree.specs.declared.decision.Finding.{Finding}
 use Rattle.pc_cells_tree.specs.declared.decision.Finding.TheVariants.{Broken, Crossed, Under}
 use Rattle.pc_cells_tree.specs.Stances.{IsAcross, IsAlong, IsCutThrough, IsStance, no_box, box_in, IsAcrossAt, IsCutThroughArea, IsAreaStance}
-use Rattle.pc_cells_tree.specs.Standings.{IsAcrossWhen, IsCrossedBy, IsCrossing, region_of, HasBoxAt, IsStanding, IsStandingAt}
+use Rattle.pc_cells_tree.specs.Standings.{is_of_values, place_in, IsAcrossWhen, IsCrossedBy, IsCrossing, region_of, HasBoxAt, IsStanding, IsStandingAt}
 use Rattle.pc_cells_tree.specs.Decisions.{IsComparable, IsMaskOf, IsRegionOf, HasRegionIn, HasShortMask, IsFound, IsWithCrossing, with_bit, CanBeSettled, IsCutThroughWhen, IsCutFor, IsNeeded}
 use Rattle.pc_cells_tree.proofs.AreaStances.{filled_by, both_ways, both_ways_when, not_beside}
 use Rattle.pc_cells_tree.proofs.Choices.{divided-along}
@@ -129,10 +129,10 @@ module _ (part : Region) (cs : List Constraint) (place : ℕ) (d : Constraint) (
       found-broken e f = any_at (IsRuledOut cs part) cs place d inside (stands_as OfAll e, subst (IsStance part this.values) f also)
 
       pub found-across_values : (faces : ℕ) (later after : Finding) → All (IsAlikeTo part) cs → standing ≡ OfAll → values ≡ Across faces →
-          IsWithCrossing (record { place = place; within = true; box_place = 0; faces = faces }) later after → IsFound part cs (place + 1) later → IsFound part cs place after
+          IsWithCrossing (record { place = place; box_place = None; faces = faces }) later after → IsFound part cs (place + 1) later → IsFound part cs place after
       found-across_values faces later after alike e f gives found =
           let across : IsAcross part this.values = subst (IsStance part this.values) f also in
-          found_crossing (record { place = place; within = true; box_place = 0; faces = faces }) later after alike
+          found_crossing (record { place = place; box_place = None; faces = faces }) later after alike
           (record { there = inside; crossed = λ c. subst (λ (other : Constraint). SpeaksOfAll cs part other × IsAcross part other.values) (same_at c) (stands_as OfAll e, across) }) (λ ruled. across.not_apart ruled.1)
           gives found
 
@@ -233,14 +233,20 @@ module _ (all : List Constraint) (part : Region) (place : ℕ) (c : Constraint) 
 
 -- the region that is read
 module _ (cs : List Constraint) (crossing : Crossing) (d : Constraint) (there : crossing.place < length cs) where
-  pub region-values : crossing.within ≡ true → IsRegionOf cs crossing (get_or cs crossing.place d).values
-  region-values e = λ c. rw e (ap (λ (other : Constraint). other.values) (get_or_default cs crossing.place d c there))
+  pub region-values : crossing.box_place ≡ None → IsRegionOf cs crossing (get_or cs crossing.place d).values
+  region-values e = λ c.
+      let other : Constraint = get_or cs crossing.place c in
+      subst (λ (found : Option ℕ). (get_or cs crossing.place d).values ≡ cond (is_of_values found) other.values (region_of other.when (place_in found))) (sym e)
+      (ap (λ (other : Constraint). other.values) (get_or_default cs crossing.place d c there))
 
-  pub region-box : (region : Region) → crossing.within ≡ false → region ≡ region_of (get_or cs crossing.place d).when crossing.box_place → IsRegionOf cs crossing region
-  region-box region e is = λ c. rw e (is ∙ ap (λ (other : Constraint). region_of other.when crossing.box_place) (get_or_default cs crossing.place d c there))
+  pub region-box : (region : Region) (place : ℕ) → crossing.box_place ≡ Some place → region ≡ region_of (get_or cs crossing.place d).when place → IsRegionOf cs crossing region
+  region-box region place e is = λ c.
+      let other : Constraint = get_or cs crossing.place c in
+      subst (λ (found : Option ℕ). region ≡ cond (is_of_values found) other.values (region_of other.when (place_in found))) (sym e)
+      (is ∙ ap (λ (other : Constraint). region_of other.when place) (get_or_default cs crossing.place d c there))
 
-  pub region-there : crossing.within ≡ false → HasRegionIn cs crossing → HasBoxAt (get_or cs crossing.place d).when crossing.box_place
-  region-there e has = subst (λ within. cond within ⊤ (HasBoxAt (get_or cs crossing.place d).when crossing.box_place)) e (has d)
+  pub region-there : (place : ℕ) → crossing.box_place ≡ Some place → HasRegionIn cs crossing → HasBoxAt (get_or cs crossing.place d).when place
+  region-there place e has = subst (λ (found : Option ℕ). cond (is_of_values found) ⊤ (HasBoxAt (get_or cs crossing.place d).when (place_in found))) e (has d)
 
 pub ruleset regions = (region-values, region-box, region-there)
 
@@ -261,9 +267,9 @@ module _ (cs : List Constraint) (chosen : Area) (part : Region) (filled : IsBox 
   pub open_crossed : (crossing : Crossing) (d : Constraint) → IsCrossing cs part crossing → (Any (IsRuledOut cs part) cs → ⊥) → CanBeSettled cs chosen part → ⊥
   open_crossed crossing d found none (Barren, inl ruled) = none ruled
   open_crossed crossing d found none (Barren, inr silent) =
-      open_for crossing.within false crossing.box_place (get_or cs crossing.place d) (found.crossed d) (silent crossing.place d found.there)
+      open_for (is_of_values crossing.box_place) false (place_in crossing.box_place) (get_or cs crossing.place d) (found.crossed d) (silent crossing.place d found.there)
   open_crossed crossing d found none (Class mask side, settled) =
-      open_for crossing.within (has_bit mask crossing.place) crossing.box_place (get_or cs crossing.place d) (found.crossed d) (settled.each crossing.place d found.there)
+      open_for (is_of_values crossing.box_place) (has_bit mask crossing.place) (place_in crossing.box_place) (get_or cs crossing.place d) (found.crossed d) (settled.each crossing.place d found.there)
 
   open_by_mask : (mask place : ℕ) → IsMaskOf cs part cs mask → (mask ≡ 0 → ⊥) → IsAcrossAt part chosen.boxes place → CanBeSettled cs chosen part → ⊥
   open_by_mask mask place found some across (Barren, inl ruled) = none_by_mask cs part cs mask filled found ruled
@@ -285,16 +291,16 @@ module _ (part : Region) (cs : List Constraint) (chosen : Area) (fits : IsCompar
     here = get_or cs crossing.place first
 
     region_alike : AreAlike part region
-    region_alike = rw (is first) (alike_region cs part crossing.box_place here crossing.within (fits.each crossing.place first found.0.there) (found.0.crossed first))
+    region_alike = rw (is first) (alike_region cs part (place_in crossing.box_place) here (is_of_values crossing.box_place) (fits.each crossing.place first found.0.there) (found.0.crossed first))
 
     region_across : IsAcross part region
-    region_across = rw (is first) (across_region cs part crossing.box_place here crossing.within (found.0.crossed first))
+    region_across = rw (is first) (across_region cs part (place_in crossing.box_place) here (is_of_values crossing.box_place) (found.0.crossed first))
 
     needed_crossed : (cut : Cut) → IsAlong part region cut → IsNeeded cs chosen part cut
     needed_crossed cut along = record {
       divides = divided-along part region cut region_alike region_across.not_apart along;
       open_still = open_crossed cs chosen part fits.filled crossing first found.0 found.1;
-      through = inl (any_at (IsCutFor cs part cut) cs crossing.place first found.0.there (cut_for cs part crossing.box_place here crossing.within cut (found.0.crossed first) (rw (is first) at along)));
+      through = inl (any_at (IsCutFor cs part cut) cs crossing.place first found.0.there (cut_for cs part (place_in crossing.box_place) here (is_of_values crossing.box_place) cut (found.0.crossed first) (rw (is first) at along)));
     }
 
   module _ (finding : Finding) (found : IsFound part cs 0 finding) where
@@ -311,7 +317,7 @@ module _ (part : Region) (cs : List Constraint) (chosen : Area) (fits : IsCompar
     crossed-there crossing e = (subst (IsFound part cs 0) e found).0.there
 
     pub crossed-has : (crossing : Crossing) → finding ≡ Crossed crossing → HasRegionIn cs crossing
-    crossed-has crossing e = let crossed = (subst (IsFound part cs 0) e found).0 in λ c. there_region cs part crossing.box_place (get_or cs crossing.place c) crossing.within (crossed.crossed c)
+    crossed-has crossing e = let crossed = (subst (IsFound part cs 0) e found).0 in λ c. there_region cs part (place_in crossing.box_place) (get_or cs crossing.place c) (is_of_values crossing.box_place) (crossed.crossed c)
 
     pub crossed-alike : (crossing : Crossing) (region : Region) → finding ≡ Crossed crossing → IsRegionOf cs crossing region → AreAlike part region
     crossed-alike crossing region e is = region_alike crossing region (subst (IsFound part cs 0) e found) is

@@ -1,5 +1,5 @@
 -- How a box stands to one predicate, and to what is outside every area, from the last constraint to the first.
-use Rattle.std.proofs.Common.{◌≡◌, ℕ, ◌+◌, ◌<◌, ◌≤◌, false, List, length, get_or, inl, inr, sym, subst, All}
+use Rattle.std.proofs.Common.{◌≡◌, ℕ, ◌+◌, ◌<◌, ◌≤◌, List, Some, length, get_or, inl, inr, sym, subst, All}
 use Rattle.std.proofs.lemmas.List.{drop_all, get_or_default}
 use Rattle.std.proofs.lemmas.List.Elements.{All-nil}
 use Rattle.pc_model.specs.declared.region.Region.{Region}
@@ -48,7 +48,7 @@ module _ (part : Region) (cs : List Constraint) (place : ℕ) (d : Constraint) (
     area_alike alike = subst (IsAlikeToWhen part) names (alike place d there).when
 
     abbrev crossing_at : ℕ → ℕ → Crossing
-    crossing_at box_place faces = record { place = place; within = false; box_place = box_place; faces = faces }
+    crossing_at box_place faces = record { place = place; box_place = Some box_place; faces = faces }
 
     crossing_here : (box_place faces : ℕ) → IsAcrossAt part area.boxes box_place → IsCrossing cs part (crossing_at box_place faces)
     crossing_here box_place faces across = record {

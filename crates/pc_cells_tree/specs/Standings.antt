@@ -1,5 +1,5 @@
 -- How a box stands to a constraint: its predicate is an area, or what is outside all areas of the list.
-use Rattle.std.specs.Prelude.{◌≡◌, ℕ, ◌<◌, ⊤, ◌⊎◌, Bool, true, false, cond, List, length, drop, All, Any, slice_index_or}
+use Rattle.std.specs.Prelude.{◌≡◌, ℕ, ◌<◌, ⊤, ◌⊎◌, Bool, true, false, Option, Some, None, cond, List, length, drop, All, Any, slice_index_or}
 use Rattle.pc_model.specs.declared.region.Region.{Region}
 use Rattle.pc_model.specs.declared.constraint.When.{When}
 use Rattle.pc_model.specs.declared.constraint.When.TheVariants.{Boxes, Outside}
@@ -11,6 +11,15 @@ use Rattle.pc_cells_tree.specs.declared.standing.Standing.TheVariants.{OfAll, Of
 use Rattle.pc_cells_tree.specs.Stances.{IsAcross, IsAcrossAt, box_in, no_box}
 
 -- ---- a constraint that is crossed
+
+-- the values are crossed, or the box at a place
+abbrev pub is_of_values : Option ℕ → Bool
+is_of_values None = true
+is_of_values (Some place) = false
+
+abbrev pub place_in : Option ℕ → ℕ
+place_in None = 0
+place_in (Some place) = place
 
 -- the box crosses a box of the area that a predicate names, and is inside none of them
 abbrev pub IsAcrossWhen : Region → When → ℕ → Type 0
@@ -24,7 +33,7 @@ IsCrossedBy all part false place c = IsAcrossWhen part c.when place
 
 pub record IsCrossing (all : List Constraint) (part : Region) (crossing : Crossing) : Type 0 where
   pub there : crossing.place < length all
-  pub crossed : (c : Constraint) → IsCrossedBy all part crossing.within crossing.box_place (slice_index_or all crossing.place c)
+  pub crossed : (c : Constraint) → IsCrossedBy all part (is_of_values crossing.box_place) (place_in crossing.box_place) (slice_index_or all crossing.place c)
 
 -- the region that is crossed, and that it is there
 abbrev pub region_of : When → ℕ → Region
@@ -32,14 +41,14 @@ region_of (Boxes area) place = box_in area.boxes place
 region_of Outside place = no_box
 
 abbrev pub crossed_in : Crossing → Constraint → Region
-crossed_in crossing c = cond crossing.within c.values (region_of c.when crossing.box_place)
+crossed_in crossing c = cond (is_of_values crossing.box_place) c.values (region_of c.when (place_in crossing.box_place))
 
 abbrev pub HasBoxAt : When → ℕ → Type 0
 HasBoxAt (Boxes area) place = place < length area.boxes
 HasBoxAt Outside place = ⊥
 
 abbrev pub HasRegion : Crossing → Constraint → Type 0
-HasRegion crossing c = cond crossing.within ⊤ (HasBoxAt c.when crossing.box_place)
+HasRegion crossing c = cond (is_of_values crossing.box_place) ⊤ (HasBoxAt c.when (place_in crossing.box_place))
 
 -- ---- how the box stands
 

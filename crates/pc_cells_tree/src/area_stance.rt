@@ -11,14 +11,14 @@ use pc_model::{Area, Region};
 pub(crate) enum AreaStance {
     Inside,
     Apart,
-    Across { place: usize, faces: u32 },
+    Across { place: usize, faces: usize },
 }
 
 impl AreaStance {
     // With a box before the others that is crossed: of the crossed ones the one with the fewest open faces, the
     // first of equals.
     #[inline(always)]
-    fn with_box(self, place: usize, faces: u32) -> AreaStance
+    fn with_box(self, place: usize, faces: usize) -> AreaStance
         ensures { IsWithBox place faces self result }
     {
         match self {

@@ -108,10 +108,10 @@ fn crossed_region(constraints: &[Constraint], crossing: Crossing) -> &Region
     ensures { IsRegionOf constraints.now crossing result.now }
 {
     let constraint = &constraints[crossing.place];
-    if crossing.within {
-        return &constraint.values;
+    match crossing.box_place {
+        None => &constraint.values,
+        Some(place) => box_of(&constraint.when, place),
     }
-    box_of(&constraint.when, crossing.box_place)
 }
 
 fn box_of(when: &When, place: usize) -> &Region
@@ -157,8 +157,7 @@ fn find_from(part: &Region, constraints: &[Constraint], place: usize, later: Fin
             Stance::Apart => Finding::Broken,
             Stance::Across { faces } => later.with_crossing(Crossing {
                 place,
-                within: true,
-                box_place: 0,
+                box_place: None,
                 faces,
             }),
             Stance::Inside => later.with_bit(true),

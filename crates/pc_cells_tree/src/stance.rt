@@ -11,7 +11,7 @@ use pc_model::{Region, Side};
 pub(crate) enum Stance {
     Inside,
     Apart,
-    Across { faces: u32 },
+    Across { faces: usize },
 }
 
 #[inline(always)]
@@ -28,7 +28,7 @@ pub(crate) fn compare(part: &Region, region: &Region) -> Stance
 }
 
 #[inline(always)]
-fn stance_of(faces: u32) -> Stance
+fn stance_of(faces: usize) -> Stance
     ensures { result ≡ stance_of faces }
 {
     if faces == 0 {
@@ -40,7 +40,7 @@ fn stance_of(faces: u32) -> Stance
 /// Along how many of its ends and sets a box reaches beyond a region that it meets.
 #[inline(always)]
 #[tactic(auto, using(crate::proofs::Stances::counting))]
-fn met_faces(part: &Region, region: &Region) -> Option<u32>
+fn met_faces(part: &Region, region: &Region) -> Option<usize>
     requires alike { AreAlike part.now region.now }
     requires few { length part.now.sides ≤ column_limit }
     ensures { HasMet part.now region.now result }
@@ -66,7 +66,7 @@ fn sides_meet(side: &Side, other: &Side) -> bool
 
 #[inline(always)]
 #[tactic(auto, unfolding(crate::specs::Stances::side_faces))]
-fn side_faces(side: &Side, other: &Side) -> u32
+fn side_faces(side: &Side, other: &Side) -> usize
     ensures { result ≡ side_faces side.now other.now }
 {
     match (*side, *other) {
@@ -76,9 +76,9 @@ fn side_faces(side: &Side, other: &Side) -> u32
                 low: other_low,
                 high: other_high,
             },
-        ) => (low < other_low) as u32 + (other_high < high) as u32,
+        ) => (low < other_low) as usize + (other_high < high) as usize,
         (Side::Names { bits }, Side::Names { bits: other_bits }) => {
-            (bits ^ (bits & other_bits) != 0) as u32
+            (bits ^ (bits & other_bits) != 0) as usize
         }
         _ => 0,
     }

@@ -6,14 +6,13 @@ ghost use Rattle.pc_cells_tree.specs.Standings.{IsStandingAt, IsOutsideFrom, IsW
 use crate::area_stance::{AreaStance, compare_area};
 use pc_model::{Constraint, Region, When};
 
-/// A constraint that a box crosses: the box is within its predicate and crosses its values, or it crosses the box
-/// at a place of its area; and along how many open faces.
+/// A constraint that a box crosses: it crosses the box at a place of its area, or, where none is named, it is within
+/// the predicate and crosses the values; and along how many open faces.
 #[derive(Clone, Copy, Debug, PartialEq, Eq)]
 pub(crate) struct Crossing {
     pub place: usize,
-    pub box_place: usize,
-    pub faces: u32,
-    pub within: bool,
+    pub box_place: Option<usize>,
+    pub faces: usize,
 }
 
 /// Whether a constraint speaks of all rows of a box or of none; else an area that is crossed, its own or, where it is
@@ -43,10 +42,11 @@ impl Standing {
 /// one with fewer open faces.
 #[inline(always)]
 pub(crate) fn is_before(one: Crossing, other: Crossing) -> bool {
-    if one.within != other.within {
-        return one.within;
+    match (one.box_place, other.box_place) {
+        (None, Some(_)) => true,
+        (Some(_), None) => false,
+        _ => one.faces < other.faces,
     }
-    one.faces < other.faces
 }
 
 #[inline(always)]
@@ -66,8 +66,7 @@ pub(crate) fn stand(part: &Region, constraints: &[Constraint], place: usize) -> 
                 faces,
             } => Standing::Open(Crossing {
                 place,
-                within: false,
-                box_place,
+                box_place: Some(box_place),
                 faces,
             }),
         },
@@ -113,8 +112,7 @@ fn stand_outside_from(
                 faces,
             } => later.with_area(Crossing {
                 place,
-                within: false,
-                box_place,
+                box_place: Some(box_place),
                 faces,
             }),
         },
