@@ -73,7 +73,7 @@ mask-cons all part c cs bit mask says later = record { short = shorter bit; each
 
 -- ---- at a place
 
-some_of : (cs : List Constraint) (k : ℕ) → k < length cs → Constraint
+pub some_of : (cs : List Constraint) (k : ℕ) → k < length cs → Constraint
 some_of [] k inside = absurd (omega (arith, inside))
 some_of (c ∷ cs) k inside = c
 

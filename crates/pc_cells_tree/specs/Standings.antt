@@ -83,3 +83,8 @@ abbrev pub IsWithArea : Crossing → Standing → Standing → Type 0
 IsWithArea crossing OfNone with_it = with_it ≡ OfNone
 IsWithArea crossing OfAll with_it = with_it ≡ Open crossing
 IsWithArea crossing (Open other) with_it = (with_it ≡ Open other) ⊎ (with_it ≡ Open crossing)
+
+-- the predicate is an area of one box
+abbrev pub IsLone : When → Type 0
+IsLone (Boxes area) = length area.boxes ≡ 1
+IsLone Outside = ⊥

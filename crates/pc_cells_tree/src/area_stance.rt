@@ -1,4 +1,4 @@
-ghost use Rattle.std.specs.Prelude.{◌+◌, ◌≤◌, ◌<◌, length, All};
+ghost use Rattle.std.specs.Prelude.{◌≡◌, ◌+◌, ◌≤◌, ◌<◌, length, All};
 ghost use Rattle.pc_box.specs.Boxes.{AreAlike, IsAlikeToArea};
 ghost use Rattle.pc_cells_tree.specs.Stances.{column_limit, IsAreaStance, IsStanceFrom, IsWithBox};
 
@@ -29,7 +29,6 @@ impl AreaStance {
     }
 }
 
-#[inline(always)]
 #[tactic(auto, using(crate::proofs::AreaStances::whole))]
 pub(crate) fn compare_area(part: &Region, area: &Area) -> AreaStance
     requires alike { IsAlikeToArea part.now area.now }
@@ -41,21 +40,18 @@ pub(crate) fn compare_area(part: &Region, area: &Area) -> AreaStance
 
 // Most areas have one box, which is compared in place.
 #[inline(always)]
-#[tactic(auto, using(crate::proofs::AreaStances::rounds))]
-fn compare_boxes(part: &Region, boxes: &[Region]) -> AreaStance
-    requires alike { All (AreAlike part.now) boxes.now }
+#[tactic(auto, using(crate::proofs::AreaStances::rounds, crate::proofs::AreaStances::whole))]
+pub(crate) fn compare_lone(part: &Region, area: &Area) -> AreaStance
+    requires alike { IsAlikeToArea part.now area.now }
     requires few { length part.now.sides ≤ column_limit }
-    ensures { IsStanceFrom part.now boxes.now 0 result }
+    requires lone { length area.now.boxes ≡ 1 }
+    ensures { IsAreaStance part.now area.now result }
 {
-    if boxes.len() == 1 {
-        return compare_from(part, boxes, 0, AreaStance::Apart);
-    }
-    compare_each(part, boxes)
+    compare_from(part, area.boxes.as_slice(), 0, AreaStance::Apart)
 }
 
-#[inline(never)]
 #[tactic(auto, using(crate::proofs::AreaStances::rounds))]
-fn compare_each(part: &Region, boxes: &[Region]) -> AreaStance
+fn compare_boxes(part: &Region, boxes: &[Region]) -> AreaStance
     requires alike { All (AreAlike part.now) boxes.now }
     requires few { length part.now.sides ≤ column_limit }
     ensures { IsStanceFrom part.now boxes.now 0 result }

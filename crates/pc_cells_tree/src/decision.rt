@@ -3,12 +3,12 @@ ghost use Rattle.pc_model.specs.Accepted.{constraint_limit};
 ghost use Rattle.pc_box.specs.Boxes.{IsAlikeTo};
 ghost use Rattle.pc_cells_tree.specs.Decisions.{IsComparable, HasRegionIn, HasShortMask, IsMaskOf, IsRegionOf, IsFound, IsDecision, IsWithCrossing, with_bit};
 ghost use Rattle.pc_cells_tree.specs.Stances.{column_limit};
-ghost use Rattle.pc_cells_tree.specs.Standings.{HasBoxAt, region_of};
+ghost use Rattle.pc_cells_tree.specs.Standings.{HasBoxAt, IsStandingAt, region_of};
 
 use crate::area_stance::{AreaStance, compare_area};
 use crate::choice::cut_through;
 use crate::stance::{Stance, compare};
-use crate::standing::{Crossing, Standing, is_before, stand};
+use crate::standing::{Crossing, Standing, is_before, is_lone, stand, stand_lone};
 use pc_model::{Area, Constraint, Cut, LeafMark, Region, When};
 
 /// What is done with a box.
@@ -139,9 +139,9 @@ pub(crate) fn find(part: &Region, constraints: &[Constraint]) -> Finding
     finding
 }
 
-// What the constraints from this place on say, where it is known what the later ones do.
+// What the constraints from this place on say, where it is known what the later ones do. Most predicates are one box;
+// what others take stands apart, so that the loop over the constraints is short.
 #[inline(always)]
-#[tactic(auto, using(crate::proofs::Decisions::steps))]
 fn find_from(part: &Region, constraints: &[Constraint], place: usize, later: Finding) -> Finding
     requires few { length constraints.now ≤ constraint_limit }
     requires sides { length part.now.sides ≤ column_limit }
@@ -150,7 +150,44 @@ fn find_from(part: &Region, constraints: &[Constraint], place: usize, later: Fin
     requires later { IsFound part.now constraints.now (place + 1) later }
     ensures { IsFound part.now constraints.now place result }
 {
-    match stand(part, constraints, place) {
+    if !is_lone(&constraints[place].when) {
+        return find_rare(part, constraints, place, later);
+    }
+    let standing = stand_lone(part, constraints, place);
+    found_from(part, constraints, place, standing, later)
+}
+
+#[inline(never)]
+fn find_rare(part: &Region, constraints: &[Constraint], place: usize, later: Finding) -> Finding
+    requires few { length constraints.now ≤ constraint_limit }
+    requires sides { length part.now.sides ≤ column_limit }
+    requires alike { All (IsAlikeTo part.now) constraints.now }
+    requires there { place < length constraints.now }
+    requires later { IsFound part.now constraints.now (place + 1) later }
+    ensures { IsFound part.now constraints.now place result }
+{
+    let standing = stand(part, constraints, place);
+    found_from(part, constraints, place, standing, later)
+}
+
+#[inline(always)]
+#[tactic(auto, using(crate::proofs::Decisions::steps))]
+fn found_from(
+    part: &Region,
+    constraints: &[Constraint],
+    place: usize,
+    standing: Standing,
+    later: Finding,
+) -> Finding
+    requires few { length constraints.now ≤ constraint_limit }
+    requires sides { length part.now.sides ≤ column_limit }
+    requires alike { All (IsAlikeTo part.now) constraints.now }
+    requires there { place < length constraints.now }
+    requires stands { IsStandingAt constraints.now part.now place standing }
+    requires later { IsFound part.now constraints.now (place + 1) later }
+    ensures { IsFound part.now constraints.now place result }
+{
+    match standing {
         Standing::OfNone => later.with_bit(false),
         Standing::Open(crossing) => later.with_crossing(crossing),
         Standing::OfAll => match compare(part, &constraints[place].values) {

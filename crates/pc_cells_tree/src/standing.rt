@@ -1,9 +1,10 @@
-ghost use Rattle.std.specs.Prelude.{◌+◌, ◌≤◌, ◌<◌, length, All};
+ghost use Rattle.std.specs.Prelude.{◌↔◌, ◌+◌, ◌≤◌, ◌<◌, length, slice_index_or, All, IsTrue};
+ghost use Rattle.pc_model.specs.declared.constraint.Constraint.{Constraint};
 ghost use Rattle.pc_box.specs.Boxes.{IsAlikeTo};
 ghost use Rattle.pc_cells_tree.specs.Stances.{column_limit};
-ghost use Rattle.pc_cells_tree.specs.Standings.{IsStandingAt, IsOutsideFrom, IsWithArea};
+ghost use Rattle.pc_cells_tree.specs.Standings.{IsLone, IsStandingAt, IsOutsideFrom, IsWithArea};
 
-use crate::area_stance::{AreaStance, compare_area};
+use crate::area_stance::{AreaStance, compare_area, compare_lone};
 use pc_model::{Constraint, Region, When};
 
 /// A constraint that a box crosses: it crosses the box at a place of its area, or, where none is named, it is within
@@ -49,7 +50,43 @@ pub(crate) fn is_before(one: Crossing, other: Crossing) -> bool {
     }
 }
 
+/// Whether a predicate is an area of one box.
 #[inline(always)]
+pub(crate) fn is_lone(when: &When) -> bool
+    ensures { IsTrue result ↔ IsLone when.now }
+{
+    match when {
+        When::Boxes(area) => area.boxes.len() == 1,
+        When::Outside => false,
+    }
+}
+
+#[inline(always)]
+#[tactic(auto, using(crate::proofs::Standings::one))]
+pub(crate) fn stand_lone(part: &Region, constraints: &[Constraint], place: usize) -> Standing
+    requires few { length part.now.sides ≤ column_limit }
+    requires alike { All (IsAlikeTo part.now) constraints.now }
+    requires there { place < length constraints.now }
+    requires lone { (c : Constraint) → IsLone (slice_index_or constraints.now place c).when }
+    ensures { IsStandingAt constraints.now part.now place result }
+{
+    match &constraints[place].when {
+        When::Boxes(area) => match compare_lone(part, area) {
+            AreaStance::Inside => Standing::OfAll,
+            AreaStance::Apart => Standing::OfNone,
+            AreaStance::Across {
+                place: box_place,
+                faces,
+            } => Standing::Open(Crossing {
+                place,
+                box_place: Some(box_place),
+                faces,
+            }),
+        },
+        When::Outside => unreachable!(),
+    }
+}
+
 #[tactic(auto, using(crate::proofs::Standings::one))]
 pub(crate) fn stand(part: &Region, constraints: &[Constraint], place: usize) -> Standing
     requires few { length part.now.sides ≤ column_limit }
@@ -75,7 +112,6 @@ pub(crate) fn stand(part: &Region, constraints: &[Constraint], place: usize) -> 
 }
 
 // What is outside holds a box that is apart from every area, and none of one that some area holds.
-#[inline(never)]
 #[tactic(auto, using(crate::proofs::Standings::rounds))]
 fn stand_outside(part: &Region, constraints: &[Constraint]) -> Standing
     requires few { length part.now.sides ≤ column_limit }
