@@ -1,9 +1,10 @@
-ghost use Rattle.std.specs.Prelude.{◌≡◌, ◌+◌, ◌≤◌, ◌<◌, length, All};
+ghost use Rattle.std.specs.Prelude.{◌≡◌, ◌+◌, ◌≤◌, ◌<◌, length, slice_index_or, All};
+ghost use Rattle.pc_model.specs.declared.constraint.Constraint.{Constraint};
 ghost use Rattle.pc_model.specs.Accepted.{constraint_limit};
 ghost use Rattle.pc_box.specs.Boxes.{IsAlikeTo};
 ghost use Rattle.pc_cells_tree.specs.Decisions.{IsComparable, HasRegionIn, HasShortMask, IsMaskOf, IsRegionOf, IsFound, IsDecision, IsWithCrossing, with_bit};
 ghost use Rattle.pc_cells_tree.specs.Stances.{column_limit};
-ghost use Rattle.pc_cells_tree.specs.Standings.{HasBoxAt, IsStandingAt, region_of};
+ghost use Rattle.pc_cells_tree.specs.Standings.{HasBoxAt, IsLone, IsStandingAt, region_of};
 
 use crate::area_stance::{AreaStance, compare_area};
 use crate::choice::cut_through;
@@ -134,7 +135,11 @@ pub(crate) fn find(part: &Region, constraints: &[Constraint]) -> Finding
 {
     let mut finding = Finding::Under { mask: 0 };
     for place in (0..constraints.len()).rev() {
-        finding = find_from(part, constraints, place, finding);
+        finding = if is_lone(&constraints[place].when) {
+            find_lone(part, constraints, place, finding)
+        } else {
+            find_rare(part, constraints, place, finding)
+        };
     }
     finding
 }
@@ -142,17 +147,15 @@ pub(crate) fn find(part: &Region, constraints: &[Constraint]) -> Finding
 // What the constraints from this place on say, where it is known what the later ones do. Most predicates are one box;
 // what others take stands apart, so that the loop over the constraints is short.
 #[inline(always)]
-fn find_from(part: &Region, constraints: &[Constraint], place: usize, later: Finding) -> Finding
+fn find_lone(part: &Region, constraints: &[Constraint], place: usize, later: Finding) -> Finding
     requires few { length constraints.now ≤ constraint_limit }
     requires sides { length part.now.sides ≤ column_limit }
     requires alike { All (IsAlikeTo part.now) constraints.now }
     requires there { place < length constraints.now }
+    requires lone { (c : Constraint) → IsLone (slice_index_or constraints.now place c).when }
     requires later { IsFound part.now constraints.now (place + 1) later }
     ensures { IsFound part.now constraints.now place result }
 {
-    if !is_lone(&constraints[place].when) {
-        return find_rare(part, constraints, place, later);
-    }
     let standing = stand_lone(part, constraints, place);
     found_from(part, constraints, place, standing, later)
 }
