@@ -136,6 +136,14 @@ module _ (part : Region) (cs : List Constraint) (place : ℕ) (d : Constraint) (
           (record { there = inside; crossed = λ c. subst (λ (other : Constraint). SpeaksOfAll cs part other × IsAcross part other.values) (same_at c) (stands_as OfAll e, across) }) (λ ruled. across.not_apart ruled.1)
           gives found
 
+-- a bit more of a mask
+pub found-bit : (part : Region) (cs : List Constraint) (place : ℕ) (bit : Bool) (mask : ℕ) → place < length cs → All (IsAlikeTo part) cs →
+    ((c : Constraint) → cond bit (IsUnder cs part (get_or cs place c)) (SpeaksOfNone cs part (get_or cs place c))) →
+    IsFound part cs (place + 1) (Under mask) → IsFound part cs place (Under (2 * mask + cond bit 1 0))
+found-bit part cs place bit mask inside alike says found =
+    let d = some_of cs place inside in
+    found_bit part cs place d inside bit (Under mask) alike (says d) found
+
 pub found-open : (part : Region) (cs : List Constraint) (place : ℕ) (inside : place < length cs) (standing : Standing) (crossing : Crossing) (later after : Finding) → All (IsAlikeTo part) cs →
     IsStandingAt cs part place standing → standing ≡ Open crossing → IsWithCrossing crossing later after → IsFound part cs (place + 1) later → IsFound part cs place after
 found-open part cs place inside standing crossing later after alike stands e gives found = opened part cs place (some_of cs place inside) inside standing stands crossing later after alike e gives found
@@ -148,6 +156,11 @@ short_mask part cs place (Under mask) few inside found =
     let fewer : length (drop (place + 1) cs) ≤ constraint_limit = omega (arith, length-drop (place + 1) cs, few) in
     let less : 2 ^ length (drop (place + 1) cs) ≤ 2 ^ constraint_limit = pow_mono fewer in
     omega (arith, found.short, less)
+
+pub bit-short : (part : Region) (cs : List Constraint) (place mask : ℕ) → length cs ≤ constraint_limit → place < length cs → IsFound part cs (place + 1) (Under mask) → mask < 2 ^ constraint_limit
+bit-short part cs place mask few inside found = short_mask part cs place (Under mask) few inside found
+
+pub ruleset alikes = (values_alike)
 
 pub ruleset steps = (values_alike, found-none_of, found-inside, found-broken, found-across_values, short_mask)
 

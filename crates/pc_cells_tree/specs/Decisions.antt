@@ -1,5 +1,5 @@
 -- What constraints say of a box, and what is done with it.
-use Rattle.std.specs.Prelude.{◌≡◌, ℕ, ◌+◌, ◌*◌, ◌<◌, ◌≤◌, ◌^◌, ⊤, ◌⊎◌, Bool, cond, List, length, drop, All, Any, slice_index_or}
+use Rattle.std.specs.Prelude.{◌≡◌, ℕ, ◌+◌, ◌*◌, ◌<◌, ◌≤◌, ◌^◌, ⊤, ◌⊎◌, Bool, cond, List, length, drop, All, Any, Option, MatchOption, slice_index_or}
 use Rattle.pc_model.specs.declared.region.Region.{Region}
 use Rattle.pc_model.specs.declared.area.Area.{Area}
 use Rattle.pc_model.specs.declared.constraint.When.{When}
@@ -8,7 +8,7 @@ use Rattle.pc_model.specs.declared.constraint.Constraint.{Constraint}
 use Rattle.pc_model.specs.declared.tree.Cut.{Cut}
 use Rattle.pc_model.specs.declared.tree.LeafMark.{LeafMark}
 use Rattle.pc_model.specs.Accepted.{constraint_limit}
-use Rattle.pc_model.specs.Cells.{SpeaksOfAll, IsRuledOut, IsSettledAt, IsSettledAs}
+use Rattle.pc_model.specs.Cells.{SpeaksOfAll, SpeaksOfNone, IsUnder, IsRuledOut, IsSettledAt, IsSettledAs}
 use Rattle.pc_box.specs.Boxes.{IsBox, IsAlikeToArea, IsAlikeTo}
 use Rattle.pc_box.specs.Cuts.{Divides}
 use Rattle.pc_cells_tree.specs.Stances.{column_limit, IsCutThrough, IsCutThroughArea}
@@ -44,6 +44,11 @@ abbrev pub IsFound : Region → List Constraint → ℕ → Finding → Type 0
 IsFound part constraints from Broken = Any (IsRuledOut constraints part) constraints
 IsFound part constraints from (Crossed crossing) = IsCrossing constraints part crossing × (Any (IsRuledOut constraints part) (drop from constraints) → ⊥)
 IsFound part constraints from (Under mask) = IsMaskOf constraints part (drop from constraints) mask
+
+-- a constraint speaks of all rows of the box or of none, as the bit says, where one is told
+abbrev pub HasBitAt : List Constraint → Region → ℕ → Option Bool → Type 0
+HasBitAt all part place told =
+    MatchOption told ⊤ (λ bit. (c : Constraint) → cond bit (IsUnder all part (slice_index_or all place c)) (SpeaksOfNone all part (slice_index_or all place c)))
 
 -- a mask to which a bit can be added
 abbrev pub HasShortMask : Finding → Type 0

@@ -1,9 +1,10 @@
-ghost use Rattle.std.specs.Prelude.{◌≡◌, ◌+◌, ◌≤◌, ◌<◌, length, slice_index_or, All};
+ghost use Rattle.std.specs.Prelude.{◌≡◌, ◌+◌, ◌*◌, ◌^◌, ◌≤◌, ◌<◌, cond, length, slice_index_or, All, MatchOption, ⊤};
 ghost use Rattle.pc_model.specs.declared.constraint.Constraint.{Constraint};
 ghost use Rattle.pc_model.specs.Accepted.{constraint_limit};
 ghost use Rattle.pc_box.specs.Boxes.{IsAlikeTo};
-ghost use Rattle.pc_cells_tree.specs.Decisions.{IsComparable, HasRegionIn, HasShortMask, IsMaskOf, IsRegionOf, IsFound, IsDecision, IsWithCrossing, with_bit};
+ghost use Rattle.pc_cells_tree.specs.Decisions.{IsComparable, HasRegionIn, HasShortMask, IsMaskOf, IsRegionOf, IsFound, IsDecision, IsWithCrossing, with_bit, HasBitAt};
 ghost use Rattle.pc_cells_tree.specs.Stances.{column_limit};
+ghost use Rattle.pc_cells_tree.specs.declared.decision.Finding.TheVariants.{Under};
 ghost use Rattle.pc_cells_tree.specs.Standings.{HasBoxAt, IsLone, IsStandingAt, region_of};
 
 use crate::area_stance::{AreaStance, compare_area};
@@ -37,7 +38,7 @@ impl Finding {
     {
         match self {
             Finding::Under { mask } => Finding::Under {
-                mask: 2 * mask + bit as u32,
+                mask: joined(mask, bit),
             },
             other => other,
         }
@@ -54,6 +55,15 @@ impl Finding {
             _ => Finding::Crossed(crossing),
         }
     }
+}
+
+// A mask with a bit before the others.
+#[inline(always)]
+fn joined(mask: u32, bit: bool) -> u32
+    requires { mask < 2 ^ constraint_limit }
+    ensures { result ≡ 2 * mask + cond bit 1 0 }
+{
+    2 * mask + bit as u32
 }
 
 /// Settles a box, or says how to cut it.
@@ -125,6 +135,8 @@ fn box_of(when: &When, place: usize) -> &Region
     }
 }
 
+// Of most boxes each constraint speaks of all rows or of none, which bits say; from the last one that is not so on, a
+// finding is carried.
 #[inline(always)]
 #[tactic(auto, using(crate::proofs::Decisions::rounds))]
 pub(crate) fn find(part: &Region, constraints: &[Constraint]) -> Finding
@@ -133,8 +145,66 @@ pub(crate) fn find(part: &Region, constraints: &[Constraint]) -> Finding
     requires alike { All (IsAlikeTo part.now) constraints.now }
     ensures { IsFound part.now constraints.now 0 result }
 {
-    let mut finding = Finding::Under { mask: 0 };
+    let mut mask = 0u32;
     for place in (0..constraints.len()).rev() {
+        let Some(more) = mask_from(part, constraints, place, mask) else {
+            return find_on(part, constraints, place + 1, mask);
+        };
+        mask = more;
+    }
+    Finding::Under { mask }
+}
+
+// The mask of the constraints from this place on, where there is one.
+#[inline(always)]
+fn mask_from(part: &Region, constraints: &[Constraint], place: usize, later: u32) -> Option<u32>
+    requires few { length constraints.now ≤ constraint_limit }
+    requires sides { length part.now.sides ≤ column_limit }
+    requires alike { All (IsAlikeTo part.now) constraints.now }
+    requires there { place < length constraints.now }
+    requires later { IsFound part.now constraints.now (place + 1) (Under later) }
+    ensures { MatchOption result ⊤ (λ mask. IsFound part.now constraints.now place (Under mask)) }
+{
+    match bit_of(part, constraints, place) {
+        Some(bit) => Some(joined(later, bit)),
+        None => None,
+    }
+}
+
+/// Whether a constraint speaks of all rows or of none, where its predicate is one box and it is one of both.
+#[inline(always)]
+#[tactic(auto, using(crate::proofs::Decisions::alikes))]
+fn bit_of(part: &Region, constraints: &[Constraint], place: usize) -> Option<bool>
+    requires sides { length part.now.sides ≤ column_limit }
+    requires alike { All (IsAlikeTo part.now) constraints.now }
+    requires there { place < length constraints.now }
+    ensures { HasBitAt constraints.now part.now place result }
+{
+    if !is_lone(&constraints[place].when) {
+        return None;
+    }
+    match stand_lone(part, constraints, place) {
+        Standing::OfNone => Some(false),
+        Standing::Open(_) => None,
+        Standing::OfAll => match compare(part, &constraints[place].values) {
+            Stance::Inside => Some(true),
+            _ => None,
+        },
+    }
+}
+
+#[inline(never)]
+#[tactic(auto, using(crate::proofs::Decisions::rounds))]
+fn find_on(part: &Region, constraints: &[Constraint], from: usize, mask: u32) -> Finding
+    requires few { length constraints.now ≤ constraint_limit }
+    requires sides { length part.now.sides ≤ column_limit }
+    requires alike { All (IsAlikeTo part.now) constraints.now }
+    requires there { from ≤ length constraints.now }
+    requires later { IsFound part.now constraints.now from (Under mask) }
+    ensures { IsFound part.now constraints.now 0 result }
+{
+    let mut finding = Finding::Under { mask };
+    for place in (0..from).rev() {
         finding = if is_lone(&constraints[place].when) {
             find_lone(part, constraints, place, finding)
         } else {
