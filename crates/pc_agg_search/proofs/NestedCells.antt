@@ -104,10 +104,12 @@ module _ (schema : Schema) (constraints : List Constraint) (chosen : Area) (clas
   covered : AreCovered program
   covered i h =
       let there = cell_inside constraints classes gains i h in
-      let found = Any-from_list_any (λ (c : Constraint). is_under constraints c (row_at i there)) constraints (rows i no_class there).1.lawful.covered in
-      (found.0, omega (arith, found.2, limits),
-      in_row i found.0 there found.2
-      ∙ ap (λ (c : Constraint). is_under constraints c (row_at i there)) (get_or_default constraints found.0 no_constraint found.1 found.2 ∙ found.3) ∙ found.4)
+      let found = Any-from_list_any (λ (c : Constraint). is_under constraints c (row_at i there)) constraints (rows i no_class there).1.lawful.covered in (
+        found.0,
+        omega (arith, found.2, limits),
+        in_row i found.0 there found.2
+            ∙ ap (λ (c : Constraint). is_under constraints c (row_at i there)) (get_or_default constraints found.0 no_constraint found.1 found.2 ∙ found.3) ∙ found.4,
+      )
 
   same_mask : (h i : ℕ) (here : h < length classes) (there : i < length classes) → ((k : ℕ) → k < constraints_of program → is_in program h k ≡ is_in program i k) → (class_at h).mask ≡ (class_at i).mask
   same_mask h i here there alike =
