@@ -1,8 +1,7 @@
-ghost use Rattle.std.specs.Prelude.{◌≡◌, ◌≢◌, ◌<◌, ◌≤◌, ◌^◌, ◌∷◌, ◌++◌, ℕ, List, [], Option, Some, None, Contains, MatchOption, OnOk, OnErr};
-ghost use Rattle.pc_base.specs.Counts.{RoseByOne, next_count};
-ghost use Rattle.pc_base.specs.Files.{Files, file_of};
-ghost use Rattle.pc_base.specs.Loads.{Gives, HasLoadCause, Copies};
-ghost use Rattle.pc_base.specs.declared.outside.Loaded.{Loaded};
+ghost use Rattle.std.specs.Prelude.{◌≡◌, ◌≢◌, ◌∷◌, ◌++◌, ℕ, List, [], Some, None, Contains, MatchOption, OnOk, OnErr};
+ghost use Rattle.pc_base.specs.Files.{file_of};
+ghost use Rattle.pc_base.specs.Loads.{Copies};
+ghost use Rattle.pc_base.specs.Shelves.{IsLoad};
 
 use crate::outside::{Loaded, Shelf};
 use pc_list::{Seq, Text};
@@ -69,23 +68,14 @@ impl MemShelf {
 }
 
 impl Shelf for MemShelf {
-    ghost use Rattle.std.specs.Prelude.{Some};
-    ghost use Rattle.pc_base.specs.MemoryLoads.{IsMemoryLoad};
+    ghost use Rattle.pc_base.specs.MemoryLoads.{IsMemoryLoad, told_of};
 
-    ghost files = { λ s. Some s.files };
-
-    ghost faults = { λ s. s.faults };
-
-    ghost calls = { λ s. s.calls };
+    ghost told = { λ s. told_of s };
 
     ghost leads = { λ old name loaded new. IsMemoryLoad old name loaded new };
 
     fn load(&mut self, _alloc: Global, name: &str, into: &mut Vec<u8>, limit: usize) -> Loaded
-        ensures gives { Gives (Some self.old.files) name.now limit result into.new.items }
-        ensures cause { HasLoadCause (Some self.old.files) name.now self.old.faults self.new.faults result }
-        ensures files_stay { self.new.files ≡ self.old.files }
-        ensures faults_stay { self.old.faults ≤ self.new.faults }
-        ensures one_call { RoseByOne self.old.calls self.new.calls }
+        ensures loads { IsLoad (told_of self.old) name.now limit result into.new.items (told_of self.new) }
         ensures leads { IsMemoryLoad self.old name.now result self.new }
     {
         let call = self.calls;

@@ -1,6 +1,7 @@
-ghost use Rattle.std.specs.Prelude.{◌≡◌, ◌≢◌, ◌≤◌, ◌∷◌, ◌++◌, [], take, Some, Contains, OnOk, OnErr};
-ghost use Rattle.pc_base.specs.Counts.{RoseByOne, next_count};
-ghost use Rattle.pc_base.specs.Puts.{Leaves, HasPutCause};
+ghost use Rattle.std.specs.Prelude.{◌≡◌, ◌≢◌, ◌∷◌, ◌++◌, [], take, Contains, OnOk, OnErr};
+ghost use Rattle.pc_base.specs.Counts.{next_count};
+ghost use Rattle.pc_base.specs.MemoryPuts.{told_of};
+ghost use Rattle.pc_base.specs.Shelves.{IsPut};
 ghost use Rattle.pc_base.specs.declared.outside.Put.{Put};
 
 use crate::outside::{Put, Sink};
@@ -56,20 +57,11 @@ impl MemSink {
 }
 
 impl Sink for MemSink {
-    ghost use Rattle.std.specs.Prelude.{Some};
-
-    ghost kept = { λ s. Some s.kept };
-
-    ghost faults = { λ s. s.faults };
-
-    ghost calls = { λ s. s.calls };
+    ghost told = { λ s. told_of s };
 
     /// A put that is to fail and finds no memory counts its fault, appends nothing and answers `Memory`.
     fn put(&mut self, piece: &[u8]) -> Put
-        ensures leaves { Leaves (Some self.old.kept) (Some self.new.kept) piece.now result }
-        ensures cause { HasPutCause self.old.faults self.new.faults result }
-        ensures faults_stay { self.old.faults ≤ self.new.faults }
-        ensures one_call { RoseByOne self.old.calls self.new.calls }
+        ensures puts { IsPut (told_of self.old) piece.now result (told_of self.new) }
 
         // A put that is to fail fails with its front, and is counted; no other is.
         ensures fails_at { Contains self.old.fails self.old.calls → result ≢ Put.All }

@@ -24,11 +24,7 @@ impl<'a, R> HostShelf<'a, R> {
 }
 
 impl<R: Files> Shelf for HostShelf<'_, R> {
-    ghost files = { λ shelf. None };
-
-    ghost faults = { λ shelf. shelf.faults };
-
-    ghost calls = { λ shelf. 0 };
+    ghost told = { λ shelf. record { files = None; faults = shelf.faults; calls = 0 } };
 
     ghost leads = { λ old name loaded new. CountsFault old.faults loaded new.faults };
 
@@ -81,11 +77,7 @@ impl<'a, R> HostSink<'a, R> {
 }
 
 impl<R: Print> Sink for HostSink<'_, R> {
-    ghost kept = { λ sink. None };
-
-    ghost faults = { λ sink. sink.faults };
-
-    ghost calls = { λ sink. 0 };
+    ghost told = { λ sink. record { kept = None; faults = sink.faults; calls = 0 } };
 
     fn put(&mut self, piece: &[u8]) -> Put {
         if write_whole(&mut io::writer(self.rt), piece) {
