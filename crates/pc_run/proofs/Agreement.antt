@@ -19,8 +19,9 @@ use Rattle.pc_run_words.specs.Words.{Asked, CheckNames, check}
 use Rattle.pc_run.specs.declared.input.Claim.{Claim}
 use Rattle.pc_run.specs.declared.input.Input.{Input}
 use Rattle.pc_run.specs.declared.input.Input.TheVariants.{Claims}
-use Rattle.pc_run.specs.Outcome.{Obstacle, as_input, refused, absent, claim_under, ComesTo, AreAccepted}
-use Rattle.pc_run.specs.Replies.{BreaksFirst, BreaksRule, HasVerdict, IsCheckable, IsNoDocument, IsSoundInput, RepliesTo, RepliesToCommand, RepliesToNone, Responds, Says, SaysFault, SaysInput, SaysOutcome, SaysProof, SaysVerdict, SpellsUnbroken, status_of}
+use Rattle.pc_run.specs.Inputs.{IsCheckable, IsSoundInput}
+use Rattle.pc_run.specs.Outcome.{Obstacle, refused, absent, accepted_under, ComesTo, AreAccepted}
+use Rattle.pc_run.specs.Replies.{BreaksFirst, BreaksRule, HasVerdict, IsNoDocument, RepliesTo, RepliesToCommand, RepliesToNone, Responds, Says, SaysFault, SaysInput, SaysOutcome, SaysProof, SaysVerdict, SpellsUnbroken, status_of}
 use Rattle.pc_run.specs.Meaning.{Call, ChecksClaim, IsAnswerable, IsDoneUnlessMemory, IsProved, Means, SaysNoUnlessMemory}
 use Rattle.pc_run.proofs.Answering.{answers, same_names}
 
@@ -70,14 +71,14 @@ not_unread : (status : Status) → (status ≡ ended.Done) ⊎ (status ≡ ended
 not_unread status said is = ⊎_elim (λ done. let both = sym done ∙ is in let no : ⊥ = cc in no) (λ no'. let both = sym no' ∙ is in let no : ⊥ = cc in no) said
 
 module _ (call : Call) (checks : ChecksClaim call) where
-  claim_is : (told : Option Files) (said : Input) → IsSomeAnd told (λ files. claim_under checks.names files ≡ Ok checks.claim) → ComesTo told (check checks.names) (Ok said) → Claims checks.claim ≡ said
+  claim_is : (told : Option Files) (said : Input) → IsSomeAnd told (λ shelf. accepted_under (check checks.names) shelf ≡ Ok (Claims checks.claim)) → ComesTo told (check checks.names) (Ok said) → Claims checks.claim ≡ said
   claim_is None said held comes = absurd held
-  claim_is (Some files) said held comes = let same : as_input Claims (Ok checks.claim) ≡ Ok said = rw held at comes in cc
+  claim_is (Some shelf) said held comes = let same = sym held ∙ comes in cc
 
   module _ (status : Status) (answered : (status ≡ ended.Done) ⊎ (status ≡ ended.SaidNo)) (text : List ℕ) where
-    by_outcome : (outcome : Result Input Obstacle) → IfOk outcome IsSoundInput → Says outcome status text → ComesTo call.reading.files (check checks.names) outcome → SaysOf checks.claim status
+    by_outcome : (outcome : Result Input Obstacle) → IfOk outcome IsSoundInput → Says outcome status text → ComesTo call.reading.before.files (check checks.names) outcome → SaysOf checks.claim status
     by_outcome (Ok said) sound says comes =
-        let same = claim_is call.reading.files said checks.held comes in
+        let same = claim_is call.reading.before.files said checks.held comes in
         let verdict : SaysVerdict checks.claim status text = subst (λ (input : Input). SaysInput input status text) (sym same) says in
         record { verdict = verdict.verdict; holds = verdict.holds; ended = verdict.ended; sound = subst IsSoundInput (sym same) sound }
     by_outcome (Err (refused fault)) sound says comes = absurd (not_malformed status answered says.0)
@@ -87,7 +88,7 @@ module _ (call : Call) (checks : ChecksClaim call) where
     by_reply asked same replies =
         ⊎_elim
         (λ (fault : SaysFault call.reading asked status text). absurd (not_unread status answered fault.ended))
-        (λ (says : SaysOutcome call.reading asked status text). by_outcome says.outcome says.sound says.says (subst (λ (a : Asked). ComesTo call.reading.files a says.outcome) (sym same) says.agrees))
+        (λ (says : SaysOutcome call.reading asked status text). by_outcome says.outcome says.sound says.says (subst (λ (a : Asked). ComesTo call.reading.before.files a says.outcome) (sym same) says.agrees))
         replies
 
     said_of : Responds call.reading call.words status text → SaysOf checks.claim status
@@ -110,15 +111,15 @@ no_not_yes claim status line rule is breaks (verdicts.No other kind) holds ended
 
 -- ---- and the run can be answered
 
-accepted : (told : Option Files) (names : CheckNames) (claim : Claim) → IsSomeAnd told (λ files. claim_under names files ≡ Ok claim) → AreAccepted told (check names)
+accepted : (told : Option Files) (names : CheckNames) (claim : Claim) → IsSomeAnd told (λ shelf. accepted_under (check names) shelf ≡ Ok (Claims claim)) → AreAccepted told (check names)
 accepted None names claim held = absurd held
-accepted (Some files) names claim held = rw held refl
+accepted (Some shelf) names claim held = rw held refl
 
 abbrev can_answer : (call : Call) → ChecksClaim call → IsAnswerable call
 can_answer call checks = record {
   asked = check checks.names;
   command = checks.command;
-  accepted = accepted call.reading.files checks.names checks.claim checks.held;
+  accepted = accepted call.reading.before.files checks.names checks.claim checks.held;
   loads = checks.loads;
   puts = checks.puts;
 }

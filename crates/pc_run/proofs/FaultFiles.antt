@@ -23,6 +23,9 @@ abbrev pub IsOf : {X : Type 0} → FileKind → Result X Fault → Type 0
 IsOf file (Ok x) = ⊤
 IsOf file (Err fault) = fault.file ≡ file
 
+pub fault_of : {X : Type 0} (file : FileKind) (wanted : Result X Fault) (fault : Fault) → IsOf file wanted → wanted ≡ Err fault → fault.file ≡ file
+fault_of file wanted fault is refuses = rw refuses at is
+
 placed_of : {X : Type 0} (file : FileKind) (place : ℕ) (read : Result X Reason) → IsOf file (placed file place read)
 placed_of file place (Ok x) = tt
 placed_of file place (Err reason) = refl

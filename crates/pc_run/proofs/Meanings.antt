@@ -9,7 +9,7 @@ use Rattle.pc_check.specs.declared.verdict.Verdict.{Verdict}
 use Rattle.pc_check.specs.declared.verdict.Verdict.TheVariants as verdicts
 use Rattle.pc_run.specs.declared.input.Input.{Input}
 use Rattle.pc_run.specs.declared.input.Input.TheVariants.{Asks, Proves, Claims, Shows, Makes}
-use Rattle.pc_run.specs.Outcome.{Obstacle, refused, absent, ComesTo}
+use Rattle.pc_run.specs.Outcome.{Obstacle, refused, absent, files_of, ComesTo}
 use Rattle.pc_model.specs.declared.fault.Fault.{Fault}
 use Rattle.pc_run.specs.Reports.{malformed_line}
 use Rattle.pc_run.specs.Replies.{SaysInput, Says, status_of, SaysOutcome, SaysFault, RepliesToCommand, RepliesToNone, LoadsOutcome, Responds}
@@ -42,11 +42,10 @@ told_fault call asked status text command says told = record {
   command = command;
   file = says.file;
   unread = says.unread;
-  loads = says.loads;
   told = subst (λ (t : List ℕ). IsTold call t) says.line told;
 }
 
-answered : (call : Call) (asked : Asked) (status : Status) (text : List ℕ) (input : Input) → command_of call.words ≡ Some asked → ComesTo call.reading.files asked (Ok input) → LoadsAll call.reading.did asked → SaysInput input status text → IsAnswered call status text
+answered : (call : Call) (asked : Asked) (status : Status) (text : List ℕ) (input : Input) → command_of call.words ≡ Some asked → ComesTo call.reading.before.files asked (Ok input) → LoadsAll call.reading (files_of asked) → SaysInput input status text → IsAnswered call status text
 answered call asked status text input command agrees loads says = record { asked = asked; command = command; input = input; agrees = agrees; loads = loads; says = says }
 
 -- what is said of an input is done, or no
@@ -70,7 +69,7 @@ ended_whole call status has end = ⊎_elim (λ done. rw done (rw done at has)) (
 ended_cut_off : (call : Call) (status : Status) → HasWriteFault call → IsEnd status → Means call (after_failed_put status)
 ended_cut_off call status fault end = ⊎_elim (λ done. rw done fault) (λ no. rw no fault) end
 
-told_refusal : (call : Call) (asked : Asked) (text : List ℕ) (fault : Fault) → command_of call.words ≡ Some asked → ComesTo call.reading.files asked (Err (refused fault)) → EndsAt call.reading.did asked fault.file → text ≡ malformed_line fault → IsTold call text → IsRefused call
+told_refusal : (call : Call) (asked : Asked) (text : List ℕ) (fault : Fault) → command_of call.words ≡ Some asked → ComesTo call.reading.before.files asked (Err (refused fault)) → EndsAt call.reading (files_of asked) fault.file → text ≡ malformed_line fault → IsTold call text → IsRefused call
 told_refusal call asked text fault command agrees loads is told = record {
   asked = asked;
   command = command;
@@ -81,7 +80,7 @@ told_refusal call asked text fault command agrees loads is told = record {
 }
 
 -- the whole text was put
-outcome_whole : (call : Call) (asked : Asked) (status : Status) (text : List ℕ) → command_of call.words ≡ Some asked → (outcome : Result Input Obstacle) → Says outcome status text → ComesTo call.reading.files asked outcome → LoadsOutcome call.reading.did asked outcome → IsWritten call text → Means call status
+outcome_whole : (call : Call) (asked : Asked) (status : Status) (text : List ℕ) → command_of call.words ≡ Some asked → (outcome : Result Input Obstacle) → Says outcome status text → ComesTo call.reading.before.files asked outcome → LoadsOutcome call.reading asked outcome → IsWritten call text → Means call status
 outcome_whole call asked status text command (Ok input) says agrees loads written =
     ended_whole call status (record { text = text; answered = answered call asked status text input command agrees loads says; written = written }) (ends input status text says)
 outcome_whole call asked status text command (Err (refused fault)) says agrees loads written =
@@ -103,7 +102,7 @@ means_whole call status text responds written =
     responds
 
 -- a front of it was put
-outcome_cut_off : (call : Call) (asked : Asked) (status : Status) (text : List ℕ) → command_of call.words ≡ Some asked → (outcome : Result Input Obstacle) → Says outcome status text → ComesTo call.reading.files asked outcome → LoadsOutcome call.reading.did asked outcome → IsCutOff call text → Means call (after_failed_put status)
+outcome_cut_off : (call : Call) (asked : Asked) (status : Status) (text : List ℕ) → command_of call.words ≡ Some asked → (outcome : Result Input Obstacle) → Says outcome status text → ComesTo call.reading.before.files asked outcome → LoadsOutcome call.reading asked outcome → IsCutOff call text → Means call (after_failed_put status)
 outcome_cut_off call asked status text command (Ok input) says agrees loads cut =
     ended_cut_off call status (record { status = status; text = text; answered = answered call asked status text input command agrees loads says; cut_off = cut }) (ends input status text says)
 outcome_cut_off call asked status text command (Err (refused fault)) says agrees loads cut =

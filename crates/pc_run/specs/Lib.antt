@@ -1,4 +1,5 @@
 pub mod Answers
+pub mod Inputs
 pub mod Loading
 pub mod Meaning
 pub mod Outcome

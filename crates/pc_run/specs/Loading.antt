@@ -1,125 +1,115 @@
--- What a load and a reading answer, against what the files stand for.
-use Rattle.std.specs.Prelude.{◌≡◌, ℕ, ◌⊎◌, ⊤, List, [], ◌∷◌, ◌++◌, map, Option, Some, None, Result, Ok, Err, IfSome}
+-- Which loads there were of the files of a command, and what was answered, against what the files stand for.
+use Rattle.std.specs.Prelude.{◌≡◌, ℕ, ◌⊎◌, ⊤, List, [], ◌∷◌, ◌++◌, map, take, length, Option, Some, None, Result, Ok, Err, IsOk, IfSome}
 use Rattle.pc_model.specs.declared.fault.FileKind.{FileKind}
 use Rattle.pc_model.specs.declared.fault.FileKind.TheVariants as kinds
+use Rattle.pc_model.specs.declared.fault.Fault.{Fault}
 use Rattle.pc_base.specs.Counts.{Rose}
-use Rattle.pc_base.specs.Files.{Files, IsAbsent}
+use Rattle.pc_base.specs.Files.{IsAbsent}
 use Rattle.pc_base.specs.Loads.{Load, Chain}
+use Rattle.pc_base.specs.Shelves.{ShelfState, AreLoads}
 use Rattle.pc_base.specs.declared.outside.Loaded.{Loaded}
 use Rattle.pc_base.specs.declared.outside.Loaded.TheVariants as loads
-use Rattle.pc_run_words.specs.Words.{BoundNames, Asked, bound, prove, check, show, gen}
+use Rattle.pc_run_words.specs.Words.{Asked}
 use Rattle.pc_run.specs.declared.stop.Stop.{Stop}
 use Rattle.pc_run.specs.declared.stop.Stop.TheVariants as stops
-use Rattle.pc_run.specs.Outcome.{Obstacle, refused}
+use Rattle.pc_run.specs.Outcome.{Obstacle, refused, NamedFile, files_of, value_under, Found, found_in, FilesComeTo}
 
--- what is answered is what the files give, but for want of memory and a load that failed
-abbrev pub Agrees : {X : Type 0} → FileKind → Option Files → (Files → Result X Obstacle) → Result X Stop → Type 0
-Agrees file told wanted (Ok x) = IfSome told (λ files. wanted files ≡ Ok x)
-Agrees file told wanted (Err (stops.Refused fault)) = IfSome told (λ files. wanted files ≡ Err (refused fault))
-Agrees file told wanted (Err (stops.Unread kind)) = kind ≡ file
-Agrees file told wanted (Err stops.Memory) = ⊤
-
--- a load that failed: the count of faults rose, or the shelf does not hold the name
-abbrev pub HasCause : {X : Type 0} → Option Files → List ℕ → ℕ → ℕ → Result X Stop → Type 0
-HasCause told name before now (Ok x) = ⊤
-HasCause told name before now (Err (stops.Refused fault)) = ⊤
-HasCause told name before now (Err (stops.Unread kind)) = Rose before now ⊎ IsAbsent told name
-HasCause told name before now (Err stops.Memory) = ⊤
-
--- the name of a file of a case
-abbrev pub name_in_case : BoundNames → FileKind → List ℕ
-name_in_case names kinds.Schema = names.schema
-name_in_case names kinds.Rows = names.rows
-name_in_case names kinds.Constraints = names.constraints
-name_in_case names other = []
-
--- the name of a file of a command, if it has that file
-abbrev pub name_of : Asked → FileKind → List ℕ
-name_of (bound names) file = name_in_case names file
-name_of (prove names) file = name_in_case names file
-name_of (check names) kinds.Schema = names.schema
-name_of (check names) kinds.Rows = names.rows
-name_of (check names) kinds.Constraints = names.constraints
-name_of (check names) kinds.Document = names.document
-name_of (check names) other = []
-name_of (show names) kinds.Schema = names.schema
-name_of (show names) kinds.Constraints = names.constraints
-name_of (show names) other = []
-name_of (gen numbers) file = []
-
--- ---- which loads there were
-
--- what a shelf tells before and after, how often a load had failed, and which loads led from the one to the other
+-- what a shelf tells before and after, and which loads led from the one to the other
 pub record Reading : Type 1 where
-  pub files : Option Files
-  pub before : ℕ
-  pub after : ℕ
+  pub before : ShelfState
+  pub after : ShelfState
   pub did : List Load → Type 0
 
-abbrev pub reading_of : {S : Type 0} → (S → Option Files) → (S → ℕ) → (S → List ℕ → Loaded → S → Type 0) → S → S → Reading
-reading_of files faults leads old new = record { files = files old; before = faults old; after = faults new; did = Chain leads old new }
+abbrev pub reading_of : {S : Type 0} → (S → ShelfState) → (S → List ℕ → Loaded → S → Type 0) → S → S → Reading
+reading_of told leads old new = record { before = told old; after = told new; did = Chain leads old new }
 
--- a file is loaded once, and gives nothing for this cause
-abbrev pub LoadsInVain : (List Load → Type 0) → FileKind → List ℕ → Stop → Type 0
-LoadsInVain did file name (stops.Refused fault) = (fault.file ≡ file) × (did ((name, loads.Whole) ∷ []) ⊎ did ((name, loads.Long) ∷ []))
-LoadsInVain did file name (stops.Unread kind) = (kind ≡ file) × did ((name, loads.Failed) ∷ [])
-LoadsInVain did file name stops.Memory = (loaded : Loaded) × did ((name, loaded) ∷ [])
+-- why a load of this name failed: the count of faults rose, or the shelf does not hold the name
+abbrev pub HasCause : Reading → List ℕ → Type 0
+HasCause reading name = Rose reading.before.faults reading.after.faults ⊎ IsAbsent reading.before.files name
 
--- a file is loaded once
-abbrev pub LoadsFile : {X : Type 0} → (List Load → Type 0) → FileKind → List ℕ → Result X Stop → Type 0
-LoadsFile did file name (Ok x) = did ((name, loads.Whole) ∷ [])
-LoadsFile did file name (Err stop) = LoadsInVain did file name stop
+-- what is answered is the outcome, but for want of memory and a load that failed
+abbrev pub Agrees : {X : Type 0} → (Result X Obstacle → Type 0) → Result X Stop → Type 0
+Agrees Is (Ok x) = Is (Ok x)
+Agrees Is (Err (stops.Refused fault)) = Is (Err (refused fault))
+Agrees Is (Err (stops.Unread kind)) = ⊤
+Agrees Is (Err stops.Memory) = ⊤
 
--- the files of a command, in the order in which they are loaded
-abbrev pub files_of : Asked → List FileKind
-files_of (bound names) = kinds.Schema ∷ kinds.Rows ∷ kinds.Constraints ∷ []
-files_of (prove names) = kinds.Schema ∷ kinds.Rows ∷ kinds.Constraints ∷ []
-files_of (check names) = kinds.Schema ∷ kinds.Rows ∷ kinds.Constraints ∷ kinds.Document ∷ []
-files_of (show names) = kinds.Schema ∷ kinds.Constraints ∷ []
-files_of (gen numbers) = []
+-- ---- one file
+
+-- it is loaded once, and gives nothing for this cause
+abbrev pub LoadsInVain : Reading → FileKind → List ℕ → Stop → Type 0
+LoadsInVain reading kind name (stops.Refused fault) = (fault.file ≡ kind) × (reading.did ((name, loads.Whole) ∷ []) ⊎ reading.did ((name, loads.Long) ∷ []))
+LoadsInVain reading kind name (stops.Unread file) = (file ≡ kind) × reading.did ((name, loads.Failed) ∷ []) × HasCause reading name
+LoadsInVain reading kind name stops.Memory = (loaded : Loaded) × reading.did ((name, loaded) ∷ [])
+
+-- it is loaded once
+abbrev pub LoadsFile : {X : Type 0} → Reading → FileKind → List ℕ → Result X Stop → Type 0
+LoadsFile reading kind name (Ok x) = reading.did ((name, loads.Whole) ∷ [])
+LoadsFile reading kind name (Err stop) = LoadsInVain reading kind name stop
+
+-- it is loaded once, and what is answered is what its reader is to give
+pub record IsLoaded {X : Type 0} (reading : Reading) (kind : FileKind) (name : List ℕ) (value_of : List ℕ → Result X Fault) (result : Result X Stop) : Type 0 where
+  pub agrees : Agrees (λ outcome. IfSome reading.before.files (λ shelf. value_under kind name value_of shelf ≡ outcome)) result
+  pub loads : LoadsFile reading kind name result
+  pub one_load : AreLoads 1 reading.before reading.after
+
+-- ---- the files of a command
 
 -- each of these files is loaded once, in this order, and is whole
-abbrev pub wholes : Asked → List FileKind → List Load
-wholes asked files = map (λ file. (name_of asked file, loads.Whole)) files
+abbrev pub wholes : List NamedFile → List Load
+wholes files = map (λ file. (file.1, loads.Whole)) files
 
--- the loads were those of all files of the command
-abbrev pub LoadsAll : (List Load → Type 0) → Asked → Type 0
-LoadsAll did asked = did (wholes asked (files_of asked))
+-- the loads were those of all these files
+abbrev pub LoadsAll : Reading → List NamedFile → Type 0
+LoadsAll reading files = reading.did (wholes files)
 
--- the loads were those of the files of the command before this one, which were whole, and one load of this file, which did this
-pub record StopsAt (did : List Load → Type 0) (asked : Asked) (file : FileKind) (loaded : Loaded) : Type 0 where
-  pub front : List FileKind
-  pub rest : List FileKind
-  pub in_order : files_of asked ≡ front ++ file ∷ rest
-  pub loads : did (wholes asked front ++ (name_of asked file, loaded) ∷ [])
+-- The loads were those of the files before the one of this kind, which were whole, and are accepted where the shelf tells them, and
+-- one load of this file, which did this.
+pub record StopsAt (reading : Reading) (files : List NamedFile) (kind : FileKind) (loaded : Loaded) : Type 0 where
+  pub front : List NamedFile
+  pub name : List ℕ
+  pub rest : List NamedFile
+  pub in_order : files ≡ front ++ (kind, name) ∷ rest
+  pub accepted : IfSome reading.before.files (λ shelf. IsOk (found_in front shelf))
+  pub loads : reading.did (wholes front ++ (name, loaded) ∷ [])
 
--- the loads were those of some first files of the command, which were whole
-pub record LoadsFront (did : List Load → Type 0) (asked : Asked) : Type 0 where
-  pub front : List FileKind
-  pub rest : List FileKind
-  pub in_order : files_of asked ≡ front ++ rest
-  pub loads : did (wholes asked front)
+-- the last load failed, for a cause
+pub record IsUnread (reading : Reading) (files : List NamedFile) (kind : FileKind) : Type 0 where
+  pub stopped : StopsAt reading files kind loads.Failed
+  pub cause : HasCause reading stopped.name
 
 -- what is refused is the file that was loaded last, or a query after all files
-abbrev pub EndsAt : (List Load → Type 0) → Asked → FileKind → Type 0
-EndsAt did asked file = (StopsAt did asked file loads.Whole ⊎ StopsAt did asked file loads.Long) ⊎ ((file ≡ kinds.Query) × LoadsAll did asked)
+abbrev pub EndsAt : Reading → List NamedFile → FileKind → Type 0
+EndsAt reading files kind = (StopsAt reading files kind loads.Whole ⊎ StopsAt reading files kind loads.Long) ⊎ ((kind ≡ kinds.Query) × LoadsAll reading files)
 
 -- no file was loaded twice, none before its turn, and none after one that was not whole
-abbrev pub IsInOrder : (List Load → Type 0) → Asked → Type 0
-IsInOrder did asked = LoadsFront did asked ⊎ ((file : FileKind) × (loaded : Loaded) × StopsAt did asked file loaded)
+abbrev pub IsInOrder : Reading → List NamedFile → Type 0
+IsInOrder reading files = ((count : ℕ) × reading.did (wholes (take count files))) ⊎ ((kind : FileKind) × (loaded : Loaded) × StopsAt reading files kind loaded)
 
--- which loads there were, where the files of a command give nothing for this cause
-abbrev pub LoadsUntil : (List Load → Type 0) → Asked → Stop → Type 0
-LoadsUntil did asked (stops.Refused fault) = EndsAt did asked fault.file
-LoadsUntil did asked (stops.Unread file) = StopsAt did asked file loads.Failed
-LoadsUntil did asked stops.Memory = IsInOrder did asked
+-- which loads there were, where these files give nothing for this cause
+abbrev pub LoadsUntil : Reading → List NamedFile → Stop → Type 0
+LoadsUntil reading files (stops.Refused fault) = EndsAt reading files fault.file
+LoadsUntil reading files (stops.Unread kind) = IsUnread reading files kind
+LoadsUntil reading files stops.Memory = IsInOrder reading files
 
--- which loads there were, where reading the files of a command answers this
-abbrev pub LoadsFiles : {X : Type 0} → (List Load → Type 0) → Asked → Result X Stop → Type 0
-LoadsFiles did asked (Ok x) = LoadsAll did asked
-LoadsFiles did asked (Err stop) = LoadsUntil did asked stop
+-- which loads there were, where reading these files answers this
+abbrev pub LoadsFiles : {X : Type 0} → Reading → List NamedFile → Result X Stop → Type 0
+LoadsFiles reading files (Ok x) = LoadsAll reading files
+LoadsFiles reading files (Err stop) = LoadsUntil reading files stop
+
+-- these files are read, each once and in their order, and this was found in them, where the shelf tells them
+pub record AreRead (reading : Reading) (files : List NamedFile) (all : Found) : Type 0 where
+  pub found : IfSome reading.before.files (λ shelf. found_in files shelf ≡ Ok all)
+  pub loads : LoadsAll reading files
+  pub few : AreLoads (length files) reading.before reading.after
+
+-- these files are read, each once and in their order, and what is answered is what they come to
+pub record IsRead {X : Type 0} (reading : Reading) (files : List NamedFile) (meaning : Found → Result X Obstacle) (result : Result X Stop) : Type 0 where
+  pub agrees : Agrees (FilesComeTo reading.before.files files meaning) result
+  pub loads : LoadsFiles reading files result
+  pub few : AreLoads (length files) reading.before reading.after
 
 -- the same of words, which may be no command
-abbrev pub AreInOrder : (List Load → Type 0) → Option Asked → Type 0
-AreInOrder did None = did []
-AreInOrder did (Some asked) = IsInOrder did asked
+abbrev pub AreInOrder : Reading → Option Asked → Type 0
+AreInOrder reading None = reading.did []
+AreInOrder reading (Some asked) = IsInOrder reading (files_of asked)

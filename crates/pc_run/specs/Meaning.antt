@@ -1,29 +1,28 @@
 -- What the status of a run means for the files, the words and what was written.
-use Rattle.std.specs.Prelude.{◌≡◌, ℕ, ◌⊎◌, ◌++◌, take, List, [], Option, Some, None, Ok, Err, IfSome, IsSomeAnd}
+use Rattle.std.specs.Prelude.{◌≡◌, ℕ, ◌⊎◌, ◌++◌, take, List, [], Some, None, Ok, Err, IfSome, IsSomeAnd}
 use Rattle.pc_model.specs.declared.fault.FileKind.{FileKind}
 use Rattle.pc_model.specs.declared.fault.Fault.{Fault}
 use Rattle.pc_base.specs.declared.status.Status.{Status}
 use Rattle.pc_base.specs.declared.status.Status.TheVariants as ended
 use Rattle.pc_base.specs.Counts.{Rose}
-use Rattle.pc_base.specs.declared.outside.Loaded.TheVariants as loadeds
-use Rattle.pc_run_words.specs.Words.{Asked, CheckNames, bound, prove, check, show, gen, command_of}
+use Rattle.pc_base.specs.Shelves.{SinkState}
+use Rattle.pc_run_words.specs.Words.{Asked, CheckNames, check, command_of}
 use Rattle.pc_rows.specs.declared.case.Case.{Case}
 use Rattle.pc_run.specs.declared.input.Claim.{Claim}
 use Rattle.pc_run.specs.declared.input.Input.{Input}
-use Rattle.pc_run.specs.Outcome.{refused, claim_under, ComesTo, AreAccepted}
-use Rattle.pc_run.specs.Loading.{Reading, LoadsAll, StopsAt, EndsAt, AreInOrder}
-use Rattle.pc_run.specs.Replies.{BreaksFirst, IsUnread, SaysInput, SaysProof, SpellsUnbroken}
+use Rattle.pc_run.specs.declared.input.Input.TheVariants.{Claims}
+use Rattle.pc_run.specs.Outcome.{refused, files_of, accepted_under, ComesTo, AreAccepted}
+use Rattle.pc_run.specs.Loading.{Reading, IsUnread, LoadsAll, EndsAt, AreInOrder}
+use Rattle.pc_run.specs.Replies.{BreaksFirst, SaysInput, SaysProof, SpellsUnbroken}
 use Rattle.pc_run.specs.Reports.{usage_line, fault_line, malformed_line}
 
--- what a sink tells before and after: its bytes, where it tells them, and how often a put had failed
+-- what a sink tells before and after
 pub record Writing : Type 0 where
-  pub kept : Option (List ℕ)
-  pub left : Option (List ℕ)
-  pub before : ℕ
-  pub after : ℕ
+  pub before : SinkState
+  pub after : SinkState
 
-abbrev pub writing_of : {S : Type 0} → (S → Option (List ℕ)) → (S → ℕ) → S → S → Writing
-writing_of kept faults old new = record { kept = kept old; left = kept new; before = faults old; after = faults new }
+abbrev pub writing_of : {S : Type 0} → (S → SinkState) → S → S → Writing
+writing_of told old new = record { before = told old; after = told new }
 
 -- what a run is given and what it leaves: the words, the shelf and the sink
 pub record Call : Type 1 where
@@ -36,12 +35,12 @@ call_of words reading writing = record { words = words; reading = reading; writi
 
 -- the whole text was written
 abbrev pub IsWritten : Call → List ℕ → Type 0
-IsWritten call text = IfSome call.writing.kept (λ kept. call.writing.left ≡ Some (kept ++ text))
+IsWritten call text = IfSome call.writing.before.kept (λ kept. call.writing.after.kept ≡ Some (kept ++ text))
 
 -- a front of the text was written, and a put failed in this call
 pub record IsCutOff (call : Call) (text : List ℕ) : Type 0 where
-  pub rose : Rose call.writing.before call.writing.after
-  pub front : IfSome call.writing.kept (λ kept. (n : ℕ) × (call.writing.left ≡ Some (kept ++ take n text)))
+  pub rose : Rose call.writing.before.faults call.writing.after.faults
+  pub front : IfSome call.writing.before.kept (λ kept. (n : ℕ) × (call.writing.after.kept ≡ Some (kept ++ take n text)))
 
 -- a line of a refusal stays what it says where the put of it fails
 abbrev pub IsTold : Call → List ℕ → Type 0
@@ -52,8 +51,8 @@ pub record IsAnswered (call : Call) (status : Status) (text : List ℕ) : Type 0
   pub asked : Asked
   pub command : command_of call.words ≡ Some asked
   pub input : Input
-  pub agrees : ComesTo call.reading.files asked (Ok input)
-  pub loads : LoadsAll call.reading.did asked
+  pub agrees : ComesTo call.reading.before.files asked (Ok input)
+  pub loads : LoadsAll call.reading (files_of asked)
   pub says : SaysInput input status text
 
 -- what is said was written
@@ -78,8 +77,8 @@ pub record IsRefused (call : Call) : Type 0 where
   pub asked : Asked
   pub command : command_of call.words ≡ Some asked
   pub fault : Fault
-  pub agrees : ComesTo call.reading.files asked (Err (refused fault))
-  pub loads : EndsAt call.reading.did asked fault.file
+  pub agrees : ComesTo call.reading.before.files asked (Err (refused fault))
+  pub loads : EndsAt call.reading (files_of asked) fault.file
   pub told : IsTold call (malformed_line fault)
 
 -- the last load failed, and no other
@@ -87,14 +86,13 @@ pub record HasReadFault (call : Call) : Type 0 where
   pub asked : Asked
   pub command : command_of call.words ≡ Some asked
   pub file : FileKind
-  pub unread : IsUnread call.reading asked file
-  pub loads : StopsAt call.reading.did asked file loadeds.Failed
+  pub unread : IsUnread call.reading (files_of asked) file
   pub told : IsTold call (fault_line file)
 
 -- nothing was written
 pub record HasNoMemory (call : Call) : Type 0 where
-  pub nothing_put : call.writing.left ≡ call.writing.kept
-  pub in_order : AreInOrder call.reading.did (command_of call.words)
+  pub nothing_put : call.writing.after.kept ≡ call.writing.before.kept
+  pub in_order : AreInOrder call.reading (command_of call.words)
 
 abbrev pub Means : Call → Status → Type 0
 Means call ended.Done = HasEnded call ended.Done
@@ -109,17 +107,14 @@ Means call ended.Memory = HasNoMemory call
 pub record IsAnswerable (call : Call) : Type 0 where
   pub asked : Asked
   pub command : command_of call.words ≡ Some asked
-  pub accepted : AreAccepted call.reading.files asked
-  pub loads : ¬ Rose call.reading.before call.reading.after
-  pub puts : ¬ Rose call.writing.before call.writing.after
+  pub accepted : AreAccepted call.reading.before.files asked
+  pub loads : ¬ Rose call.reading.before.faults call.reading.after.faults
+  pub puts : ¬ Rose call.writing.before.faults call.writing.after.faults
 
 -- such a run is done, or says no where a document is checked, or there was no memory for it
 abbrev pub IsAnswer : Asked → Status → Type 0
-IsAnswer (bound names) status = status ≡ ended.Done
-IsAnswer (prove names) status = status ≡ ended.Done
 IsAnswer (check names) status = (status ≡ ended.Done) ⊎ (status ≡ ended.SaidNo)
-IsAnswer (show names) status = status ≡ ended.Done
-IsAnswer (gen numbers) status = status ≡ ended.Done
+IsAnswer asked status = status ≡ ended.Done
 
 abbrev pub IsAnswerUnlessMemory : Asked → Status → Type 0
 IsAnswerUnlessMemory asked status = IsAnswer asked status ⊎ (status ≡ ended.Memory)
@@ -132,9 +127,9 @@ pub record ChecksClaim (call : Call) : Type 0 where
   pub names : CheckNames
   pub command : command_of call.words ≡ Some (check names)
   pub claim : Claim
-  pub held : IsSomeAnd call.reading.files (λ files. claim_under names files ≡ Ok claim)
-  pub loads : ¬ Rose call.reading.before call.reading.after
-  pub puts : ¬ Rose call.writing.before call.writing.after
+  pub held : IsSomeAnd call.reading.before.files (λ shelf. accepted_under (check names) shelf ≡ Ok (Claims claim))
+  pub loads : ¬ Rose call.reading.before.faults call.reading.after.faults
+  pub puts : ¬ Rose call.writing.before.faults call.writing.after.faults
 
 -- the bytes are a document that `prove` wrote for the same schema, observed rows and constraints, whatever the queries and the
 -- budget were

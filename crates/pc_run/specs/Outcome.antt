@@ -1,5 +1,5 @@
--- What the files under the names of a command stand for, or what stands in the way.
-use Rattle.std.specs.Prelude.{◌≡◌, ◌+◌, ℕ, ⊤, nat_lt, if◌then◌else◌, List, [], ◌∷◌, length, Option, Some, None, Result, Ok, Err, IfSome, IsSomeAnd, IsOk}
+-- What the files of a command stand for, or what stands in the way.
+use Rattle.std.specs.Prelude.{◌≡◌, ◌+◌, ℕ, nat_lt, if◌then◌else◌, List, [], ◌∷◌, ◌++◌, length, Option, Some, None, Result, Ok, Err, IfSome, IsSomeAnd, IsOk}
 use Rattle.pc_model.specs.declared.schema.Schema.{Schema}
 use Rattle.pc_model.specs.declared.row.Row.{Row}
 use Rattle.pc_model.specs.declared.constraint.Constraint.{Constraint}
@@ -19,7 +19,7 @@ use Rattle.pc_run.specs.declared.input.Claim.{Claim}
 use Rattle.pc_run.specs.declared.input.Input.{Input}
 use Rattle.pc_run.specs.declared.input.Input.TheVariants.{Asks, Proves, Claims, Shows, Makes}
 use Rattle.pc_run.specs.declared.input.Listing.{Listing}
-use Rattle.pc_run_words.specs.Words.{BoundNames, CheckNames, ShowNames, GenNumbers, Asked, bound, prove, check, show, gen}
+use Rattle.pc_run_words.specs.Words.{GenNumbers, Asked, bound, prove, check, show, gen}
 
 -- a file or query that is refused, or a file that is not held
 pub data Obstacle : Type 0 where
@@ -46,23 +46,70 @@ abbrev pub bytes_in : FileKind → Option (List ℕ) → Result (List ℕ) Obsta
 bytes_in file None = Err (absent file)
 bytes_in file (Some bytes) = if nat_lt (limit_of file) (length bytes) then Err (refused (fault_at file 0 reasons.TooLong)) else Ok bytes
 
-unfoldable pub bytes_under : FileKind → List ℕ → Files → Result (List ℕ) Obstacle
-bytes_under file name files = bytes_in file (file_of files name)
+-- ---- the files of a command
 
-unfoldable pub schema_under : List ℕ → Files → Result Schema Obstacle
-schema_under name files = do
-  bytes ← bytes_under kinds.Schema name files
-  or_refused (schema_of bytes)
+-- the kind of a file, and its name
+abbrev pub NamedFile : Type 0
+NamedFile = FileKind × List ℕ
 
-unfoldable pub rows_under : Schema → List ℕ → Files → Result (List Row) Obstacle
-rows_under schema name files = do
-  bytes ← bytes_under kinds.Rows name files
-  or_refused (rows_of schema bytes)
+abbrev pub observed_files : List ℕ → List ℕ → List ℕ → List NamedFile
+observed_files schema rows constraints = (kinds.Schema, schema) ∷ (kinds.Rows, rows) ∷ (kinds.Constraints, constraints) ∷ []
 
-unfoldable pub constraints_under : Schema → List ℕ → Files → Result (List Constraint) Obstacle
-constraints_under schema name files = do
-  bytes ← bytes_under kinds.Constraints name files
-  or_refused (constraints_of schema bytes)
+-- in the order in which they are read
+abbrev pub files_of : Asked → List NamedFile
+files_of (bound names) = observed_files names.schema names.rows names.constraints
+files_of (prove names) = observed_files names.schema names.rows names.constraints
+files_of (check names) = observed_files names.schema names.rows names.constraints ++ (kinds.Document, names.document) ∷ []
+files_of (show names) = (kinds.Schema, names.schema) ∷ (kinds.Constraints, names.constraints) ∷ []
+files_of (gen numbers) = []
+
+-- ---- what they stand for
+
+-- the value of the bytes of a file, by what its reader is to give
+unfoldable pub value_under : {X : Type 0} → FileKind → List ℕ → (List ℕ → Result X Fault) → Files → Result X Obstacle
+value_under kind name value_of shelf = do
+  bytes ← bytes_in kind (file_of shelf name)
+  or_refused (value_of bytes)
+
+-- a file whose bytes are its value
+abbrev pub whole : List ℕ → Result (List ℕ) Fault
+whole bytes = Ok bytes
+
+-- what was found in files; what none of them is for is empty
+pub record Found : Type 0 where
+  pub schema : Schema
+  pub rows : List Row
+  pub constraints : List Constraint
+  pub bytes : List ℕ
+
+abbrev pub nothing : Found
+nothing = record { schema = record { columns = [] }; rows = []; constraints = []; bytes = [] }
+
+-- one more file: rows and constraints are read with the schema that was found before them; no file is for queries
+abbrev pub with_file : Found → FileKind → List ℕ → Files → Result Found Obstacle
+with_file found kinds.Schema name shelf = do
+  schema ← value_under kinds.Schema name schema_of shelf
+  Ok (record found { schema = schema })
+with_file found kinds.Rows name shelf = do
+  rows ← value_under kinds.Rows name (rows_of found.schema) shelf
+  Ok (record found { rows = rows })
+with_file found kinds.Constraints name shelf = do
+  constraints ← value_under kinds.Constraints name (constraints_of found.schema) shelf
+  Ok (record found { constraints = constraints })
+with_file found kinds.Document name shelf = do
+  bytes ← value_under kinds.Document name whole shelf
+  Ok (record found { bytes = bytes })
+with_file found kinds.Query name shelf = Err (absent kinds.Query)
+
+-- what these files give after what was found, or the first obstacle in their order
+unfoldable pub found_after : Found → List NamedFile → Files → Result Found Obstacle
+found_after found [] shelf = Ok found
+found_after found (file ∷ files) shelf = do
+  more ← with_file found file.0 file.1 shelf
+  found_after more files shelf
+
+abbrev pub found_in : List NamedFile → Files → Result Found Obstacle
+found_in files shelf = found_after nothing files shelf
 
 -- the queries of texts, the first of which has this place among them
 unfoldable pub queries_from : Schema → ℕ → List (List ℕ) → Result (List Query) Fault
@@ -75,59 +122,54 @@ queries_from schema place (text ∷ texts) = do
 abbrev pub queries_of : Schema → List (List ℕ) → Result (List Query) Fault
 queries_of schema texts = queries_from schema 1 texts
 
--- of `bound` and `prove`: the files in their order, then the queries
-unfoldable pub case_under : BoundNames → Files → Result Case Obstacle
-case_under names files = do
-  schema ← schema_under names.schema files
-  rows ← rows_under schema names.rows files
-  constraints ← constraints_under schema names.constraints files
-  queries ← or_refused (queries_of schema names.queries)
-  Ok (record { schema = schema; rows = rows; constraints = constraints; queries = queries })
+abbrev pub mapped : {X Y E : Type 0} → (X → Y) → Result X E → Result Y E
+mapped f (Ok x) = Ok (f x)
+mapped f (Err stop) = Err stop
 
--- of `check`: the files in their order, and the bytes of the document
-unfoldable pub claim_under : CheckNames → Files → Result Claim Obstacle
-claim_under names files = do
-  schema ← schema_under names.schema files
-  rows ← rows_under schema names.rows files
-  constraints ← constraints_under schema names.constraints files
-  bytes ← bytes_under kinds.Document names.document files
-  Ok (record { schema = schema; rows = rows; constraints = constraints; bytes = bytes })
+-- a case of what was found and the queries of texts
+abbrev pub case_in : List (List ℕ) → Found → Result Case Obstacle
+case_in texts found = do
+  queries ← or_refused (queries_of found.schema texts)
+  Ok (record { schema = found.schema; rows = found.rows; constraints = found.constraints; queries = queries })
 
--- of `show`: the files in their order
-unfoldable pub listing_under : ShowNames → Files → Result Listing Obstacle
-listing_under names files = do
-  schema ← schema_under names.schema files
-  constraints ← constraints_under schema names.constraints files
-  Ok (record { schema = schema; constraints = constraints })
+abbrev pub claim_in : Found → Claim
+claim_in found = record { schema = found.schema; rows = found.rows; constraints = found.constraints; bytes = found.bytes }
 
-abbrev pub as_input : {X E : Type 0} → (X → Input) → Result X E → Result Input E
-as_input input (Ok x) = Ok (input x)
-as_input input (Err stop) = Err stop
+abbrev pub listing_in : Found → Listing
+listing_in found = record { schema = found.schema; constraints = found.constraints }
 
--- a case that is made
 abbrev pub made : GenNumbers → Input
 made numbers = Makes (record { seed = numbers.seed; size = numbers.size })
 
+-- what a command comes to, with what was found in its files
+abbrev pub input_in : Asked → Found → Result Input Obstacle
+input_in (bound names) found = mapped (Asks names.nodes) (case_in names.queries found)
+input_in (prove names) found = mapped (Proves names.nodes) (case_in names.queries found)
+input_in (check names) found = Ok (Claims (claim_in found))
+input_in (show names) found = Ok (Shows (listing_in found))
+input_in (gen numbers) found = Ok (made numbers)
+
+-- what files come to, by what is made of what was found in them
+abbrev pub outcome_of : {X : Type 0} → List NamedFile → (Found → Result X Obstacle) → Files → Result X Obstacle
+outcome_of files meaning shelf = found_in files shelf >>= meaning
+
 -- what a command comes to with its files
 abbrev pub accepted_under : Asked → Files → Result Input Obstacle
-accepted_under (bound names) files = as_input (Asks names.nodes) (case_under names files)
-accepted_under (prove names) files = as_input (Proves names.nodes) (case_under names files)
-accepted_under (check names) files = as_input Claims (claim_under names files)
-accepted_under (show names) files = as_input Shows (listing_under names files)
-accepted_under (gen numbers) files = Ok (made numbers)
+accepted_under asked shelf = outcome_of (files_of asked) (input_in asked) shelf
+
+-- the files that a shelf tells, where some are needed
+abbrev pub needed : List NamedFile → Option Files → Option Files
+needed [] told = Some []
+needed (file ∷ files) told = told
+
+-- where the shelf tells the files, they come to this
+abbrev pub FilesComeTo : {X : Type 0} → Option Files → List NamedFile → (Found → Result X Obstacle) → Result X Obstacle → Type 0
+FilesComeTo told files meaning outcome = IfSome (needed files told) (λ shelf. outcome_of files meaning shelf ≡ outcome)
 
 -- where the shelf tells its files, the command comes to this with them; a case that is made needs none
 abbrev pub ComesTo : Option Files → Asked → Result Input Obstacle → Type 0
-ComesTo told (bound names) outcome = IfSome told (λ files. accepted_under (bound names) files ≡ outcome)
-ComesTo told (prove names) outcome = IfSome told (λ files. accepted_under (prove names) files ≡ outcome)
-ComesTo told (check names) outcome = IfSome told (λ files. accepted_under (check names) files ≡ outcome)
-ComesTo told (show names) outcome = IfSome told (λ files. accepted_under (show names) files ≡ outcome)
-ComesTo told (gen numbers) outcome = Ok (made numbers) ≡ outcome
+ComesTo told asked outcome = FilesComeTo told (files_of asked) (input_in asked) outcome
 
 -- the shelf tells files that are held and accepted; a case that is made needs none
 abbrev pub AreAccepted : Option Files → Asked → Type 0
-AreAccepted told (bound names) = IsSomeAnd told (λ files. IsOk (accepted_under (bound names) files))
-AreAccepted told (prove names) = IsSomeAnd told (λ files. IsOk (accepted_under (prove names) files))
-AreAccepted told (check names) = IsSomeAnd told (λ files. IsOk (accepted_under (check names) files))
-AreAccepted told (show names) = IsSomeAnd told (λ files. IsOk (accepted_under (show names) files))
-AreAccepted told (gen numbers) = ⊤
+AreAccepted told asked = IsSomeAnd (needed (files_of asked) told) (λ shelf. IsOk (accepted_under asked shelf))

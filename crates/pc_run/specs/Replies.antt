@@ -1,16 +1,10 @@
 -- With which status and text a run replies to the files of a command.
-use Rattle.std.specs.Prelude.{◌≡◌, ◌↔◌, ℕ, ◌⊎◌, ⊤, Bool, false, IsTrue, List, [], length, All, Option, Some, None, Result, Ok, Err, IsOk, IsOkAnd, IfOk, IfSome}
-use Rattle.std.specs.List.{AllPass}
+use Rattle.std.specs.Prelude.{◌≡◌, ◌↔◌, ℕ, ◌⊎◌, ⊤, Bool, false, IsTrue, List, [], length, All, Some, None, Result, Ok, Err, IfOk}
 use Rattle.pc_model.specs.declared.fault.FileKind.{FileKind}
-use Rattle.pc_model.specs.declared.fault.FileKind.TheVariants as kinds
-use Rattle.pc_model.specs.Membership.{in_domain, AreDisjoint}
-use Rattle.pc_model.specs.Accepted.{AreConstraints, IsQuery}
+use Rattle.pc_model.specs.Membership.{AreDisjoint}
 use Rattle.pc_model.specs.Right.{is_impossible}
-use Rattle.pc_model.specs.WellFormed.{IsWellFormed}
 use Rattle.pc_base.specs.declared.status.Status.{Status}
 use Rattle.pc_base.specs.declared.status.Status.TheVariants as ended
-use Rattle.pc_base.specs.Counts.{Rose}
-use Rattle.pc_base.specs.Files.{Files, IsAbsent}
 use Rattle.pc_proof.specs.declared.document.Document.{Document}
 use Rattle.pc_proof.specs.declared.document.Block.{Block}
 use Rattle.pc_proof.specs.Documents.{AreRight, AreUnbroken, IsFirstBrokenIn, premises_of}
@@ -23,11 +17,14 @@ use Rattle.pc_gen.specs.Generated.{generated_case}
 use Rattle.pc_rows.specs.declared.case.Case.{Case}
 use Rattle.pc_run.specs.declared.stop.Stop.{Stop}
 use Rattle.pc_run.specs.declared.stop.Stop.TheVariants as stops
-use Rattle.pc_run_words.specs.Words.{Asked, bound, prove, check, show, gen, command_of, usual_nodes, IsBudget, IsSize}
-use Rattle.pc_run.specs.Outcome.{Obstacle, refused, absent, schema_under, rows_under, constraints_under, ComesTo}
-use Rattle.pc_base.specs.Loads.{Load}
-use Rattle.pc_base.specs.declared.outside.Loaded.TheVariants as loadeds
-use Rattle.pc_run.specs.Loading.{name_of, Reading, LoadsAll, LoadsFiles, StopsAt, EndsAt}
+use Rattle.pc_run_words.specs.declared.command.Gen.{Gen}
+use Rattle.pc_run_words.specs.Words.{Asked, command_of, file_count, usual_nodes}
+use Rattle.pc_run.specs.Outcome.{Obstacle, refused, absent, files_of, ComesTo}
+use Rattle.pc_run.specs.Inputs.{IsSoundInput}
+use Rattle.pc_run.specs.Loading.{Reading, IsUnread, LoadsAll, EndsAt, AreInOrder, IsInOrder}
+use Rattle.pc_run.specs.declared.reply.Reply.{Reply}
+use Rattle.pc_num.specs.declared.memory.Memory.{Memory}
+use Rattle.pc_base.specs.Shelves.{ShelfState, AreLoads}
 use Rattle.pc_run.specs.Reports.{usage_line, fault_line, malformed_line, listing_of, yes_line, no_line}
 use Rattle.pc_run.specs.Answers.{AnswersCase}
 use Rattle.pc_check.specs.declared.verdict.Verdict.{Verdict}
@@ -36,60 +33,6 @@ use Rattle.pc_run.specs.declared.input.Claim.{Claim}
 use Rattle.pc_run.specs.declared.input.Input.{Input}
 use Rattle.pc_run.specs.declared.input.Input.TheVariants.{Asks, Proves, Claims, Shows, Makes}
 use Rattle.pc_run.specs.declared.input.Listing.{Listing}
-
--- what the answer and its report need of what was read
-pub record IsSound (case : Case) : Type 0 where
-  pub well_formed : IsWellFormed case.schema
-  pub seen : AllPass (in_domain case.schema) case.rows
-  pub accepted : AreConstraints case.schema case.constraints
-  pub asked : All (IsQuery case.schema) case.queries
-
--- what the check of a document needs of what was read
-pub record IsCheckable (claim : Claim) : Type 0 where
-  pub well_formed : IsWellFormed claim.schema
-  pub seen : AllPass (in_domain claim.schema) claim.rows
-  pub accepted : AreConstraints claim.schema claim.constraints
-
--- what the text of constraints needs of what was read
-pub record IsShowable (listing : Listing) : Type 0 where
-  pub well_formed : IsWellFormed listing.schema
-  pub accepted : AreConstraints listing.schema listing.constraints
-
--- this is a file of the command, and those before it are accepted where the shelf tells its files
-abbrev pub IsReached : Option Files → Asked → FileKind → Type 0
-IsReached told (gen numbers) file = ⊥
-IsReached told asked kinds.Schema = ⊤
-IsReached told (bound names) kinds.Rows = IfSome told (λ files. IsOk (schema_under names.schema files))
-IsReached told (bound names) kinds.Constraints = IfSome told (λ files. IsOkAnd (schema_under names.schema files) (λ schema. IsOk (rows_under schema names.rows files)))
-IsReached told (prove names) kinds.Rows = IfSome told (λ files. IsOk (schema_under names.schema files))
-IsReached told (prove names) kinds.Constraints = IfSome told (λ files. IsOkAnd (schema_under names.schema files) (λ schema. IsOk (rows_under schema names.rows files)))
-IsReached told (check names) kinds.Rows = IfSome told (λ files. IsOk (schema_under names.schema files))
-IsReached told (check names) kinds.Constraints = IfSome told (λ files. IsOkAnd (schema_under names.schema files) (λ schema. IsOk (rows_under schema names.rows files)))
-IsReached told (check names) kinds.Document =
-    IfSome told (λ files. IsOkAnd (schema_under names.schema files) (λ schema. IsOk (rows_under schema names.rows files) × IsOk (constraints_under schema names.constraints files)))
-IsReached told (show names) kinds.Constraints = IfSome told (λ files. IsOk (schema_under names.schema files))
-IsReached told asked other = ⊥
-
--- a load of this file failed: the count of faults rose, or the shelf does not hold the name
-pub record IsUnread (reading : Reading) (asked : Asked) (file : FileKind) : Type 0 where
-  pub reached : IsReached reading.files asked file
-  pub cause : Rose reading.before reading.after ⊎ IsAbsent reading.files (name_of asked file)
-
--- why the files of a command give nothing
-abbrev pub StopAgrees : Reading → Asked → Stop → Type 0
-StopAgrees reading asked (stops.Refused fault) = ComesTo reading.files asked (Err (refused fault))
-StopAgrees reading asked (stops.Unread file) = IsUnread reading asked file
-StopAgrees reading asked stops.Memory = ⊤
-
--- what reading the files of a command answers
-abbrev pub InputAgrees : Reading → Asked → Result Input Stop → Type 0
-InputAgrees reading asked (Ok input) = ComesTo reading.files asked (Ok input)
-InputAgrees reading asked (Err stop) = StopAgrees reading asked stop
-
--- the files of a command are read, each once and in their order
-pub record IsRead (reading : Reading) (asked : Asked) (result : Result Input Stop) : Type 0 where
-  pub agrees : InputAgrees reading asked result
-  pub loads : LoadsFiles reading.did asked result
 
 -- the reply where files give nothing
 abbrev pub RepliesToStop : Stop → Status → List ℕ → Type 0
@@ -164,12 +107,19 @@ pub record SaysVerdict (claim : Claim) (status : Status) (text : List ℕ) : Typ
 abbrev pub IsPossibleBlock : Block → Type 0
 IsPossibleBlock block = is_impossible (plain_relation block.answer.relation) ≡ false
 
+-- the case that a seed and a size make
+abbrev pub made_case : Gen → Case
+made_case numbers = generated_case numbers.seed numbers.size
+
+abbrev pub summary_of : Case → Document → List ℕ
+summary_of case document = summary_text case.schema (length case.rows) (length case.constraints) document
+
 -- the text is the summary of a document that answers the case, and says of no query that no relation is possible
 pub record SaysSummary (case : Case) (text : List ℕ) : Type 0 where
   pub document : Document
   pub answers : AnswersCase usual_nodes case document
   pub possible : All IsPossibleBlock document.blocks
-  pub summed : text ≡ summary_text case.schema (length case.rows) (length case.constraints) document
+  pub summed : text ≡ summary_of case document
 
 -- the text is that of the constraints, and then it says whether no two of them speak of one row
 pub record SaysListing (listing : Listing) (text : List ℕ) : Type 0 where
@@ -182,7 +132,7 @@ SaysInput (Asks nodes case) status text = (status ≡ ended.Done) × SaysReport 
 SaysInput (Proves nodes case) status text = (status ≡ ended.Done) × SaysProof nodes case text
 SaysInput (Claims claim) status text = SaysVerdict claim status text
 SaysInput (Shows listing) status text = (status ≡ ended.Done) × SaysListing listing text
-SaysInput (Makes numbers) status text = (status ≡ ended.Done) × SaysSummary (generated_case numbers.seed numbers.size) text
+SaysInput (Makes numbers) status text = (status ≡ ended.Done) × SaysSummary (made_case numbers) text
 
 -- the reply to files that are accepted, or refused
 abbrev pub Says : Result Input Obstacle → Status → List ℕ → Type 0
@@ -190,33 +140,24 @@ Says (Ok input) status text = SaysInput input status text
 Says (Err (refused fault)) status text = (status ≡ ended.Malformed) × (text ≡ malformed_line fault)
 Says (Err (absent file)) status text = ⊥
 
--- what was read is as its command needs it
-abbrev pub IsSoundInput : Input → Type 0
-IsSoundInput (Asks nodes case) = IsSound case × IsBudget nodes
-IsSoundInput (Proves nodes case) = IsSound case × IsBudget nodes
-IsSoundInput (Claims claim) = IsCheckable claim
-IsSoundInput (Shows listing) = IsShowable listing
-IsSoundInput (Makes numbers) = IsSize numbers.size
-
 -- which loads there were before this outcome
-abbrev pub LoadsOutcome : (List Load → Type 0) → Asked → Result Input Obstacle → Type 0
-LoadsOutcome did asked (Ok input) = LoadsAll did asked
-LoadsOutcome did asked (Err (refused fault)) = EndsAt did asked fault.file
-LoadsOutcome did asked (Err (absent file)) = ⊤
+abbrev pub LoadsOutcome : Reading → Asked → Result Input Obstacle → Type 0
+LoadsOutcome reading asked (Ok input) = LoadsAll reading (files_of asked)
+LoadsOutcome reading asked (Err (refused fault)) = EndsAt reading (files_of asked) fault.file
+LoadsOutcome reading asked (Err (absent file)) = ⊤
 
 -- the reply to an outcome, which is that of the files where the shelf tells them
 pub record SaysOutcome (reading : Reading) (asked : Asked) (status : Status) (text : List ℕ) : Type 0 where
   pub outcome : Result Input Obstacle
   pub sound : IfOk outcome IsSoundInput
   pub says : Says outcome status text
-  pub agrees : ComesTo reading.files asked outcome
-  pub loads : LoadsOutcome reading.did asked outcome
+  pub agrees : ComesTo reading.before.files asked outcome
+  pub loads : LoadsOutcome reading asked outcome
 
 -- the reply to a load that failed, which was the last one
 pub record SaysFault (reading : Reading) (asked : Asked) (status : Status) (text : List ℕ) : Type 0 where
   pub file : FileKind
-  pub unread : IsUnread reading asked file
-  pub loads : StopsAt reading.did asked file loadeds.Failed
+  pub unread : IsUnread reading (files_of asked) file
   pub ended : status ≡ ended.ReadFault
   pub line : text ≡ fault_line file
 
@@ -238,3 +179,19 @@ pub record RepliesToNone (reading : Reading) (words : List (List ℕ)) (status :
 -- the reply to any words
 abbrev pub Responds : Reading → List (List ℕ) → Status → List ℕ → Type 0
 Responds reading words status text = RepliesToNone reading words status text ⊎ RepliesToCommand reading words status text
+
+-- at most as many loads as the command that the words are has files
+abbrev pub AreLoadsFor : List (List ℕ) → ShelfState → ShelfState → Type 0
+AreLoadsFor words before after = AreLoads (file_count (command_of words)) before after
+
+-- what is answered to a command, and which loads there were
+pub record AnswersCommand (reading : Reading) (asked : Asked) (result : Result Reply Memory) : Type 0 where
+  pub replies : IfOk result (λ reply. RepliesTo reading asked reply.status reply.text.items)
+  pub in_order : IsInOrder reading (files_of asked)
+  pub few : AreLoads (length (files_of asked)) reading.before reading.after
+
+-- what is answered to any words
+pub record AnswersWords (reading : Reading) (words : List (List ℕ)) (result : Result Reply Memory) : Type 0 where
+  pub responds : IfOk result (λ reply. Responds reading words reply.status reply.text.items)
+  pub in_order : AreInOrder reading (command_of words)
+  pub few : AreLoadsFor words reading.before reading.after

@@ -1,20 +1,18 @@
-ghost use Rattle.std.specs.Prelude.{◌≡◌, ◌≤◌, ◌+◌, map, Some, All, IfOk};
+ghost use Rattle.std.specs.Prelude.{◌≡◌, map, All, IfOk};
 ghost use Rattle.pc_model.specs.Accepted.{IsQuery};
 ghost use Rattle.pc_model.specs.Refusals.{Gives};
 ghost use Rattle.pc_model.specs.WellFormed.{IsWellFormed};
-ghost use Rattle.pc_run_words.specs.Commands.{asked_in, bound_names, check_names, show_names, HasNumbers};
-ghost use Rattle.pc_run_words.specs.Words.{bound, check, show, file_count};
-ghost use Rattle.pc_run.specs.declared.input.Input.TheVariants.{Asks};
+ghost use Rattle.pc_run_words.specs.Commands.{HasNumbers};
 ghost use Rattle.pc_run.specs.Loading.{reading_of};
-ghost use Rattle.pc_run.specs.Outcome.{as_input, queries_of};
-ghost use Rattle.pc_run.specs.Replies.{IsRead, IsSound, IsSoundInput};
+ghost use Rattle.pc_run.specs.Outcome.{queries_of};
+ghost use Rattle.pc_run.specs.Inputs.{IsUsable, IsSound, IsSoundInput, ReadsCase, ReadsClaim, ReadsCommand, ReadsListing, ReadsObserved};
 
-use crate::loading::{load_constraints, load_document, load_rows, load_schema};
+use crate::loading::{load_bytes, load_constraints, load_rows, load_schema};
 use crate::stop::Stop;
 use pc_base::Shelf;
 use pc_lang::read_query;
 use pc_list::Seq;
-use pc_model::{Constraint, Query, Refusal, Schema};
+use pc_model::{Constraint, FileKind, Query, Refusal, Schema};
 use pc_rows::{Case, Rows};
 use pc_run_words::{Bound, Check, Command, Gen, Show};
 use std::alloc::Global;
@@ -35,6 +33,14 @@ pub(crate) struct Listing {
     pub constraints: Seq<Constraint>,
 }
 
+/// The schema, the observed rows and the constraints of a command.
+#[derive(Debug, Drop)]
+pub(crate) struct Observed {
+    pub schema: Schema,
+    pub rows: Rows,
+    pub constraints: Seq<Constraint>,
+}
+
 /// What a command comes to with its files: a case that is asked about, or answered with proofs, by searches of at most so
 /// many nodes each; a document that is checked; constraints that are shown; or a case that is made.
 #[derive(Debug, Drop)]
@@ -47,18 +53,14 @@ pub(crate) enum Input {
 }
 
 /// Reads the files of a command in their order, each once.
-#[tactic(auto, using(crate::proofs::Cases::proves_case, crate::proofs::ReadFiles::made_is_read))]
 pub(crate) fn read_input<F: Shelf>(
     alloc: Global,
     files: &mut F,
     command: &Command,
 ) -> Result<Input, Stop>
     requires { HasNumbers command.now }
-    ensures is_read { IsRead (reading_of F.files F.faults F.leads files.old files.new) (asked_in command.now) result }
+    ensures read { ReadsCommand (reading_of F.told F.leads files.old files.new) command.now result }
     ensures sound { IfOk result IsSoundInput }
-    ensures files_stay { F.files files.new ≡ F.files files.old }
-    ensures faults_stay { F.faults files.old ≤ F.faults files.new }
-    ensures calls { F.calls files.new ≤ F.calls files.old + file_count (Some (asked_in command.now)) }
 {
     match command {
         Command::Bound(command) => match read_case(alloc, files, command) {
@@ -82,54 +84,51 @@ pub(crate) fn read_input<F: Shelf>(
 }
 
 /// Reads the files of `bound`, and then its queries. Those of `prove` are read alike.
-#[tactic(auto, using(pc_model::proofs::FewNames::have_few_names))]
 fn read_case<F: Shelf>(alloc: Global, files: &mut F, command: &Bound) -> Result<Case, Stop>
-    ensures is_read { IsRead (reading_of F.files F.faults F.leads files.old files.new) (bound (bound_names command.now)) (as_input (Asks command.now.nodes) result) }
+    ensures read { ReadsCase (reading_of F.told F.leads files.old files.new) command.now result }
     ensures sound { IfOk result IsSound }
-    ensures files_stay { F.files files.new ≡ F.files files.old }
-    ensures faults_stay { F.faults files.old ≤ F.faults files.new }
-    ensures calls { F.calls files.new ≤ F.calls files.old + 3 }
 {
-    let schema = load_schema(alloc, files, command.schema)?;
-    let rows = load_rows(alloc, files, command.rows, &schema)?;
-    let constraints = load_constraints(alloc, files, command.constraints, &schema)?;
-    let queries = read_queries(alloc, &schema, command.queries.as_slice())?;
+    let observed = read_observed(
+        alloc,
+        files,
+        command.schema,
+        command.rows,
+        command.constraints,
+    )?;
+    let queries = read_queries(alloc, &observed.schema, command.queries.as_slice())?;
     Ok(Case {
-        schema,
-        rows,
-        constraints,
+        schema: observed.schema,
+        rows: observed.rows,
+        constraints: observed.constraints,
         queries,
     })
 }
 
 /// Reads the files of `check`, and loads the document.
-#[tactic(auto, using(pc_model::proofs::FewNames::have_few_names))]
 fn read_claim<F: Shelf>(alloc: Global, files: &mut F, command: &Check) -> Result<Input, Stop>
-    ensures is_read { IsRead (reading_of F.files F.faults F.leads files.old files.new) (check (check_names command.now)) result }
+    ensures read { ReadsClaim (reading_of F.told F.leads files.old files.new) command.now result }
     ensures sound { IfOk result IsSoundInput }
-    ensures files_stay { F.files files.new ≡ F.files files.old }
-    ensures faults_stay { F.faults files.old ≤ F.faults files.new }
-    ensures calls { F.calls files.new ≤ F.calls files.old + 4 }
 {
-    let schema = load_schema(alloc, files, command.schema)?;
-    let rows = load_rows(alloc, files, command.rows, &schema)?;
-    let constraints = load_constraints(alloc, files, command.constraints, &schema)?;
-    let bytes = load_document(alloc, files, command.document)?;
+    let observed = read_observed(
+        alloc,
+        files,
+        command.schema,
+        command.rows,
+        command.constraints,
+    )?;
+    let bytes = load_bytes(alloc, files, FileKind::Document, command.document)?;
     Ok(Input::Claims(Claim {
-        schema,
-        rows,
-        constraints,
+        schema: observed.schema,
+        rows: observed.rows,
+        constraints: observed.constraints,
         bytes,
     }))
 }
 
 /// Reads the files of `show`.
 fn read_listing<F: Shelf>(alloc: Global, files: &mut F, command: &Show) -> Result<Input, Stop>
-    ensures is_read { IsRead (reading_of F.files F.faults F.leads files.old files.new) (show (show_names command.now)) result }
+    ensures read { ReadsListing (reading_of F.told F.leads files.old files.new) command.now result }
     ensures sound { IfOk result IsSoundInput }
-    ensures files_stay { F.files files.new ≡ F.files files.old }
-    ensures faults_stay { F.faults files.old ≤ F.faults files.new }
-    ensures calls { F.calls files.new ≤ F.calls files.old + 2 }
 {
     let schema = load_schema(alloc, files, command.schema)?;
     let constraints = load_constraints(alloc, files, command.constraints, &schema)?;
@@ -137,6 +136,28 @@ fn read_listing<F: Shelf>(alloc: Global, files: &mut F, command: &Show) -> Resul
         schema,
         constraints,
     }))
+}
+
+/// Reads a schema, observed rows and constraints, which the files of a command begin with.
+#[tactic(auto, using(pc_model::proofs::FewNames::have_few_names))]
+fn read_observed<F: Shelf>(
+    alloc: Global,
+    files: &mut F,
+    schema: &str,
+    rows: &str,
+    constraints: &str,
+) -> Result<Observed, Stop>
+    ensures read { ReadsObserved (reading_of F.told F.leads files.old files.new) schema.now rows.now constraints.now result }
+    ensures sound { IfOk result IsUsable }
+{
+    let schema = load_schema(alloc, files, schema)?;
+    let rows = load_rows(alloc, files, rows, &schema)?;
+    let constraints = load_constraints(alloc, files, constraints, &schema)?;
+    Ok(Observed {
+        schema,
+        rows,
+        constraints,
+    })
 }
 
 /// Reads the queries in their order. The place of a fault is that of the query among them.

@@ -2,7 +2,7 @@
 #![tactic(auto)]
 
 ghost use Rattle.std.specs.Prelude.{◌≡◌, ◌≤◌, ◌+◌, ℕ, map, string_bytes};
-ghost use Rattle.pc_run_words.specs.Words.{command_of, file_count};
+ghost use Rattle.pc_run.specs.Replies.{AreLoadsFor};
 ghost use Rattle.pc_run.specs.Meaning.{KeepsPromise, call_of, writing_of, after_failed_put};
 ghost use Rattle.pc_run.specs.Loading.{reading_of};
 
@@ -24,10 +24,9 @@ use std::alloc::Global;
 /// Runs the command that the words are: loads its files, each at most once, and writes its report or the line of a
 /// refusal by at most one put.
 pub fn run<F: Shelf, K: Sink>(alloc: Global, words: &[String], files: &mut F, out: &mut K) -> Status
-    ensures promise { KeepsPromise (call_of (map string_bytes words.now) (reading_of F.files F.faults F.leads files.old files.new) (writing_of K.kept K.faults out.old out.new)) result }
-    ensures files_stay { F.files files.new ≡ F.files files.old }
-    ensures loads { F.calls files.new ≤ F.calls files.old + file_count (command_of (map string_bytes words.now)) }
-    ensures puts { K.calls out.new ≤ K.calls out.old + 1 }
+    ensures promise { KeepsPromise (call_of (map string_bytes words.now) (reading_of F.told F.leads files.old files.new) (writing_of K.told out.old out.new)) result }
+    ensures loads { AreLoadsFor (map string_bytes words.now) (F.told files.old) (F.told files.new) }
+    ensures puts { (K.told out.new).calls ≤ (K.told out.old).calls + 1 }
 {
     let Ok(reply) = respond(alloc, words, files) else {
         return Status::Memory;

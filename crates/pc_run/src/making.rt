@@ -1,11 +1,9 @@
-ghost use Rattle.std.specs.Prelude.{◌≡◌, length, All, IfOk};
-ghost use Rattle.pc_gen.specs.Generated.{generated_case};
+ghost use Rattle.std.specs.Prelude.{◌≡◌, All, IfOk};
 ghost use Rattle.pc_model.specs.Accepted.{IsQuery};
 ghost use Rattle.pc_model.specs.WellFormed.{IsWellFormed};
 ghost use Rattle.pc_proof.specs.declared.document.Block.{Block};
-ghost use Rattle.pc_report.specs.Summary.{summary_text};
 ghost use Rattle.pc_report.specs.Units.{HasAverages};
-ghost use Rattle.pc_run.specs.Replies.{SaysSummary};
+ghost use Rattle.pc_run.specs.Replies.{SaysSummary, made_case, summary_of};
 ghost use Rattle.pc_run_words.specs.Words.{IsSize};
 
 use pc_gen::generate;
@@ -20,7 +18,7 @@ use std::alloc::Global;
 /// The summary of the answers to the case that a seed and a size make.
 pub(crate) fn summarize(alloc: Global, command: &Gen) -> Result<Vec<u8>, Memory>
     requires { IsSize command.now.size }
-    ensures { IfOk result (λ text. SaysSummary (generated_case command.now.seed command.now.size) text.items) }
+    ensures { IfOk result (λ text. SaysSummary (made_case command.now) text.items) }
 {
     let case = generate(alloc, command.seed, command.size)?;
     let document = answer_all(alloc, &case, USUAL_NODES)?;
@@ -31,7 +29,7 @@ fn summary_of(alloc: Global, case: &Case, document: &Document) -> Result<Vec<u8>
     requires well_formed { IsWellFormed case.now.schema }
     requires queries { All (λ (block : Block). IsQuery case.now.schema block.query) document.now.blocks }
     requires averages { All HasAverages document.now.blocks }
-    ensures { IfOk result (λ text. text.items ≡ summary_text case.now.schema (length case.now.rows) (length case.now.constraints) document.now) }
+    ensures { IfOk result (λ text. text.items ≡ summary_of case.now document.now) }
 {
     let mut text = Vec::new(alloc);
     let constraints = case.constraints.len() as u64;

@@ -1,9 +1,9 @@
-ghost use Rattle.std.specs.Prelude.{◌≡◌, ◌≤◌, ◌+◌, map, Some, IfOk, string_bytes};
-ghost use Rattle.pc_base.specs.Loads.{Chain};
+ghost use Rattle.std.specs.Prelude.{◌≡◌, map, IfOk, string_bytes};
 ghost use Rattle.pc_run_words.specs.Commands.{asked_in, HasNumbers};
-ghost use Rattle.pc_run_words.specs.Words.{command_of, file_count, IsBudget};
-ghost use Rattle.pc_run.specs.Loading.{reading_of, AreInOrder, IsInOrder};
-ghost use Rattle.pc_run.specs.Replies.{IsSound, IsSoundInput, RepliesTo, RepliesToStop, Responds, SaysInput, SaysProof, SaysReport};
+ghost use Rattle.pc_run_words.specs.Words.{IsBudget};
+ghost use Rattle.pc_run.specs.Inputs.{IsSound, IsSoundInput};
+ghost use Rattle.pc_run.specs.Loading.{reading_of};
+ghost use Rattle.pc_run.specs.Replies.{AnswersWords, AnswersCommand, RepliesToStop, SaysInput, SaysProof, SaysReport};
 
 use crate::input::{Input, read_input};
 use crate::line::{fault_line, malformed_line, usage_line};
@@ -28,17 +28,13 @@ pub(crate) struct Reply {
 }
 
 /// The reply to any words.
-#[tactic(auto, using(crate::proofs::Chains::order_of_command, crate::proofs::Chains::nothing_loaded))]
+#[tactic(auto, using(crate::proofs::StopReplies::none_answers))]
 pub(crate) fn respond<F: Shelf>(
     alloc: Global,
     words: &[String],
     files: &mut F,
 ) -> Result<Reply, Memory>
-    ensures responds { IfOk result (λ reply. Responds (reading_of F.files F.faults F.leads files.old files.new) (map string_bytes words.now) reply.status reply.text.items) }
-    ensures in_order { AreInOrder (Chain F.leads files.old files.new) (command_of (map string_bytes words.now)) }
-    ensures files_stay { F.files files.new ≡ F.files files.old }
-    ensures faults_stay { F.faults files.old ≤ F.faults files.new }
-    ensures calls { F.calls files.new ≤ F.calls files.old + file_count (command_of (map string_bytes words.now)) }
+    ensures { AnswersWords (reading_of F.told F.leads files.old files.new) (map string_bytes words.now) result }
 {
     match read_command(alloc, words)? {
         Some(command) => reply_to(alloc, files, &command),
@@ -50,14 +46,9 @@ pub(crate) fn respond<F: Shelf>(
 }
 
 /// The reply to a command.
-#[tactic(auto, using(crate::proofs::StopReplies::input_replies, crate::proofs::StopReplies::stop_replies))]
 fn reply_to<F: Shelf>(alloc: Global, files: &mut F, command: &Command) -> Result<Reply, Memory>
     requires { HasNumbers command.now }
-    ensures replies { IfOk result (λ reply. RepliesTo (reading_of F.files F.faults F.leads files.old files.new) (asked_in command.now) reply.status reply.text.items) }
-    ensures in_order { IsInOrder (Chain F.leads files.old files.new) (asked_in command.now) }
-    ensures files_stay { F.files files.new ≡ F.files files.old }
-    ensures faults_stay { F.faults files.old ≤ F.faults files.new }
-    ensures calls { F.calls files.new ≤ F.calls files.old + file_count (Some (asked_in command.now)) }
+    ensures { AnswersCommand (reading_of F.told F.leads files.old files.new) (asked_in command.now) result }
 {
     match read_input(alloc, files, command) {
         Ok(input) => reply_with(alloc, &input),

@@ -1,5 +1,6 @@
 ghost use Rattle.std.specs.Prelude.{◌≡◌, IfOk};
-ghost use Rattle.pc_run.specs.Replies.{IsShowable, SaysListing};
+ghost use Rattle.pc_run.specs.Inputs.{IsShowable};
+ghost use Rattle.pc_run.specs.Replies.{SaysListing};
 ghost use Rattle.pc_run.specs.Reports.{disjoint_line, listing_of};
 
 use crate::input::Listing;

@@ -1,5 +1,6 @@
 ghost use Rattle.std.specs.Prelude.{◌≡◌, IfOk};
-ghost use Rattle.pc_run.specs.Replies.{HasVerdict, IsCheckable, SaysVerdict, status_of};
+ghost use Rattle.pc_run.specs.Inputs.{IsCheckable};
+ghost use Rattle.pc_run.specs.Replies.{HasVerdict, SaysVerdict, status_of};
 
 use crate::input::Claim;
 use crate::line::verdict_line;

@@ -7,16 +7,16 @@ use Rattle.pc_run.proofs.run.Goals as goal
 
 pub returns-in-All-clause-promise : goal.returns-in-All-clause-promise
 returns-in-All-clause-promise g c =
-    let leaves = rw c.as_slice.ensures.value at c.in-All.ensures.leaves in
-    keeps_whole
-    (call_of (map string_bytes c.args.words.now) (reading_of g.F.Shelf.files g.F.Shelf.faults g.F.Shelf.leads c.args.files.now c.respond.new.files) (writing_of g.K.Sink.kept g.K.Sink.faults c.args.out.now c.put.new.self))
-    c.in-Ok.reply.status c.in-Ok.reply.text.items c.in-Ok.ensures.responds
-    (written_from (g.K.Sink.kept c.args.out.now) (g.K.Sink.kept c.put.new.self) c.in-Ok.reply.text.items leaves)
+    let reading = reading_of g.F.Shelf.told g.F.Shelf.leads c.args.files.now c.respond.new.files in
+    let writing = writing_of g.K.Sink.told c.args.out.now c.put.new.self in
+    let leaves = rw c.as_slice.ensures.value at c.in-All.ensures.puts.leaves in
+    keeps_whole (call_of (map string_bytes c.args.words.now) reading writing) c.in-Ok.reply.status c.in-Ok.reply.text.items c.in-Ok.ensures.responds
+    (written_from writing.before.kept writing.after.kept c.in-Ok.reply.text.items leaves)
 
 pub returns-in-Failed-clause-promise : goal.returns-in-Failed-clause-promise
 returns-in-Failed-clause-promise g c =
-    let leaves = rw c.as_slice.ensures.value at c.in-Failed.ensures.leaves in
-    rw c.after_failed_put.ensures (keeps_cut_off
-    (call_of (map string_bytes c.args.words.now) (reading_of g.F.Shelf.files g.F.Shelf.faults g.F.Shelf.leads c.args.files.now c.respond.new.files) (writing_of g.K.Sink.kept g.K.Sink.faults c.args.out.now c.put.new.self))
-    c.in-Ok.reply.status c.in-Ok.reply.text.items c.in-Ok.ensures.responds
-    (record { rose = c.in-Failed.ensures.cause; front = front_from (g.K.Sink.kept c.args.out.now) (g.K.Sink.kept c.put.new.self) c.in-Ok.reply.text.items leaves }))
+    let reading = reading_of g.F.Shelf.told g.F.Shelf.leads c.args.files.now c.respond.new.files in
+    let writing = writing_of g.K.Sink.told c.args.out.now c.put.new.self in
+    let leaves = rw c.as_slice.ensures.value at c.in-Failed.ensures.puts.leaves in
+    rw c.after_failed_put.ensures (keeps_cut_off (call_of (map string_bytes c.args.words.now) reading writing) c.in-Ok.reply.status c.in-Ok.reply.text.items c.in-Ok.ensures.responds
+    (record { rose = c.in-Failed.ensures.puts.cause; front = front_from writing.before.kept writing.after.kept c.in-Ok.reply.text.items leaves }))

@@ -1,0 +1,73 @@
+-- What was read of the files of a command.
+use Rattle.std.specs.Prelude.{List, [], ◌++◌, ℕ, All, Result, Ok, Err}
+use Rattle.std.specs.List.{AllPass}
+use Rattle.pc_model.specs.Membership.{in_domain}
+use Rattle.pc_model.specs.Accepted.{AreConstraints, IsQuery}
+use Rattle.pc_model.specs.WellFormed.{IsWellFormed}
+use Rattle.pc_rows.specs.declared.case.Case.{Case}
+use Rattle.pc_run_words.specs.declared.command.Bound.{Bound}
+use Rattle.pc_run_words.specs.declared.command.Check.{Check}
+use Rattle.pc_run_words.specs.declared.command.Show.{Show}
+use Rattle.pc_run_words.specs.declared.command.Command.{Command}
+use Rattle.pc_run_words.specs.declared.command.Command.TheVariants as commands
+use Rattle.pc_run_words.specs.Commands.{asked_in, bound_names}
+use Rattle.pc_run_words.specs.Words.{bound, IsBudget, IsSize}
+use Rattle.pc_run.specs.declared.stop.Stop.{Stop}
+use Rattle.pc_run.specs.declared.input.Claim.{Claim}
+use Rattle.pc_run.specs.declared.input.Input.{Input}
+use Rattle.pc_run.specs.declared.input.Input.TheVariants.{Asks, Proves, Claims, Shows, Makes}
+use Rattle.pc_run.specs.declared.input.Listing.{Listing}
+use Rattle.pc_run.specs.declared.input.Observed.{Observed}
+use Rattle.pc_run.specs.Loading.{Reading, AreRead, IsRead}
+use Rattle.pc_run.specs.Outcome.{NamedFile, observed_files, files_of, Found, case_in, input_in}
+
+-- what the answer and its report need of what was read
+pub record IsSound (case : Case) : Type 0 where
+  pub well_formed : IsWellFormed case.schema
+  pub seen : AllPass (in_domain case.schema) case.rows
+  pub accepted : AreConstraints case.schema case.constraints
+  pub asked : All (IsQuery case.schema) case.queries
+
+-- what a case and a check need of what was observed
+pub record IsUsable (observed : Observed) : Type 0 where
+  pub well_formed : IsWellFormed observed.schema
+  pub seen : AllPass (in_domain observed.schema) observed.rows
+  pub accepted : AreConstraints observed.schema observed.constraints
+
+abbrev pub IsCheckable : Claim → Type 0
+IsCheckable claim = IsUsable (record { schema = claim.schema; rows = claim.rows; constraints = claim.constraints })
+
+-- what the text of constraints needs of what was read
+pub record IsShowable (listing : Listing) : Type 0 where
+  pub well_formed : IsWellFormed listing.schema
+  pub accepted : AreConstraints listing.schema listing.constraints
+
+-- what was read is as its command needs it
+abbrev pub IsSoundInput : Input → Type 0
+IsSoundInput (Asks nodes case) = IsSound case × IsBudget nodes
+IsSoundInput (Proves nodes case) = IsSound case × IsBudget nodes
+IsSoundInput (Claims claim) = IsCheckable claim
+IsSoundInput (Shows listing) = IsShowable listing
+IsSoundInput (Makes numbers) = IsSize numbers.size
+
+-- the schema, the observed rows and the constraints that were found
+abbrev pub found_of : Observed → Found
+found_of observed = record { schema = observed.schema; rows = observed.rows; constraints = observed.constraints; bytes = [] }
+
+-- what reading the first files of a command answers: what was found in them, or why they give nothing, whatever files follow
+abbrev pub ReadsObserved : Reading → List ℕ → List ℕ → List ℕ → Result Observed Stop → Type 0
+ReadsObserved reading schema rows constraints (Ok observed) = AreRead reading (observed_files schema rows constraints) (found_of observed)
+ReadsObserved reading schema rows constraints (Err stop) = (rest : List NamedFile) → IsRead reading (observed_files schema rows constraints ++ rest) (λ found. Ok found) (Err stop)
+
+-- what reading the files of a command answers
+abbrev pub ReadsCase : Reading → Bound → Result Case Stop → Type 0
+ReadsCase reading command result = IsRead reading (files_of (bound (bound_names command))) (case_in (bound_names command).queries) result
+
+abbrev pub ReadsCommand : Reading → Command → Result Input Stop → Type 0
+ReadsCommand reading command result = IsRead reading (files_of (asked_in command)) (input_in (asked_in command)) result
+
+abbrev pub ReadsClaim : Reading → Check → Result Input Stop → Type 0
+ReadsClaim reading command result = ReadsCommand reading (commands.Check command) result
+
+abbrev pub ReadsListing : Reading → Show → Result Input Stop → Type 0
+ReadsListing reading command result = ReadsCommand reading (commands.Show command) result
