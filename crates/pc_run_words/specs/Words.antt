@@ -17,6 +17,11 @@ pub record ShowNames : Type 0 where
   pub schema : List ℕ
   pub constraints : List ℕ
 
+-- of `conflict`: how many nodes each search may have, and the names of its two files
+pub record ConflictNames : Type 0 where
+  pub nodes : ℕ
+  pub files : ShowNames
+
 -- of `check`: the names of its four files
 pub record CheckNames : Type 0 where
   pub schema : List ℕ
@@ -35,6 +40,7 @@ pub data Asked : Type 0 where
   prove : BoundNames → Asked
   check : CheckNames → Asked
   show : ShowNames → Asked
+  conflict : ConflictNames → Asked
   gen : GenNumbers → Asked
 
 -- ---- the words after the command
@@ -139,6 +145,14 @@ show_at words = None
 abbrev pub show_of : Given → Option Asked
 show_of words = show_at words.plain
 
+-- two files, and how many nodes each search may have
+abbrev pub conflict_at : List (List ℕ) → ℕ → Option Asked
+conflict_at (schema ∷ constraints ∷ []) nodes = Some (conflict (record { nodes = nodes; files = record { schema = schema; constraints = constraints } }))
+conflict_at words nodes = None
+
+abbrev pub conflict_of : Given → Option Asked
+conflict_of words = option_and_then (conflict_at words.plain) (budget_of words.value)
+
 -- two numbers
 abbrev pub gen_with : List ℕ → List ℕ → Option Asked
 gen_with seed size =
@@ -158,8 +172,9 @@ command_with name words =
     else (if bytes_eq name (codes "prove") then option_map prove (option_and_then names_of (given true words))
     else (if bytes_eq name (codes "check") then option_and_then check_of (given false words)
     else (if bytes_eq name (codes "show") then option_and_then show_of (given false words)
+    else (if bytes_eq name (codes "conflict") then option_and_then conflict_of (given true words)
     else (if bytes_eq name (codes "gen") then option_and_then gen_of (given false words)
-    else None))))
+    else None)))))
 
 abbrev pub command_of : List (List ℕ) → Option Asked
 command_of [] = None
@@ -184,4 +199,5 @@ file_count (Some (bound names)) = 3
 file_count (Some (prove names)) = 3
 file_count (Some (check names)) = 4
 file_count (Some (show names)) = 2
+file_count (Some (conflict names)) = 2
 file_count (Some (gen numbers)) = 0

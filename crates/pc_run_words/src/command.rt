@@ -1,5 +1,5 @@
 ghost use Rattle.std.specs.Prelude.{◌≡◌, map, string_bytes, Some, None, IfOk, IfSome, MatchOption, option_and_then, option_map, true, false};
-ghost use Rattle.pc_run_words.specs.Words.{bound, budget_of, check_at, check_of, command_of, gen_at, gen_of, gen_with, given, names_at, names_of, prove, show_at, show_of, IsBudget};
+ghost use Rattle.pc_run_words.specs.Words.{bound, budget_of, check_at, check_of, command_of, conflict_at, conflict_of, gen_at, gen_of, gen_with, given, names_at, names_of, prove, show_at, show_of, IsBudget};
 ghost use Rattle.pc_run_words.specs.Commands.{asked_in, bound_names, HasNumbers};
 
 use crate::given::{nodes_in, plain_in, words_alone, words_with_nodes};
@@ -37,6 +37,13 @@ pub struct Show<'a> {
     pub constraints: &'a str,
 }
 
+/// The command `conflict`: how many nodes each search may have, and the names of its files.
+#[derive(Clone, Copy, Debug)]
+pub struct Conflict<'a> {
+    pub nodes: u32,
+    pub files: Show<'a>,
+}
+
 /// The command `gen`: what its draws begin with, and how large its case is.
 #[derive(Clone, Copy, Debug)]
 pub struct Gen {
@@ -51,6 +58,7 @@ pub enum Command<'a> {
     Prove(Bound<'a>),
     Check(Check<'a>),
     Show(Show<'a>),
+    Conflict(Conflict<'a>),
     Gen(Gen),
 }
 
@@ -73,6 +81,7 @@ pub fn read_command<'a>(alloc: Global, words: &'a [String]) -> Result<Option<Com
         "prove" => read_prove(alloc, words),
         "check" => read_check(alloc, words),
         "show" => read_show(alloc, words),
+        "conflict" => read_conflict(alloc, words),
         "gen" => read_gen(alloc, words),
         _ => Ok(None),
     }
@@ -134,6 +143,19 @@ fn read_show<'a>(alloc: Global, words: &'a [String]) -> Result<Option<Command<'a
         return Ok(None);
     };
     Ok(show_at(plain_in(&found)))
+}
+
+fn read_conflict<'a>(alloc: Global, words: &'a [String]) -> Result<Option<Command<'a>>, Memory>
+    ensures reads { IfOk result (λ found. option_map asked_in found ≡ option_and_then conflict_of (given true (map string_bytes words.now))) }
+    ensures numbers { IfOk result (λ found. IfSome found HasNumbers) }
+{
+    let Some(found) = words_with_nodes(alloc, "conflict", words)? else {
+        return Ok(None);
+    };
+    let Some(nodes) = budget_of(nodes_in(&found)) else {
+        return Ok(None);
+    };
+    Ok(conflict_at(plain_in(&found), nodes))
 }
 
 fn read_gen<'a>(alloc: Global, words: &'a [String]) -> Result<Option<Command<'a>>, Memory>
@@ -201,6 +223,23 @@ fn show_at<'a>(plain: &[&'a str]) -> Option<Command<'a>>
         [schema, constraints] => Some(Command::Show(Show {
             schema: *schema,
             constraints: *constraints,
+        })),
+        _ => None,
+    }
+}
+
+fn conflict_at<'a>(plain: &[&'a str], nodes: u32) -> Option<Command<'a>>
+    requires { IsBudget nodes }
+    ensures reads { option_map asked_in result ≡ conflict_at (map (λ text. text.now) plain.now) nodes }
+    ensures numbers { IfSome result HasNumbers }
+{
+    match plain {
+        [schema, constraints] => Some(Command::Conflict(Conflict {
+            nodes,
+            files: Show {
+                schema: *schema,
+                constraints: *constraints,
+            },
         })),
         _ => None,
     }
