@@ -1,4 +1,4 @@
-use pc_run_words::{Bound, Check, Command, read_command};
+use pc_run_words::{Bound, Check, Command, Conflict, read_command};
 use std::alloc::Global;
 use std::test::Fail;
 
@@ -165,6 +165,33 @@ fn put_names(
     Ok(())
 }
 
+static CONFLICTS: [(&str, &str); 15] = [
+    ("conflict s c", "conflict 10000 s c"),
+    ("conflict --nodes 5 s c", "conflict 5 s c"),
+    ("conflict s --nodes=00005 c", "conflict 5 s c"),
+    ("conflict s c --nodes 100000", "conflict 100000 s c"),
+    ("conflict --nodes 100001 s c", "-"),
+    ("conflict --nodes 0 s c", "-"),
+    ("conflict --nodes=5 --nodes 5 s c", "-"),
+    ("conflict s c --nodes", "-"),
+    ("conflict", "-"),
+    ("conflict s", "-"),
+    ("conflict s r c", "-"),
+    ("conflict s -c", "-"),
+    ("conflict --help", "-"),
+    ("conflict -- -s --nodes", "conflict 10000 -s --nodes"),
+    ("conflicts s c", "-"),
+];
+
+fn put_conflict(alloc: Global, told: &mut String, command: &Conflict<'_>) -> Result<(), Fail> {
+    let text = format!(in alloc;
+        "conflict {} {} {}",
+        command.nodes, command.files.schema, command.files.constraints
+    )?;
+    told.push_str(text.as_str())?;
+    Ok(())
+}
+
 fn put_check(alloc: Global, told: &mut String, command: &Check<'_>) -> Result<(), Fail> {
     let text = format!(in alloc;
         "check {} {} {} {}",
@@ -184,6 +211,7 @@ fn told(alloc: Global, command: &Command<'_>) -> Result<String, Fail> {
             let text = format!(in alloc; "show {} {}", command.schema, command.constraints)?;
             told.push_str(text.as_str())?;
         }
+        Command::Conflict(command) => put_conflict(alloc, &mut told, command)?,
         Command::Gen(command) => {
             let text = format!(in alloc; "gen {} {}", command.seed, command.size)?;
             told.push_str(text.as_str())?;
@@ -219,6 +247,9 @@ fn calls(rt: HostRuntime) -> Result<(), Fail> {
         assert!(rt; is_told(rt.alloc(), call, want)?, "{call}");
     }
     for (call, want) in CHECKS.iter() {
+        assert!(rt; is_told(rt.alloc(), call, want)?, "{call}");
+    }
+    for (call, want) in CONFLICTS.iter() {
         assert!(rt; is_told(rt.alloc(), call, want)?, "{call}");
     }
     for (call, want) in DRAWS.iter() {

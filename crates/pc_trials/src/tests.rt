@@ -6,6 +6,7 @@ use std::test::Fail;
 mod areas;
 mod averages;
 mod blocks;
+mod conflicts;
 mod cut_files;
 mod documents;
 mod extremes;
@@ -34,7 +35,7 @@ const WORDS: [&str; 5] = ["bound", "s", "r", "c", "count"];
 const SHOW: [&str; 3] = ["show", "s", "c"];
 
 const USAGE: &str =
-    "usage: pc bound|prove [--nodes N] SCHEMA ROWS CONSTRAINTS QUERY... | pc check SCHEMA ROWS CONSTRAINTS DOCUMENT | pc show SCHEMA CONSTRAINTS | pc gen SEED SIZE\n";
+    "usage: pc bound|prove [--nodes N] SCHEMA ROWS CONSTRAINTS QUERY... | pc check SCHEMA ROWS CONSTRAINTS DOCUMENT | pc show SCHEMA CONSTRAINTS | pc gen SEED SIZE | pc conflict [--nodes N] SCHEMA CONSTRAINTS\n";
 
 /// A shelf that holds a schema, rows and constraints under the names of `WORDS`.
 fn shelf_of(alloc: Global, schema: &str, rows: &str, constraints: &str) -> Result<MemShelf, Fail> {

@@ -71,7 +71,7 @@ static TRIALS: [Trial<'static>; 6] = [
 ];
 
 /// The lines of a text but those of runs.
-fn without_runs(alloc: Global, text: &str) -> Result<String, AllocError> {
+pub(super) fn without_runs(alloc: Global, text: &str) -> Result<String, AllocError> {
     let mut kept = String::new(alloc);
     for line in text.lines() {
         if !line.starts_with("run ") {

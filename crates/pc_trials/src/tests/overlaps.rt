@@ -96,7 +96,7 @@ fn overlapping_constraints_that_no_list_meets(rt: HostRuntime) -> Result<(), Fai
 }
 
 // Two triangles of pairs, of which each constraint wants a row: no list is possible.
-const TRIANGLES: &str =
+pub(super) const TRIANGLES: &str =
     "a: k in {ab, ac} => true, 1..1\nb: k in {ab, bc} => true, 1..1\nc: k in {bc, ac} => true, 1..1\nd: k in {de, df} => true, 1..1\ne: k in {de, ef} => true, 1..1\nf: k in {ef, df} => true, 1..1\n";
 
 // In one node neither is seen of all rows, at most 3 and at least 3. Of the first triangle there would be 2 rows at least and
