@@ -12,7 +12,7 @@ use std::rt::Files;
 use trouble::Trouble;
 
 /// The folders of the examples.
-const EXAMPLES: [&str; 18] = [
+const EXAMPLES: [&str; 19] = [
     "shop",
     "shop-prove",
     "shop-check",
@@ -29,6 +29,7 @@ const EXAMPLES: [&str; 18] = [
     "groups",
     "always",
     "impossible",
+    "conflict",
     "outer",
     "undecided",
 ];
