@@ -1,4 +1,5 @@
 mod asking;
+mod conflicts;
 mod judging;
 mod overlaps;
 mod ranges;

@@ -8,7 +8,7 @@ use Rattle.pc_base.specs.declared.status.Status.{Status}
 use Rattle.pc_run.specs.declared.input.Input.{Input}
 use Rattle.pc_run.specs.declared.stop.Stop.{Stop}
 use Rattle.pc_run.specs.declared.stop.Stop.TheVariants as stops
-use Rattle.pc_run_words.specs.Words.{Asked, bound, prove, check, show, gen, command_of, file_count}
+use Rattle.pc_run_words.specs.Words.{Asked, bound, prove, check, show, conflict, gen, command_of, file_count}
 use Rattle.pc_run.specs.declared.reply.Reply.{Reply}
 use Rattle.pc_run.specs.Inputs.{IsSoundInput}
 use Rattle.pc_run.specs.Loading.{IsRead, Reading, reading_of}
@@ -50,6 +50,7 @@ module _ (reading : Reading) (asked : Asked) (result : Result Reply Memory) wher
   counted (prove names) = refl
   counted (check names) = refl
   counted (show names) = refl
+  counted (conflict names) = refl
   counted (gen numbers) = refl
 
   pub for_words : (words : List (List ℕ)) → command_of words ≡ Some asked → AnswersCommand reading asked result → AnswersWords reading words result

@@ -15,11 +15,11 @@ use Rattle.pc_run_words.specs.Words.{bound, IsBudget, IsSize}
 use Rattle.pc_run.specs.declared.stop.Stop.{Stop}
 use Rattle.pc_run.specs.declared.input.Claim.{Claim}
 use Rattle.pc_run.specs.declared.input.Input.{Input}
-use Rattle.pc_run.specs.declared.input.Input.TheVariants.{Asks, Proves, Claims, Shows, Makes}
+use Rattle.pc_run.specs.declared.input.Input.TheVariants.{Asks, Proves, Claims, Shows, Contradicts, Makes}
 use Rattle.pc_run.specs.declared.input.Listing.{Listing}
 use Rattle.pc_run.specs.declared.input.Observed.{Observed}
 use Rattle.pc_run.specs.Loading.{Reading, AreRead, IsRead}
-use Rattle.pc_run.specs.Outcome.{NamedFile, observed_files, files_of, Found, case_in, input_in}
+use Rattle.pc_run.specs.Outcome.{NamedFile, observed_files, listed_files, files_of, Found, case_in, listing_in, input_in}
 
 -- what the answer and its report need of what was read
 pub record IsSound (case : Case) : Type 0 where
@@ -48,6 +48,7 @@ IsSoundInput (Asks nodes case) = IsSound case × IsBudget nodes
 IsSoundInput (Proves nodes case) = IsSound case × IsBudget nodes
 IsSoundInput (Claims claim) = IsCheckable claim
 IsSoundInput (Shows listing) = IsShowable listing
+IsSoundInput (Contradicts nodes listing) = IsShowable listing × IsBudget nodes
 IsSoundInput (Makes numbers) = IsSize numbers.size
 
 -- the schema, the observed rows and the constraints that were found
@@ -69,5 +70,5 @@ ReadsCommand reading command result = IsRead reading (files_of (asked_in command
 abbrev pub ReadsClaim : Reading → Check → Result Input Stop → Type 0
 ReadsClaim reading command result = ReadsCommand reading (commands.Check command) result
 
-abbrev pub ReadsListing : Reading → Show → Result Input Stop → Type 0
-ReadsListing reading command result = ReadsCommand reading (commands.Show command) result
+abbrev pub ReadsListing : Reading → Show → Result Listing Stop → Type 0
+ReadsListing reading command result = IsRead reading (listed_files command.schema.now command.constraints.now) (λ found. Ok (listing_in found)) result

@@ -17,9 +17,9 @@ use Rattle.pc_rows.specs.RowFile.{rows_of}
 use Rattle.pc_lang.specs.Files.{constraints_of, query_at}
 use Rattle.pc_run.specs.declared.input.Claim.{Claim}
 use Rattle.pc_run.specs.declared.input.Input.{Input}
-use Rattle.pc_run.specs.declared.input.Input.TheVariants.{Asks, Proves, Claims, Shows, Makes}
+use Rattle.pc_run.specs.declared.input.Input.TheVariants.{Asks, Proves, Claims, Shows, Contradicts, Makes}
 use Rattle.pc_run.specs.declared.input.Listing.{Listing}
-use Rattle.pc_run_words.specs.Words.{GenNumbers, Asked, bound, prove, check, show, gen}
+use Rattle.pc_run_words.specs.Words.{GenNumbers, Asked, bound, prove, check, show, conflict, gen}
 
 -- a file or query that is refused, or a file that is not held
 pub data Obstacle : Type 0 where
@@ -55,12 +55,16 @@ NamedFile = FileKind × List ℕ
 abbrev pub observed_files : List ℕ → List ℕ → List ℕ → List NamedFile
 observed_files schema rows constraints = (kinds.Schema, schema) ∷ (kinds.Rows, rows) ∷ (kinds.Constraints, constraints) ∷ []
 
+abbrev pub listed_files : List ℕ → List ℕ → List NamedFile
+listed_files schema constraints = (kinds.Schema, schema) ∷ (kinds.Constraints, constraints) ∷ []
+
 -- in the order in which they are read
 abbrev pub files_of : Asked → List NamedFile
 files_of (bound names) = observed_files names.schema names.rows names.constraints
 files_of (prove names) = observed_files names.schema names.rows names.constraints
 files_of (check names) = observed_files names.schema names.rows names.constraints ++ (kinds.Document, names.document) ∷ []
-files_of (show names) = (kinds.Schema, names.schema) ∷ (kinds.Constraints, names.constraints) ∷ []
+files_of (show names) = listed_files names.schema names.constraints
+files_of (conflict names) = listed_files names.files.schema names.files.constraints
 files_of (gen numbers) = []
 
 -- ---- what they stand for
@@ -147,6 +151,7 @@ input_in (bound names) found = mapped (Asks names.nodes) (case_in names.queries 
 input_in (prove names) found = mapped (Proves names.nodes) (case_in names.queries found)
 input_in (check names) found = Ok (Claims (claim_in found))
 input_in (show names) found = Ok (Shows (listing_in found))
+input_in (conflict names) found = Ok (Contradicts names.nodes (listing_in found))
 input_in (gen numbers) found = Ok (made numbers)
 
 -- what files come to, by what is made of what was found in them

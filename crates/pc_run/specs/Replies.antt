@@ -13,6 +13,10 @@ use Rattle.pc_document.specs.DocumentLines.{document_text}
 use Rattle.pc_document.specs.Told.{IsDocumentText, IsFaultLine}
 use Rattle.pc_report.specs.Report.{report_text}
 use Rattle.pc_report.specs.Summary.{summary_text}
+use Rattle.pc_agg_search.specs.Easy.{IsEasy}
+use Rattle.pc_conflict.specs.declared.conflict.Conflict.{Conflict}
+use Rattle.pc_conflict.specs.Conflicts.{IsConflict, IsDecided}
+use Rattle.pc_conflict.specs.Texts.{conflict_text}
 use Rattle.pc_gen.specs.Generated.{generated_case}
 use Rattle.pc_rows.specs.declared.case.Case.{Case}
 use Rattle.pc_run.specs.declared.stop.Stop.{Stop}
@@ -31,7 +35,7 @@ use Rattle.pc_check.specs.declared.verdict.Verdict.{Verdict}
 use Rattle.pc_check.specs.declared.verdict.Verdict.TheVariants as verdicts
 use Rattle.pc_run.specs.declared.input.Claim.{Claim}
 use Rattle.pc_run.specs.declared.input.Input.{Input}
-use Rattle.pc_run.specs.declared.input.Input.TheVariants.{Asks, Proves, Claims, Shows, Makes}
+use Rattle.pc_run.specs.declared.input.Input.TheVariants.{Asks, Proves, Claims, Shows, Contradicts, Makes}
 use Rattle.pc_run.specs.declared.input.Listing.{Listing}
 
 -- the reply where files give nothing
@@ -127,11 +131,19 @@ pub record SaysListing (listing : Listing) (text : List ℕ) : Type 0 where
   pub means : IsTrue disjoint ↔ AreDisjoint listing.schema listing.constraints
   pub listed : text ≡ listing_of listing disjoint
 
+-- the text is that of an answer to which constraints contradict each other, by searches of at most so many nodes each
+pub record SaysConflict (nodes : ℕ) (listing : Listing) (text : List ℕ) : Type 0 where
+  pub answer : Conflict
+  pub found : IsConflict listing.schema listing.constraints nodes answer
+  pub decided : IsEasy listing.schema listing.constraints → IsDecided answer
+  pub said : text ≡ conflict_text listing.schema listing.constraints answer
+
 abbrev pub SaysInput : Input → Status → List ℕ → Type 0
 SaysInput (Asks nodes case) status text = (status ≡ ended.Done) × SaysReport nodes case text
 SaysInput (Proves nodes case) status text = (status ≡ ended.Done) × SaysProof nodes case text
 SaysInput (Claims claim) status text = SaysVerdict claim status text
 SaysInput (Shows listing) status text = (status ≡ ended.Done) × SaysListing listing text
+SaysInput (Contradicts nodes listing) status text = (status ≡ ended.Done) × SaysConflict nodes listing text
 SaysInput (Makes numbers) status text = (status ≡ ended.Done) × SaysSummary (made_case numbers) text
 
 -- the reply to files that are accepted, or refused

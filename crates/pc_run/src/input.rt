@@ -5,7 +5,7 @@ ghost use Rattle.pc_model.specs.WellFormed.{IsWellFormed};
 ghost use Rattle.pc_run_words.specs.Commands.{HasNumbers};
 ghost use Rattle.pc_run.specs.Loading.{reading_of};
 ghost use Rattle.pc_run.specs.Outcome.{queries_of};
-ghost use Rattle.pc_run.specs.Inputs.{IsUsable, IsSound, IsSoundInput, ReadsCase, ReadsClaim, ReadsCommand, ReadsListing, ReadsObserved};
+ghost use Rattle.pc_run.specs.Inputs.{IsUsable, IsShowable, IsSound, IsSoundInput, ReadsCase, ReadsClaim, ReadsCommand, ReadsListing, ReadsObserved};
 
 use crate::loading::{load_bytes, load_constraints, load_rows, load_schema};
 use crate::stop::Stop;
@@ -42,13 +42,15 @@ pub(crate) struct Observed {
 }
 
 /// What a command comes to with its files: a case that is asked about, or answered with proofs, by searches of at most so
-/// many nodes each; a document that is checked; constraints that are shown; or a case that is made.
+/// many nodes each; a document that is checked; constraints that are shown, or asked whether they contradict each other; or a
+/// case that is made.
 #[derive(Debug, Drop)]
 pub(crate) enum Input {
     Asks { nodes: u32, case: Case },
     Proves { nodes: u32, case: Case },
     Claims(Claim),
     Shows(Listing),
+    Contradicts { nodes: u32, listing: Listing },
     Makes(Gen),
 }
 
@@ -78,7 +80,17 @@ pub(crate) fn read_input<F: Shelf>(
             Err(stop) => Err(stop),
         },
         Command::Check(command) => read_claim(alloc, files, command),
-        Command::Show(command) => read_listing(alloc, files, command),
+        Command::Show(command) => match read_listing(alloc, files, command) {
+            Ok(listing) => Ok(Input::Shows(listing)),
+            Err(stop) => Err(stop),
+        },
+        Command::Conflict(command) => match read_listing(alloc, files, &command.files) {
+            Ok(listing) => Ok(Input::Contradicts {
+                nodes: command.nodes,
+                listing,
+            }),
+            Err(stop) => Err(stop),
+        },
         Command::Gen(command) => Ok(Input::Makes(*command)),
     }
 }
@@ -125,17 +137,17 @@ fn read_claim<F: Shelf>(alloc: Global, files: &mut F, command: &Check) -> Result
     }))
 }
 
-/// Reads the files of `show`.
-fn read_listing<F: Shelf>(alloc: Global, files: &mut F, command: &Show) -> Result<Input, Stop>
+/// Reads the files of `show`. Those of `conflict` are read alike.
+fn read_listing<F: Shelf>(alloc: Global, files: &mut F, command: &Show) -> Result<Listing, Stop>
     ensures read { ReadsListing (reading_of F.told F.leads files.old files.new) command.now result }
-    ensures sound { IfOk result IsSoundInput }
+    ensures sound { IfOk result IsShowable }
 {
     let schema = load_schema(alloc, files, command.schema)?;
     let constraints = load_constraints(alloc, files, command.constraints, &schema)?;
-    Ok(Input::Shows(Listing {
+    Ok(Listing {
         schema,
         constraints,
-    }))
+    })
 }
 
 /// Reads a schema, observed rows and constraints, which the files of a command begin with.

@@ -8,7 +8,7 @@ ghost use Rattle.pc_run.specs.Replies.{AnswersWords, AnswersCommand, RepliesToSt
 use crate::input::{Input, read_input};
 use crate::line::{fault_line, malformed_line, usage_line};
 use crate::making::summarize;
-use crate::show::report_listing;
+use crate::show::{report_conflict, report_listing};
 use crate::stop::Stop;
 use crate::verdict::report_verdict;
 use pc_base::{Shelf, Status};
@@ -74,6 +74,10 @@ fn reply_with(alloc: Global, input: &Input) -> Result<Reply, Memory>
         Input::Shows(listing) => Ok(Reply {
             status: Status::Done,
             text: report_listing(alloc, listing)?,
+        }),
+        Input::Contradicts { nodes, listing } => Ok(Reply {
+            status: Status::Done,
+            text: report_conflict(alloc, listing, *nodes)?,
         }),
         Input::Makes(numbers) => Ok(Reply {
             status: Status::Done,

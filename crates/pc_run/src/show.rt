@@ -1,10 +1,12 @@
 ghost use Rattle.std.specs.Prelude.{◌≡◌, IfOk};
+ghost use Rattle.pc_run_words.specs.Words.{IsBudget};
 ghost use Rattle.pc_run.specs.Inputs.{IsShowable};
-ghost use Rattle.pc_run.specs.Replies.{SaysListing};
+ghost use Rattle.pc_run.specs.Replies.{SaysConflict, SaysListing};
 ghost use Rattle.pc_run.specs.Reports.{disjoint_line, listing_of};
 
 use crate::input::Listing;
 use pc_cells::pairwise_apart;
+use pc_conflict::{find, put_conflict};
 use pc_lang::put_constraints;
 use pc_num::Memory;
 use std::alloc::Global;
@@ -16,6 +18,24 @@ pub(crate) fn report_listing(alloc: Global, listing: &Listing) -> Result<Vec<u8>
 {
     let disjoint = pairwise_apart(listing.constraints.as_slice());
     text_of(alloc, listing, disjoint)
+}
+
+/// The text of which constraints contradict each other.
+pub(crate) fn report_conflict(
+    alloc: Global,
+    listing: &Listing,
+    nodes: u32,
+) -> Result<Vec<u8>, Memory>
+    requires showable { IsShowable listing.now }
+    requires budget { IsBudget nodes }
+    ensures { IfOk result (λ text. SaysConflict nodes listing.now text.items) }
+{
+    let schema = &listing.schema;
+    let constraints = listing.constraints.as_slice();
+    let answer = find(alloc, schema, constraints, nodes)?;
+    let mut text = Vec::new(alloc);
+    put_conflict(alloc, schema, &mut text, constraints, &answer)?;
+    Ok(text)
 }
 
 #[tactic(auto, unfolding(crate::specs::Reports::listing_of))]

@@ -1,0 +1,10 @@
+pub mod AtPlaces
+pub mod Determined
+pub mod LeavingOut
+pub mod Nested
+pub mod Parts
+pub mod Settled
+pub mod Steps
+pub mod Tested
+pub mod Thinned
+pub mod Withouts
