@@ -5,6 +5,8 @@ const BOUND: [&str; 5] = ["bound", "s", "r", "c", "sum(price)"];
 
 const PROVE: [&str; 5] = ["prove", "s", "r", "c", "sum(price)"];
 
+const CONFLICT: [&str; 3] = ["conflict", "s", "c"];
+
 /// A shelf of the shop and the document of its sum, the load of this number of which fails.
 fn shelf_failing(alloc: Global, load: Option<u64>) -> Result<MemShelf, Fail> {
     let mut shelf = shelf_with(alloc, &[FRONT, HIGH, RUN, BACK, "end\n"])?;
@@ -27,7 +29,7 @@ fn ends_short(
     ends_in(alloc, words, shelf, sink, ending)
 }
 
-static LOADS_THAT_FAIL: [(&[&str], u64, &str); 10] = [
+static LOADS_THAT_FAIL: [(&[&str], u64, &str); 12] = [
     (&BOUND, 0, "read fault: schema\n"),
     (&BOUND, 1, "read fault: rows\n"),
     (&BOUND, 2, "read fault: constraints\n"),
@@ -38,6 +40,8 @@ static LOADS_THAT_FAIL: [(&[&str], u64, &str); 10] = [
     (&CHECK, 1, "read fault: rows\n"),
     (&CHECK, 2, "read fault: constraints\n"),
     (&CHECK, 3, "read fault: document\n"),
+    (&CONFLICT, 0, "read fault: schema\n"),
+    (&CONFLICT, 1, "read fault: constraints\n"),
 ];
 
 #[test]
@@ -75,10 +79,11 @@ fn puts_of_a_read_fault_that_fail(rt: HostRuntime) -> Result<(), Fail> {
 }
 
 /// The words of a command, and the first seven bytes of its report, or all of a shorter one.
-static REPORTS_THAT_ARE_CUT: [(&[&str], &str); 3] = [
+static REPORTS_THAT_ARE_CUT: [(&[&str], &str); 4] = [
     (&BOUND, "query s"),
     (&PROVE, "pc 1\nqu"),
     (&CHECK, "yes\n"),
+    (&CONFLICT, "conflic"),
 ];
 
 #[test]
@@ -101,6 +106,8 @@ fn puts_of_a_report_that_fail(rt: HostRuntime) -> Result<(), Fail> {
     Ok(())
 }
 
+static COMMANDS: [&[&str]; 4] = [&BOUND, &PROVE, &CHECK, &CONFLICT];
+
 /// How many bytes of the line of a refusal its put keeps before it fails, if it fails, and what is then written.
 static REFUSALS_THAT_ARE_CUT: [(Option<u64>, &str); 3] = [
     (
@@ -113,15 +120,15 @@ static REFUSALS_THAT_ARE_CUT: [(Option<u64>, &str); 3] = [
 
 #[test]
 fn puts_of_a_refusal_that_fail(rt: HostRuntime) -> Result<(), Fail> {
-    for words in &[BOUND, PROVE, CHECK] {
+    for words in &COMMANDS {
         for case in &REFUSALS_THAT_ARE_CUT {
             let (short, text) = *case;
             let mut shelf = shelf_failing(rt.alloc(), None)?;
             shelf.add("c", b"c: true => true, 5..2\n")?;
             let ending = (text, Status::Malformed);
             let ends_so = match short {
-                None => ends(rt.alloc(), words, shelf, ending)?,
-                Some(short) => ends_short(rt.alloc(), words, shelf, short, ending)?,
+                None => ends(rt.alloc(), *words, shelf, ending)?,
+                Some(short) => ends_short(rt.alloc(), *words, shelf, short, ending)?,
             };
             assert!(rt; ends_so, "at {text}");
         }

@@ -16,7 +16,7 @@ fn are_no_command(alloc: Global, words: &[&str]) -> Result<bool, Fail> {
     Ok(sink.kept.as_slice() == USAGE.as_bytes())
 }
 
-static WORDS_CASES: [&[&str]; 13] = [
+static WORDS_CASES: [&[&str]; 15] = [
     &["bound"],
     &[],
     &["show"],
@@ -30,6 +30,8 @@ static WORDS_CASES: [&[&str]; 13] = [
     &["show", "s", "c", "x"],
     &["show", "s", "-c"],
     &["show", "-s", "c"],
+    &["conflict", "s"],
+    &["conflict", "s", "r", "c"],
 ];
 
 #[test]
