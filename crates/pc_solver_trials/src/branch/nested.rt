@@ -43,7 +43,7 @@ fn with_cells(draws: &mut Draws, small: Small, family: usize) -> Small {
         small.masks[cell] = masks[draws.below(4) as usize % 4];
         small.floor[cell] = draws.below(8) / 7;
         small.cap[cell] = 3 - draws.below(5) / 3;
-        small.gain[cell] = gain(draws) - 2;
+        small.gain[cell] = gain(draws).saturating_sub(2);
     }
     small
 }
