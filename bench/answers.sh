@@ -12,8 +12,9 @@
 #   the whole call and of the call less reading;
 # - of an average, the steps that each end takes there, by the method that is ours too;
 # - whether both say the same ends.
-# At the end it prints what sixteen questions over the million rows take in one call, as a ratio to one of them, and what a
-# generated case takes.
+# At the end it prints what sixteen questions over the million rows take in one call, as a ratio to one of them, what a
+# generated case takes, and what `pc conflict` takes over twenty constraints of which three contradict each other, as a ratio
+# to a call of `pc bound` for each of its tests.
 # Both sides are measured in the same run, each with the start of its processes. A time is the median of the runs, each of
 # several calls where a call is short; what takes a second or more is run once. Run ./build first.
 # Usage: bench/answers.sh [RUNS]
@@ -189,3 +190,33 @@ awk -v one="$one" -v many="$took" 'BEGIN { printf "a million rows, %d questions 
 # a generated case of 100,000 rows, and five questions about it
 measure "$pc" gen 7 1000
 awk -v took="$took" 'BEGIN { printf "gen 7 1000: %.2f s\n", took / 1000000 }'
+
+# twenty constraints of which three contradict each other, and the same tests by hand: all, and then all that are left
+# without each, which is left out where the others still contradict each other
+{
+  echo 'week: day in 1..7 => true, 10..20'
+  for day in 8 9 10 11 12 13 14 15; do echo "d$day: day = $day => price in 0.00..$((day * 10)).00, 0..$day"; done
+  echo 'chicago: branch = Chicago => true, 0..4'
+  for day in 16 17 18 19 20 21 22 23; do echo "d$day: day = $day and branch in {NewYork, Trenton} => true, 1..$day"; done
+  echo 'others: branch in {NewYork, Trenton} and day in 1..7 => price <= 90.00, 0..5'
+  echo 'all: true => true, 5..400'
+} > conflict.constraints
+head -1 month.rows > header.rows
+
+by_hand() {
+  local place
+  cp conflict.constraints left.constraints
+  "$pc" bound "$month/schema.csv" header.rows left.constraints count | grep -q impossible || { echo none; return; }
+  for ((place = 1; place <= 20; place++)); do
+    grep -v "^$(sed -n "${place}s/:.*//p" conflict.constraints):" left.constraints > tried.constraints
+    if "$pc" bound "$month/schema.csv" header.rows tried.constraints count | grep -q impossible; then mv tried.constraints left.constraints; fi
+  done
+  echo "conflict $(sed 's/:.*//' left.constraints | paste -sd, | sed 's/,/, /g')"
+}
+
+measure by_hand
+theirs=$took
+cp said by_hand.said
+measure "$pc" conflict "$month/schema.csv" conflict.constraints
+awk -v ours="$took" -v theirs="$theirs" -v said="$(head -1 said)" -v hand="$(cat by_hand.said)" 'BEGIN {
+  printf "conflict of twenty constraints: %s; %.4f s; by hand, 21 calls of bound, %.4f s; ratio %.2f; %s\n", said, ours / 1000000, theirs / 1000000, ours / theirs, said == hand ? "agrees" : "DISAGREES" }'
