@@ -54,6 +54,8 @@ gcc -O1 -shared -fPIC -o refuse.so refuse.c -ldl
 printf 'branch,cat,Chicago,NewYork,Trenton\nday,int,1,31\nprice,dec,2,0.00,1000.00\n' >schema
 printf 'branch,day,price\nChicago,3,100.00\nNewYork,5,50.00\n' >rows
 printf 'c1: branch = Chicago => price in 0.00..149.99, 0..5\n' >constraints
+printf 'a: day in 1..10 => true, 2..9\nb: branch = Chicago => true, 0..0\nc: day in 1..20 and branch in {NewYork, Trenton} => true, 0..1\n' >contrary
+printf 'a: day in 1..20 => price in 0.00..10.00, 3..10\nb: day in 5..10 => true, 2..4\n' >nested
 : >none
 "$pc" prove schema rows constraints 'sum(price)' >document
 
@@ -90,5 +92,7 @@ try_each prove schema rows constraints 'avg(price)'
 try_each prove schema rows constraints 'sum(price) group by branch'
 try_each check schema rows constraints document
 try_each show schema constraints
+try_each conflict schema contrary
+try_each bound --nodes 1 schema rows nested 'sum(price)'
 try_each gen 7 3
 echo "$all allocations refused one by one: $refused_all runs ended with status 6 and nothing written, the others as without"
