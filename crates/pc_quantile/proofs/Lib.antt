@@ -1,0 +1,4 @@
+
+pub mod Counted
+pub mod ListSums
+pub mod Shares

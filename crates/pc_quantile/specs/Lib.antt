@@ -1,0 +1,3 @@
+
+pub mod Quantile
+pub mod Sums

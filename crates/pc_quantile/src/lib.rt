@@ -1,0 +1,9 @@
+//! Quantiles of the numbers of rows: what they are, and laws on which side of a number they lie, over lists of numbers
+//! and over possible rows.
+#![tactic(auto)]
+
+mod laws;
+mod quantile;
+
+pub use laws::{lists_of_numbers_have_a_quantile, shares_tell_on_which_side, sums_tell_on_which_side};
+pub use quantile::Quantile;
