@@ -1,4 +1,6 @@
 
+pub mod Added
 pub mod Counted
 pub mod ListSums
 pub mod Shares
+pub mod Within

@@ -1,3 +1,5 @@
 
+pub mod Gains
+pub mod Measured
 pub mod Quantile
 pub mod Sums

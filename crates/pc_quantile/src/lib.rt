@@ -5,5 +5,8 @@
 mod laws;
 mod quantile;
 
-pub use laws::{lists_of_numbers_have_a_quantile, shares_tell_on_which_side, sums_tell_on_which_side};
+pub use laws::{
+    lists_of_numbers_have_a_quantile, shares_tell_on_which_side, sums_of_lists_are_within_those_of_cells,
+    sums_tell_on_which_side,
+};
 pub use quantile::Quantile;

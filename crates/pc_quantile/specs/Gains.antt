@@ -1,0 +1,40 @@
+-- What the numbers of rows add to the two sums, and the programs of the most that the rows of cells can add.
+use Rattle.std.specs.Prelude.{ℕ, ℤ, pos, ◌+ℤ◌, ◌-ℤ◌, ◌*ℤ◌, int_le, int_lt, cond, List}
+use Rattle.pc_model.specs.declared.row.Row.{Row}
+use Rattle.pc_model.specs.Cells.{Class}
+use Rattle.pc_program_bound.specs.declared.program.Program.{Program}
+use Rattle.pc_program_bound.specs.CellPrograms.{counts_of}
+use Rattle.pc_proof.specs.Setting.{Setting, seen_numbers, area_of, cells, low_in, high_in, on_chosen, program_for}
+use Rattle.pc_quantile.specs.declared.quantile.Quantile.{Quantile}
+use Rattle.pc_quantile.specs.Sums.{weight, first_of, second_of}
+
+-- what a number adds to the sum of a list
+abbrev pub first_added : ℕ → ℕ → ℤ → ℤ → ℤ
+first_added p q v number = cond (int_le number v) (pos p -ℤ pos q) (pos p)
+
+abbrev pub second_added : ℕ → ℕ → ℤ → ℤ → ℤ
+second_added p q v number = cond (int_lt number v) ((weight *ℤ (pos q -ℤ pos p)) +ℤ pos 1) (pos 1 -ℤ (weight *ℤ pos p))
+
+-- what a row of a cell adds at most: of the first sum what the cell's greatest number adds, of the second what its least does
+abbrev pub first_gain : Setting → Quantile → ℤ → Class → ℤ
+first_gain s asked v class = first_added asked.p asked.q v (high_in s class)
+
+abbrev pub second_gain : Setting → Quantile → ℤ → Class → ℤ
+second_gain s asked v class = second_added asked.p asked.q v (low_in s class)
+
+abbrev pub first_program : Setting → Quantile → ℤ → Program
+first_program s asked v = program_for s (on_chosen (first_gain s asked v))
+
+abbrev pub second_program : Setting → Quantile → ℤ → Program
+second_program s asked v = program_for s (on_chosen (second_gain s asked v))
+
+-- the sums of the observed numbers
+abbrev pub first_seen : Setting → Quantile → ℤ → ℤ
+first_seen s asked v = first_of asked.p asked.q v (seen_numbers s.question)
+
+abbrev pub second_seen : Setting → Quantile → ℤ → ℤ
+second_seen s asked v = second_of asked.p asked.q v (seen_numbers s.question)
+
+-- how many of the lost rows are in each cell
+abbrev pub lost_counts : Setting → List Row → List ℕ
+lost_counts s lost = counts_of s.question.constraints (area_of s.question) (cells s) lost

@@ -1,0 +1,42 @@
+-- What is asked for, and the numbers that it is asked of.
+use Rattle.std.specs.Prelude.{◌≡◌, ℕ, ◌≤◌, ℤ, List, ◌++◌, map, Option, Some, None}
+use Rattle.pc_model.specs.declared.schema.Schema.{Schema}
+use Rattle.pc_model.specs.declared.row.Row.{Row}
+use Rattle.pc_model.specs.declared.query.Agg.TheVariants.{Min}
+use Rattle.pc_model.specs.declared.query.Query.{Query}
+use Rattle.pc_model.specs.Accepted.{IsNumeric, IsColumnWhere}
+use Rattle.pc_model.specs.Aggregate.{asked as asked_of, kept}
+use Rattle.pc_model.specs.Boxes.{IsAreaOf}
+use Rattle.pc_model.specs.Cells.{IsSettledTree}
+use Rattle.pc_model.specs.Right.{Question}
+use Rattle.pc_proof.specs.Setting.{Setting, area_of}
+use Rattle.pc_proof.specs.Unbroken.{IsWellPosed}
+use Rattle.pc_quantile.specs.declared.quantile.Quantile.{Quantile}
+use Rattle.pc_quantile.specs.Quantile.{quantile}
+
+-- a share of more than none and at most one, of a column of numbers
+pub record IsQuantile (schema : Schema) (asked : Quantile) : Type 0 where
+  pub some : 1 ≤ asked.p
+  pub most : asked.p ≤ asked.q
+  pub few : asked.q ≤ 1000
+  pub numeric : IsColumnWhere IsNumeric schema asked.column
+  pub chosen : IsAreaOf schema asked.chosen
+
+-- the query of the least number of the same rows
+abbrev pub least_of : Quantile → Query
+least_of asked = record { agg = Min; column = Some asked.column; chosen = asked.chosen; group = None }
+
+-- a setting in which the quantile is asked for
+pub record IsAskedIn (s : Setting) (asked : Quantile) : Type 0 where
+  pub posed : IsWellPosed s.question
+  pub query : s.question.query ≡ least_of asked
+  pub well : IsQuantile s.question.schema asked
+  pub tree : IsSettledTree s.question.schema s.question.constraints (area_of s.question) s.nodes
+
+-- the numbers of the chosen rows, of the observed ones and then of the lost ones
+abbrev pub numbers_of : Question → List Row → List ℤ
+numbers_of q lost = map (asked_of q.query) (kept q.query q.name (q.observed ++ lost))
+
+-- their quantile
+abbrev pub quantile_of : Question → Quantile → List Row → Option ℤ
+quantile_of q asked lost = quantile asked.p asked.q (numbers_of q lost)
