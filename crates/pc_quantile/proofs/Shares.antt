@@ -1,10 +1,11 @@
 -- On which side of a number the quantile of a list is.
-use Rattle.std.proofs.Common.{◌≡◌, ℕ, zero, suc, ◌*◌, ◌≤◌, ◌<◌, ℤ, ◌≤ℤ◌, ◌<ℤ◌, Bool, true, false, List, [], ◌∷◌, length, get_or, map, filter, fold, All, Option, Some, None, IfSome, IsSome, IsSomeAnd, refl, sym, subst, arith, leb-true, le-leb}
+use Rattle.std.proofs.Common.{◌≡◌, ℕ, zero, suc, ◌*◌, ◌≤◌, ◌<◌, ℤ, ◌≤ℤ◌, ◌<ℤ◌, Bool, true, false, List, [], ◌∷◌, length, get_or, map, filter, fold, All, Contains, Option, Some, None, IfSome, IsSome, IsSomeAnd, refl, sym, subst, arith, leb-true, le-leb}
 use Rattle.std.specs.Prelude.{int_le, nat_le}
 use Rattle.std.specs.List.{reduce}
 use Rattle.std.specs.Int.{int_min, int_max}
 use Rattle.std.proofs.lemmas.Bool.{false≢true}
 use Rattle.std.proofs.lemmas.Int.{ints, by_lt_z}
+use Rattle.std.proofs.lemmas.List.Elements.{Contains-get_or}
 use Rattle.std.proofs.lemmas.List.Sums.{length-filter}
 use Rattle.std.proofs.Math.Nat.{mul-le-mul_left, mul-le-mul}
 use mathlib.Core.List.{map-id}
@@ -99,3 +100,8 @@ there_is_one p q (x ∷ xs) some most there =
     count_by-all (λ n. int_le n (fold int_max x xs)) (x ∷ xs) (λ place d inside. let below = under place d inside in grind (arith, ints, below)) in
     found_some (quantile p q (x ∷ xs)) (λ w. w ≤ℤ fold int_max x xs)
     (within_some p q (fold int_max x xs) (x ∷ xs) (omega (arith, all, there)) (mul-le-mul most all))
+
+pub among : (p q : ℕ) (numbers : List ℤ) → IfSome (quantile p q numbers) (Contains numbers)
+among p q numbers =
+    least_keeps (Contains numbers) (filter (has_share p q numbers) numbers)
+    (All-kept (has_share p q numbers) (Contains numbers) numbers (λ place d inside passed. Contains-get_or numbers place d inside))

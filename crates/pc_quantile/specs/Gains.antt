@@ -1,8 +1,9 @@
 -- What the numbers of rows add to the two sums, and the programs of the most that the rows of cells can add.
-use Rattle.std.specs.Prelude.{ℕ, ℤ, pos, ◌+ℤ◌, ◌-ℤ◌, ◌*ℤ◌, int_le, int_lt, cond, List}
+use Rattle.std.specs.Prelude.{ℕ, ℤ, pos, ◌+ℤ◌, ◌-ℤ◌, ◌*ℤ◌, ◌≤ℤ◌, int_le, int_lt, cond, List}
 use Rattle.pc_model.specs.declared.row.Row.{Row}
 use Rattle.pc_model.specs.Cells.{Class}
 use Rattle.pc_program_bound.specs.declared.program.Program.{Program}
+use Rattle.pc_program_bound.specs.Allocation.{worth, IsAllocation}
 use Rattle.pc_program_bound.specs.CellPrograms.{counts_of}
 use Rattle.pc_proof.specs.Setting.{Setting, seen_numbers, area_of, cells, low_in, high_in, on_chosen, program_for}
 use Rattle.pc_quantile.specs.declared.quantile.Quantile.{Quantile}
@@ -38,3 +39,14 @@ second_seen s asked v = second_of asked.p asked.q v (seen_numbers s.question)
 -- how many of the lost rows are in each cell
 abbrev pub lost_counts : Setting → List Row → List ℕ
 lost_counts s lost = counts_of s.question.constraints (area_of s.question) (cells s) lost
+
+-- whatever counts the cells allow, their sum with the observed numbers is not above 0
+abbrev pub BoundsAbove : Setting → Quantile → ℤ → Type 0
+BoundsAbove s asked v =
+    (counts : List ℕ) → IsAllocation (first_program s asked v) (first_program s asked v).floor (first_program s asked v).cap counts →
+    (first_seen s asked v +ℤ worth (first_program s asked v) counts) ≤ℤ pos 0
+
+abbrev pub BoundsBelow : Setting → Quantile → ℤ → Type 0
+BoundsBelow s asked v =
+    (counts : List ℕ) → IsAllocation (second_program s asked v) (second_program s asked v).floor (second_program s asked v).cap counts →
+    (second_seen s asked v +ℤ worth (second_program s asked v) counts) ≤ℤ pos 0

@@ -1,4 +1,5 @@
 
+pub mod Candidates
 pub mod Gains
 pub mod Measured
 pub mod Quantile

@@ -1,11 +1,13 @@
-ghost use Rattle.std.specs.Prelude.{◌≡◌, ℕ, ◌*◌, ◌^◌, ◌≤◌, ◌<◌, ℤ, pos, ◌+ℤ◌, ◌≤ℤ◌, ◌<ℤ◌, List, [], length, IfSome, IsSome, IsNone};
+ghost use Rattle.std.specs.Prelude.{◌≡◌, ℕ, ◌*◌, ◌^◌, ◌≤◌, ◌<◌, ℤ, pos, ◌+ℤ◌, ◌≤ℤ◌, ◌<ℤ◌, List, [], length, All, Contains, IfSome, IsSome, IsNone};
 ghost use Rattle.pc_model.specs.declared.row.Row.{Row};
+ghost use Rattle.pc_model.specs.Cells.{Class};
 ghost use Rattle.pc_model.specs.Right.{IsPossibleFor};
 ghost use Rattle.pc_program_bound.specs.Allocation.{worth};
-ghost use Rattle.pc_proof.specs.Setting.{Setting};
+ghost use Rattle.pc_proof.specs.Setting.{Setting, high_in, low_in};
 ghost use Rattle.pc_quantile.specs.declared.quantile.Quantile.{Quantile};
-ghost use Rattle.pc_quantile.specs.Gains.{first_program, first_seen, lost_counts, second_program, second_seen};
-ghost use Rattle.pc_quantile.specs.Measured.{IsAskedIn, numbers_of};
+ghost use Rattle.pc_quantile.specs.Candidates.{IsCandidate, StandAt};
+ghost use Rattle.pc_quantile.specs.Gains.{BoundsAbove, BoundsBelow, first_program, first_seen, lost_counts, second_program, second_seen};
+ghost use Rattle.pc_quantile.specs.Measured.{IsAskedIn, numbers_of, quantile_of};
 ghost use Rattle.pc_quantile.specs.Quantile.{at_most, quantile};
 ghost use Rattle.pc_quantile.specs.Sums.{first_of, second_of};
 
@@ -36,4 +38,33 @@ pub fn sums_tell_on_which_side()
 pub fn sums_of_lists_are_within_those_of_cells()
     ensures first { (s : Setting) (asked : Quantile) (lost : List Row) → IsAskedIn s asked → IsPossibleFor s.question lost → (v : ℤ) → first_of asked.p asked.q v (numbers_of s.question lost) ≤ℤ (first_seen s asked v +ℤ worth (first_program s asked v) (lost_counts s lost)) }
     ensures second { (s : Setting) (asked : Quantile) (lost : List Row) → IsAskedIn s asked → IsPossibleFor s.question lost → (v : ℤ) → second_of asked.p asked.q v (numbers_of s.question lost) ≤ℤ (second_seen s asked v +ℤ worth (second_program s asked v) (lost_counts s lost)) }
+{}
+
+/// They are just that where each lost row has its cell's outermost number.
+pub fn sums_of_lists_at_an_end_are_those_of_cells()
+    ensures first { (s : Setting) (asked : Quantile) (lost : List Row) → IsAskedIn s asked → IsPossibleFor s.question lost → StandAt s (high_in s) lost → (v : ℤ) → first_of asked.p asked.q v (numbers_of s.question lost) ≡ first_seen s asked v +ℤ worth (first_program s asked v) (lost_counts s lost) }
+    ensures second { (s : Setting) (asked : Quantile) (lost : List Row) → IsAskedIn s asked → IsPossibleFor s.question lost → StandAt s (low_in s) lost → (v : ℤ) → second_of asked.p asked.q v (numbers_of s.question lost) ≡ second_seen s asked v +ℤ worth (second_program s asked v) (lost_counts s lost) }
+{}
+
+/// A number that the programs of the cells leave no counts to pass bounds the quantile of every possible list.
+pub fn programs_bound_quantiles()
+    ensures above { (s : Setting) (asked : Quantile) (lost : List Row) → IsAskedIn s asked → IsPossibleFor s.question lost → (v : ℤ) → BoundsAbove s asked v → IfSome (quantile_of s.question asked lost) (λ w. w ≤ℤ v) }
+    ensures below { (s : Setting) (asked : Quantile) (lost : List Row) → IsAskedIn s asked → IsPossibleFor s.question lost → (v : ℤ) → BoundsBelow s asked v → IfSome (quantile_of s.question asked lost) (λ w. v ≤ℤ w) }
+{}
+
+/// A quantile is one of the numbers.
+#[tactic(auto, using(crate::proofs::Shares::among))]
+pub fn quantiles_are_among_their_numbers()
+    ensures { (p q : ℕ) (numbers : List ℤ) → IfSome (quantile p q numbers) (Contains numbers) }
+{}
+
+/// What bounds the candidates of an end bounds every number of a possible list.
+pub fn numbers_are_within_the_candidates()
+    ensures high { (s : Setting) (asked : Quantile) (lost : List Row) → IsAskedIn s asked → IsPossibleFor s.question lost → (most : ℤ) → ((number : ℤ) → IsCandidate s (high_in s) number → number ≤ℤ most) → All (λ n. n ≤ℤ most) (numbers_of s.question lost) }
+    ensures low { (s : Setting) (asked : Quantile) (lost : List Row) → IsAskedIn s asked → IsPossibleFor s.question lost → (least : ℤ) → ((number : ℤ) → IsCandidate s (low_in s) number → least ≤ℤ number) → All (λ n. least ≤ℤ n) (numbers_of s.question lost) }
+{}
+
+/// Where each lost row has its cell's number at an end, all numbers are candidates of that end.
+pub fn numbers_at_an_end_are_candidates()
+    ensures { (s : Setting) (asked : Quantile) (lost : List Row) (end : Class → ℤ) → IsAskedIn s asked → IsPossibleFor s.question lost → StandAt s end lost → All (IsCandidate s end) (numbers_of s.question lost) }
 {}
