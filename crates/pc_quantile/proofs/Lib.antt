@@ -1,7 +1,7 @@
-
 pub mod Added
 pub mod Counted
 pub mod ListSums
 pub mod Outermost
+pub mod Reached
 pub mod Shares
 pub mod Within

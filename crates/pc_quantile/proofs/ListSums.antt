@@ -1,6 +1,6 @@
 -- What the two sums of a list of numbers say of its quantile.
-use Rattle.std.proofs.Common.{◌≡◌, ℕ, ◌*◌, ◌^◌, ◌≤◌, ◌<◌, ℤ, pos, ◌+ℤ◌, ◌-ℤ◌, ◌*ℤ◌, ◌≤ℤ◌, ◌<ℤ◌, List, [], ◌∷◌, length, IfSome, refl, ap, arith}
-use Rattle.std.specs.Prelude.{int_le, int_lt, count_by}
+use Rattle.std.proofs.Common.{◌≡◌, ℕ, ◌*◌, ◌^◌, ◌≤◌, ◌<◌, ℤ, pos, ◌+ℤ◌, ◌-ℤ◌, ◌*ℤ◌, ◌≤ℤ◌, ◌<ℤ◌, List, [], ◌∷◌, length, IfSome, arith}
+use Rattle.std.specs.Prelude.{int_le, int_lt}
 use Rattle.std.proofs.lemmas.Int.{ints}
 use Rattle.std.proofs.lemmas.Option.{IfSome_then}
 use Rattle.pc_proof.proofs.RowSums.{count_by-weaker}
@@ -47,3 +47,12 @@ module _ (p q : ℕ) (v : ℤ) (numbers : List ℤ) where
 pub second_from : (p q : ℕ) (v : ℤ) (numbers : List ℤ) → second_of p q v numbers ≤ℤ pos 0 → IfSome (quantile p q numbers) (λ w. v ≤ℤ w)
 second_from p q v [] small = tt
 second_from p q v (x ∷ xs) small = second_from_some p q v (x ∷ xs) (omega arith) small
+
+-- the sums of no numbers are not above 0
+pub first_some : (p q : ℕ) (v : ℤ) (numbers : List ℤ) → pos 1 ≤ℤ first_of p q v numbers → 0 < length numbers
+first_some p q v [] large = absurd (omega (arith, ints, large))
+first_some p q v (x ∷ xs) large = omega arith
+
+pub second_some : (p q : ℕ) (v : ℤ) (numbers : List ℤ) → pos 1 ≤ℤ second_of p q v numbers → 0 < length numbers
+second_some p q v [] large = absurd (omega (arith, ints, large))
+second_some p q v (x ∷ xs) large = omega arith

@@ -1,8 +1,8 @@
 -- On which side of a number the quantile of a list is.
-use Rattle.std.proofs.Common.{◌≡◌, ℕ, zero, suc, ◌*◌, ◌≤◌, ◌<◌, ℤ, ◌≤ℤ◌, ◌<ℤ◌, Bool, true, false, List, [], ◌∷◌, length, get_or, map, filter, fold, All, Contains, Option, Some, None, IfSome, IsSome, IsSomeAnd, refl, sym, subst, arith, leb-true, le-leb}
-use Rattle.std.specs.Prelude.{int_le, nat_le}
+use Rattle.std.proofs.Common.{◌≡◌, ℕ, zero, suc, ◌*◌, ◌≤◌, ◌<◌, ℤ, ◌≤ℤ◌, ◌<ℤ◌, Bool, true, List, [], ◌∷◌, length, get_or, filter, fold, All, Contains, Option, Some, None, IfSome, IsSome, IsSomeAnd, refl, sym, subst, arith, leb-true, le-leb}
+use Rattle.std.specs.Prelude.{int_le}
 use Rattle.std.specs.List.{reduce}
-use Rattle.std.specs.Int.{int_min, int_max}
+use Rattle.std.specs.Int.{int_max}
 use Rattle.std.proofs.lemmas.Bool.{false≢true}
 use Rattle.std.proofs.lemmas.Int.{ints, by_lt_z}
 use Rattle.std.proofs.lemmas.List.Elements.{Contains-get_or}
@@ -101,7 +101,10 @@ there_is_one p q (x ∷ xs) some most there =
     found_some (quantile p q (x ∷ xs)) (λ w. w ≤ℤ fold int_max x xs)
     (within_some p q (fold int_max x xs) (x ∷ xs) (omega (arith, all, there)) (mul-le-mul most all))
 
+-- what holds of each number holds of the quantile
+pub quantile_keeps : (P : ℤ → Type 0) (p q : ℕ) (numbers : List ℤ) → All P numbers → IfSome (quantile p q numbers) P
+quantile_keeps P p q numbers each =
+    least_keeps P (filter (has_share p q numbers) numbers) (All-kept (has_share p q numbers) P numbers (λ place d inside passed. each place d inside))
+
 pub among : (p q : ℕ) (numbers : List ℤ) → IfSome (quantile p q numbers) (Contains numbers)
-among p q numbers =
-    least_keeps (Contains numbers) (filter (has_share p q numbers) numbers)
-    (All-kept (has_share p q numbers) (Contains numbers) numbers (λ place d inside passed. Contains-get_or numbers place d inside))
+among p q numbers = quantile_keeps (Contains numbers) p q numbers (λ place d inside. Contains-get_or numbers place d inside)

@@ -1,5 +1,5 @@
 -- What the numbers of a possible list add, beside what its cells gain.
-use Rattle.std.proofs.Common.{◌≡◌, ℤ, pos, ◌+ℤ◌, ◌≤ℤ◌, Bool, true, false, cond, List, map, filter, get_or, All, IfSome, refl, sym, ap, subst, ◌∙◌, true≢false, arith}
+use Rattle.std.proofs.Common.{◌≡◌, ℤ, pos, ◌+ℤ◌, ◌≤ℤ◌, Bool, true, false, cond, List, map, filter, get_or, All, IfSome, refl, sym, ap, ◌∙◌, true≢false, arith}
 use Rattle.std.proofs.lemmas.Int.{ints}
 use Rattle.std.proofs.lemmas.List.{map-append}
 use Rattle.std.proofs.lemmas.List.Elements.{filter-append}
@@ -17,8 +17,7 @@ use Rattle.pc_proof.proofs.PossibleRows.{rows_are_allocation, rows_are_worth}
 use Rattle.pc_proof.proofs.Seen.{keeps, lost_numbers, int_sum-append, int_sum-filter, int_sum_mono}
 use Rattle.pc_quantile.specs.declared.quantile.Quantile.{Quantile}
 use Rattle.pc_quantile.specs.Measured.{IsAskedIn, numbers_of, quantile_of}
-use Rattle.pc_quantile.specs.Sums.{first_of, second_of}
-use Rattle.pc_quantile.specs.Gains.{BoundsAbove, BoundsBelow, first_added, second_added, first_gain, second_gain, first_program, second_program, first_seen, second_seen, lost_counts}
+use Rattle.pc_quantile.specs.Gains.{BoundsAbove, BoundsBelow, first_added, second_added, first_gain, second_gain, first_sum, second_sum, first_most, second_most, lost_counts}
 use Rattle.pc_quantile.specs.Candidates.{StandAt}
 use Rattle.pc_quantile.proofs.ListSums.{first_within, second_from}
 use Rattle.pc_quantile.proofs.Added.{first_is, second_is, first_grows, second_falls}
@@ -88,25 +87,25 @@ module _ (s : Setting) (asked : Quantile) (is : IsAskedIn s asked) (lost : List 
               (alike place d inside)
 
   module _ (v : ℤ) (possible : IsPossibleFor s.question lost) where
-    pub first_lists : first_of asked.p asked.q v (numbers_of s.question lost) ≤ℤ (first_seen s asked v +ℤ worth (first_program s asked v) (lost_counts s lost))
+    pub first_lists : first_sum s asked v lost ≤ℤ first_most s asked v lost
     first_lists =
         let within = added_within (first_added asked.p asked.q v) (first_gain s asked v) possible (λ n class low high. first_grows asked.p asked.q v n (high_in s class) high) in
         rw (first_is asked.p asked.q v (numbers_of s.question lost), first_is asked.p asked.q v (seen_numbers s.question)) within
 
-    pub second_lists : second_of asked.p asked.q v (numbers_of s.question lost) ≤ℤ (second_seen s asked v +ℤ worth (second_program s asked v) (lost_counts s lost))
+    pub second_lists : second_sum s asked v lost ≤ℤ second_most s asked v lost
     second_lists =
         let within = added_within (second_added asked.p asked.q v) (second_gain s asked v) possible (λ n class low high. second_falls asked.p asked.q v (low_in s class) n low) in
         rw (second_is asked.p asked.q v (numbers_of s.question lost), second_is asked.p asked.q v (seen_numbers s.question)) within
 
     -- with the numbers of the cells' ends
 
-    pub first_at_end : StandAt s (high_in s) lost → first_of asked.p asked.q v (numbers_of s.question lost) ≡ first_seen s asked v +ℤ worth (first_program s asked v) (lost_counts s lost)
+    pub first_at_end : StandAt s (high_in s) lost → first_sum s asked v lost ≡ first_most s asked v lost
     first_at_end stand =
         let alike = added_alike (first_added asked.p asked.q v) (first_gain s asked v) possible
         (λ place d inside chosen. ap (first_added asked.p asked.q v) (stand place d inside chosen)) in
         rw (first_is asked.p asked.q v (numbers_of s.question lost), first_is asked.p asked.q v (seen_numbers s.question)) alike
 
-    pub second_at_end : StandAt s (low_in s) lost → second_of asked.p asked.q v (numbers_of s.question lost) ≡ second_seen s asked v +ℤ worth (second_program s asked v) (lost_counts s lost)
+    pub second_at_end : StandAt s (low_in s) lost → second_sum s asked v lost ≡ second_most s asked v lost
     second_at_end stand =
         let alike = added_alike (second_added asked.p asked.q v) (second_gain s asked v) possible
         (λ place d inside chosen. ap (second_added asked.p asked.q v) (stand place d inside chosen)) in

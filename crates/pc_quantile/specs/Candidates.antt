@@ -21,5 +21,5 @@ abbrev pub StandAt : Setting → (Class → ℤ) → List Row → Type 0
 StandAt s end lost =
     All
     (λ (row : Row).
-      (class_of s.question.constraints (area_of s.question) row).chosen ≡ true → asked_of s.question.query row ≡ end (class_of s.question.constraints (area_of s.question) row))
+    (class_of s.question.constraints (area_of s.question) row).chosen ≡ true → asked_of s.question.query row ≡ end (class_of s.question.constraints (area_of s.question) row))
     lost

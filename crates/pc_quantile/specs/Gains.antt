@@ -7,6 +7,7 @@ use Rattle.pc_program_bound.specs.Allocation.{worth, IsAllocation}
 use Rattle.pc_program_bound.specs.CellPrograms.{counts_of}
 use Rattle.pc_proof.specs.Setting.{Setting, seen_numbers, area_of, cells, low_in, high_in, on_chosen, program_for}
 use Rattle.pc_quantile.specs.declared.quantile.Quantile.{Quantile}
+use Rattle.pc_quantile.specs.Measured.{numbers_of}
 use Rattle.pc_quantile.specs.Sums.{weight, first_of, second_of}
 
 -- what a number adds to the sum of a list
@@ -39,6 +40,19 @@ second_seen s asked v = second_of asked.p asked.q v (seen_numbers s.question)
 -- how many of the lost rows are in each cell
 abbrev pub lost_counts : Setting → List Row → List ℕ
 lost_counts s lost = counts_of s.question.constraints (area_of s.question) (cells s) lost
+
+-- the sums of all numbers, and those of the observed ones with what the counts of the lost rows are worth
+abbrev pub first_sum : Setting → Quantile → ℤ → List Row → ℤ
+first_sum s asked v lost = first_of asked.p asked.q v (numbers_of s.question lost)
+
+abbrev pub second_sum : Setting → Quantile → ℤ → List Row → ℤ
+second_sum s asked v lost = second_of asked.p asked.q v (numbers_of s.question lost)
+
+abbrev pub first_most : Setting → Quantile → ℤ → List Row → ℤ
+first_most s asked v lost = first_seen s asked v +ℤ worth (first_program s asked v) (lost_counts s lost)
+
+abbrev pub second_most : Setting → Quantile → ℤ → List Row → ℤ
+second_most s asked v lost = second_seen s asked v +ℤ worth (second_program s asked v) (lost_counts s lost)
 
 -- whatever counts the cells allow, their sum with the observed numbers is not above 0
 abbrev pub BoundsAbove : Setting → Quantile → ℤ → Type 0

@@ -1,5 +1,5 @@
-
 pub mod Candidates
+pub mod Ends
 pub mod Gains
 pub mod Measured
 pub mod Quantile
