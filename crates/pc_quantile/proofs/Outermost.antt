@@ -11,7 +11,7 @@ use Rattle.pc_proof.proofs.Groups.{keeps_area}
 use Rattle.pc_proof.proofs.Kept.{cell_of, between, in_cells}
 use Rattle.pc_proof.proofs.Seen.{keeps, of_all, from_lost}
 use Rattle.pc_quantile.specs.declared.quantile.Quantile.{Quantile}
-use Rattle.pc_quantile.specs.Candidates.{IsCandidate, StandAt}
+use Rattle.pc_quantile.specs.Candidates.{AreFrom, AreUpTo, IsCandidate, StandAt}
 use Rattle.pc_quantile.specs.Measured.{IsAskedIn, numbers_of}
 use Rattle.pc_quantile.proofs.Within.{asks}
 
@@ -30,12 +30,12 @@ module _ (s : Setting) (asked : Quantile) (lost : List Row) (is : IsAskedIn s as
           let listed = in_cells s is.posed is.tree lost possible place d inside in
           nearer place d inside chosen (each (end (cell_of s row)) (inl (record { class = cell_of s row; listed = listed; chosen = chosen; is = refl })))
 
-  pub under_highest : (most : ℤ) → ((number : ℤ) → IsCandidate s (high_in s) number → number ≤ℤ most) → All (λ n. n ≤ℤ most) (numbers_of s.question lost)
+  pub under_highest : (most : ℤ) → AreUpTo s (high_in s) most → All (λ n. n ≤ℤ most) (numbers_of s.question lost)
   under_highest most each =
       from_candidates (λ n. n ≤ℤ most) (high_in s) each
       (λ place d inside chosen end. let ends = between s is.posed is.tree lost possible (asks s asked is lost) place d inside in omega (arith, ints, end, ends.1))
 
-  pub over_lowest : (least : ℤ) → ((number : ℤ) → IsCandidate s (low_in s) number → least ≤ℤ number) → All (λ n. least ≤ℤ n) (numbers_of s.question lost)
+  pub over_lowest : (least : ℤ) → AreFrom s (low_in s) least → All (λ n. least ≤ℤ n) (numbers_of s.question lost)
   over_lowest least each =
       from_candidates (λ n. least ≤ℤ n) (low_in s) each
       (λ place d inside chosen end. let ends = between s is.posed is.tree lost possible (asks s asked is lost) place d inside in omega (arith, ints, end, ends.0))

@@ -1,5 +1,5 @@
 -- The numbers at which an end of the quantiles can stand. An end is given as the number that each cell has there: `low_in s` or `high_in s`.
-use Rattle.std.specs.Prelude.{◌≡◌, ℤ, true, ◌⊎◌, List, All, Contains}
+use Rattle.std.specs.Prelude.{◌≡◌, ℤ, ◌≤ℤ◌, true, ◌⊎◌, List, All, Contains}
 use Rattle.pc_model.specs.declared.row.Row.{Row}
 use Rattle.pc_model.specs.Aggregate.{asked as asked_of}
 use Rattle.pc_model.specs.Cells.{Class, class_of}
@@ -15,6 +15,16 @@ pub record IsOfCell (s : Setting) (end : Class → ℤ) (number : ℤ) : Type 0 
 -- or of an observed row
 abbrev pub IsCandidate : Setting → (Class → ℤ) → ℤ → Type 0
 IsCandidate s end number = IsOfCell s end number ⊎ Contains (seen_numbers s.question) number
+
+-- none is below a number, none is above it, and none lies between two
+abbrev pub AreFrom : Setting → (Class → ℤ) → ℤ → Type 0
+AreFrom s end number = (other : ℤ) → IsCandidate s end other → number ≤ℤ other
+
+abbrev pub AreUpTo : Setting → (Class → ℤ) → ℤ → Type 0
+AreUpTo s end number = (other : ℤ) → IsCandidate s end other → other ≤ℤ number
+
+abbrev pub AreBeside : Setting → (Class → ℤ) → ℤ → ℤ → Type 0
+AreBeside s end low high = (other : ℤ) → IsCandidate s end other → (other ≤ℤ low) ⊎ (high ≤ℤ other)
 
 -- each lost row of a chosen cell has the cell's number
 abbrev pub StandAt : Setting → (Class → ℤ) → List Row → Type 0

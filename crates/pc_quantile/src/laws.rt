@@ -4,7 +4,7 @@ ghost use Rattle.pc_model.specs.Cells.{Class};
 ghost use Rattle.pc_model.specs.Right.{IsPossibleFor};
 ghost use Rattle.pc_proof.specs.Setting.{Setting, high_in, low_in};
 ghost use Rattle.pc_quantile.specs.declared.quantile.Quantile.{Quantile};
-ghost use Rattle.pc_quantile.specs.Candidates.{IsCandidate, StandAt};
+ghost use Rattle.pc_quantile.specs.Candidates.{AreFrom, AreUpTo, IsCandidate, StandAt};
 ghost use Rattle.pc_quantile.specs.Ends.{ReachesHigh, ReachesLow};
 ghost use Rattle.pc_quantile.specs.Gains.{BoundsAbove, BoundsBelow, first_most, first_sum, second_most, second_sum};
 ghost use Rattle.pc_quantile.specs.Measured.{IsAskedIn, numbers_of, quantile_of};
@@ -60,8 +60,8 @@ pub fn quantiles_are_among_their_numbers()
 
 /// What bounds the candidates of an end bounds every number of a possible list.
 pub fn numbers_are_within_the_candidates()
-    ensures high { (s : Setting) (asked : Quantile) (lost : List Row) → IsAskedIn s asked → IsPossibleFor s.question lost → (most : ℤ) → ((number : ℤ) → IsCandidate s (high_in s) number → number ≤ℤ most) → All (λ n. n ≤ℤ most) (numbers_of s.question lost) }
-    ensures low { (s : Setting) (asked : Quantile) (lost : List Row) → IsAskedIn s asked → IsPossibleFor s.question lost → (least : ℤ) → ((number : ℤ) → IsCandidate s (low_in s) number → least ≤ℤ number) → All (λ n. least ≤ℤ n) (numbers_of s.question lost) }
+    ensures high { (s : Setting) (asked : Quantile) (lost : List Row) (most : ℤ) → IsAskedIn s asked → IsPossibleFor s.question lost → AreUpTo s (high_in s) most → All (λ n. n ≤ℤ most) (numbers_of s.question lost) }
+    ensures low { (s : Setting) (asked : Quantile) (lost : List Row) (least : ℤ) → IsAskedIn s asked → IsPossibleFor s.question lost → AreFrom s (low_in s) least → All (λ n. least ≤ℤ n) (numbers_of s.question lost) }
 {}
 
 /// Where each lost row has its cell's number at an end, all numbers are candidates of that end.
@@ -69,8 +69,8 @@ pub fn numbers_at_an_end_are_candidates()
     ensures { (s : Setting) (asked : Quantile) (lost : List Row) (end : Class → ℤ) → IsAskedIn s asked → IsPossibleFor s.question lost → StandAt s end lost → All (IsCandidate s end) (numbers_of s.question lost) }
 {}
 
-/// A possible list with the numbers of an end, whose sum passes the next candidate inwards, has the bound of that end for its quantile.
+/// A possible list that reaches a number as an end has it for its quantile.
 pub fn lists_reach_their_ends()
-    ensures high { (s : Setting) (asked : Quantile) (lost : List Row) (next number : ℤ) → IsAskedIn s asked → IsPossibleFor s.question lost → ReachesHigh s asked lost next number → quantile_of s.question asked lost ≡ Some number }
-    ensures low { (s : Setting) (asked : Quantile) (lost : List Row) (number next : ℤ) → IsAskedIn s asked → IsPossibleFor s.question lost → ReachesLow s asked lost number next → quantile_of s.question asked lost ≡ Some number }
+    ensures high { (s : Setting) (asked : Quantile) (lost : List Row) (number : ℤ) → IsAskedIn s asked → IsPossibleFor s.question lost → ReachesHigh s asked lost number → quantile_of s.question asked lost ≡ Some number }
+    ensures low { (s : Setting) (asked : Quantile) (lost : List Row) (number : ℤ) → IsAskedIn s asked → IsPossibleFor s.question lost → ReachesLow s asked lost number → quantile_of s.question asked lost ≡ Some number }
 {}
