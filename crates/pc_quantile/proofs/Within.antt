@@ -1,5 +1,5 @@
 -- What the numbers of a possible list add, beside what its cells gain.
-use Rattle.std.proofs.Common.{◌≡◌, ℤ, pos, ◌+ℤ◌, ◌≤ℤ◌, Bool, true, false, cond, List, map, filter, get_or, All, IfSome, refl, sym, ap, ◌∙◌, true≢false, arith}
+use Rattle.std.proofs.Common.{◌≡◌, ℤ, pos, ◌+ℤ◌, ◌≤ℤ◌, Bool, true, false, cond, List, map, filter, get_or, All, Option, Some, None, IfSome, refl, sym, ap, ◌∙◌, true≢false, arith}
 use Rattle.std.proofs.lemmas.Int.{ints}
 use Rattle.std.proofs.lemmas.List.{map-append}
 use Rattle.std.proofs.lemmas.List.Elements.{filter-append}
@@ -19,6 +19,7 @@ use Rattle.pc_quantile.specs.declared.quantile.Quantile.{Quantile}
 use Rattle.pc_quantile.specs.Measured.{IsAskedIn, numbers_of, quantile_of}
 use Rattle.pc_quantile.specs.Gains.{BoundsAbove, BoundsBelow, first_added, second_added, first_gain, second_gain, first_sum, second_sum, first_most, second_most, lost_counts}
 use Rattle.pc_quantile.specs.Candidates.{StandAt}
+use Rattle.pc_quantile.specs.Right.{ContainsQuantiles}
 use Rattle.pc_quantile.proofs.ListSums.{first_within, second_from}
 use Rattle.pc_quantile.proofs.Added.{first_is, second_is, first_grows, second_falls}
 
@@ -125,3 +126,11 @@ module _ (s : Setting) (asked : Quantile) (is : IsAskedIn s asked) (lost : List 
     bounded_below bounds =
         let most = bounds (lost_counts s lost) (allocated (second_gain s asked v)) in
         second_from asked.p asked.q v (numbers_of s.question lost) (omega (arith, ints, most, second_lists))
+
+pub contained : (s : Setting) (asked : Quantile) (low high : ℤ) → IsAskedIn s asked → BoundsBelow s asked low → BoundsAbove s asked high → ContainsQuantiles s.question asked low high
+contained s asked low high is below above lost possible =
+    both_of (quantile_of s.question asked lost) (bounded_below s asked is lost low possible below) (bounded_above s asked is lost high possible above)
+  where
+    both_of : (o : Option ℤ) → IfSome o (λ v. low ≤ℤ v) → IfSome o (λ v. v ≤ℤ high) → IfSome o (λ v. (low ≤ℤ v) × (v ≤ℤ high))
+    both_of None first second = tt
+    both_of (Some v) first second = (first, second)

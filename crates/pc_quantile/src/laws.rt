@@ -9,6 +9,7 @@ ghost use Rattle.pc_quantile.specs.Ends.{ReachesHigh, ReachesLow};
 ghost use Rattle.pc_quantile.specs.Gains.{BoundsAbove, BoundsBelow, first_most, first_sum, second_most, second_sum};
 ghost use Rattle.pc_quantile.specs.Measured.{IsAskedIn, numbers_of, quantile_of};
 ghost use Rattle.pc_quantile.specs.Quantile.{at_most, quantile};
+ghost use Rattle.pc_quantile.specs.Right.{ContainsQuantiles};
 ghost use Rattle.pc_quantile.specs.Sums.{first_of, second_of};
 
 /// Of a share of more than none and at most one, every list of numbers has a quantile, but the empty one.
@@ -50,6 +51,7 @@ pub fn sums_of_lists_at_an_end_are_those_of_cells()
 pub fn programs_bound_quantiles()
     ensures above { (s : Setting) (asked : Quantile) (lost : List Row) (v : ℤ) → IsAskedIn s asked → IsPossibleFor s.question lost → BoundsAbove s asked v → IfSome (quantile_of s.question asked lost) (λ w. w ≤ℤ v) }
     ensures below { (s : Setting) (asked : Quantile) (lost : List Row) (v : ℤ) → IsAskedIn s asked → IsPossibleFor s.question lost → BoundsBelow s asked v → IfSome (quantile_of s.question asked lost) (λ w. v ≤ℤ w) }
+    ensures both { (s : Setting) (asked : Quantile) (low high : ℤ) → IsAskedIn s asked → BoundsBelow s asked low → BoundsAbove s asked high → ContainsQuantiles s.question asked low high }
 {}
 
 /// A quantile is one of the numbers.
