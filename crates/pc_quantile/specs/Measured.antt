@@ -8,7 +8,7 @@ use Rattle.pc_model.specs.Accepted.{IsNumeric, IsColumnWhere}
 use Rattle.pc_model.specs.Aggregate.{asked as asked_of, kept}
 use Rattle.pc_model.specs.Boxes.{IsAreaOf}
 use Rattle.pc_model.specs.Cells.{IsSettledTree}
-use Rattle.pc_model.specs.Right.{Question}
+use Rattle.pc_model.specs.Right.{Question, IsPossibleFor}
 use Rattle.pc_proof.specs.Setting.{Setting, area_of}
 use Rattle.pc_proof.specs.Unbroken.{IsWellPosed}
 use Rattle.pc_quantile.specs.declared.quantile.Quantile.{Quantile}
@@ -32,6 +32,11 @@ pub record IsAskedIn (s : Setting) (asked : Quantile) : Type 0 where
   pub query : s.question.query ≡ least_of asked
   pub well : IsQuantile s.question.schema asked
   pub tree : IsSettledTree s.question.schema s.question.constraints (area_of s.question) s.nodes
+
+-- a possible list of lost rows in such a setting
+pub record IsListIn (s : Setting) (asked : Quantile) (lost : List Row) : Type 0 where
+  pub setting : IsAskedIn s asked
+  pub possible : IsPossibleFor s.question lost
 
 -- the numbers of the chosen rows, of the observed ones and then of the lost ones
 abbrev pub numbers_of : Question → List Row → List ℤ

@@ -1,13 +1,12 @@
 ghost use Rattle.std.specs.Prelude.{◌≡◌, ℕ, ◌*◌, ◌^◌, ◌≤◌, ◌<◌, ℤ, pos, ◌≤ℤ◌, ◌<ℤ◌, List, [], length, All, Contains, Some, IfSome, IsSome, IsNone};
 ghost use Rattle.pc_model.specs.declared.row.Row.{Row};
 ghost use Rattle.pc_model.specs.Cells.{Class};
-ghost use Rattle.pc_model.specs.Right.{IsPossibleFor};
 ghost use Rattle.pc_proof.specs.Setting.{Setting, high_in, low_in};
 ghost use Rattle.pc_quantile.specs.declared.quantile.Quantile.{Quantile};
 ghost use Rattle.pc_quantile.specs.Candidates.{AreFrom, AreUpTo, IsCandidate, StandAt};
 ghost use Rattle.pc_quantile.specs.Ends.{ReachesHigh, ReachesLow};
 ghost use Rattle.pc_quantile.specs.Gains.{BoundsAbove, BoundsBelow, first_most, first_sum, second_most, second_sum};
-ghost use Rattle.pc_quantile.specs.Measured.{IsAskedIn, numbers_of, quantile_of};
+ghost use Rattle.pc_quantile.specs.Measured.{IsAskedIn, IsListIn, numbers_of, quantile_of};
 ghost use Rattle.pc_quantile.specs.Quantile.{at_most, quantile};
 ghost use Rattle.pc_quantile.specs.Right.{ContainsQuantiles};
 ghost use Rattle.pc_quantile.specs.Sums.{first_of, second_of};
@@ -37,20 +36,20 @@ pub fn sums_tell_on_which_side()
 
 /// The sums of a possible list are at most those of the observed numbers and what the list's counts are worth.
 pub fn sums_of_lists_are_within_those_of_cells()
-    ensures first { (s : Setting) (asked : Quantile) (lost : List Row) (v : ℤ) → IsAskedIn s asked → IsPossibleFor s.question lost → first_sum s asked v lost ≤ℤ first_most s asked v lost }
-    ensures second { (s : Setting) (asked : Quantile) (lost : List Row) (v : ℤ) → IsAskedIn s asked → IsPossibleFor s.question lost → second_sum s asked v lost ≤ℤ second_most s asked v lost }
+    ensures first { (s : Setting) (asked : Quantile) (lost : List Row) (v : ℤ) → IsListIn s asked lost → first_sum s asked v lost ≤ℤ first_most s asked v lost }
+    ensures second { (s : Setting) (asked : Quantile) (lost : List Row) (v : ℤ) → IsListIn s asked lost → second_sum s asked v lost ≤ℤ second_most s asked v lost }
 {}
 
 /// They are just that where each lost row has its cell's outermost number.
 pub fn sums_of_lists_at_an_end_are_those_of_cells()
-    ensures first { (s : Setting) (asked : Quantile) (lost : List Row) (v : ℤ) → IsAskedIn s asked → IsPossibleFor s.question lost → StandAt s (high_in s) lost → first_sum s asked v lost ≡ first_most s asked v lost }
-    ensures second { (s : Setting) (asked : Quantile) (lost : List Row) (v : ℤ) → IsAskedIn s asked → IsPossibleFor s.question lost → StandAt s (low_in s) lost → second_sum s asked v lost ≡ second_most s asked v lost }
+    ensures first { (s : Setting) (asked : Quantile) (lost : List Row) (v : ℤ) → IsListIn s asked lost → StandAt s (high_in s) lost → first_sum s asked v lost ≡ first_most s asked v lost }
+    ensures second { (s : Setting) (asked : Quantile) (lost : List Row) (v : ℤ) → IsListIn s asked lost → StandAt s (low_in s) lost → second_sum s asked v lost ≡ second_most s asked v lost }
 {}
 
 /// A number that no counts of the cells pass bounds the quantile of every possible list.
 pub fn programs_bound_quantiles()
-    ensures above { (s : Setting) (asked : Quantile) (lost : List Row) (v : ℤ) → IsAskedIn s asked → IsPossibleFor s.question lost → BoundsAbove s asked v → IfSome (quantile_of s.question asked lost) (λ w. w ≤ℤ v) }
-    ensures below { (s : Setting) (asked : Quantile) (lost : List Row) (v : ℤ) → IsAskedIn s asked → IsPossibleFor s.question lost → BoundsBelow s asked v → IfSome (quantile_of s.question asked lost) (λ w. v ≤ℤ w) }
+    ensures above { (s : Setting) (asked : Quantile) (lost : List Row) (v : ℤ) → IsListIn s asked lost → BoundsAbove s asked v → IfSome (quantile_of s.question asked lost) (λ w. w ≤ℤ v) }
+    ensures below { (s : Setting) (asked : Quantile) (lost : List Row) (v : ℤ) → IsListIn s asked lost → BoundsBelow s asked v → IfSome (quantile_of s.question asked lost) (λ w. v ≤ℤ w) }
     ensures both { (s : Setting) (asked : Quantile) (low high : ℤ) → IsAskedIn s asked → BoundsBelow s asked low → BoundsAbove s asked high → ContainsQuantiles s.question asked low high }
 {}
 
@@ -62,17 +61,17 @@ pub fn quantiles_are_among_their_numbers()
 
 /// What bounds the candidates of an end bounds every number of a possible list.
 pub fn numbers_are_within_the_candidates()
-    ensures high { (s : Setting) (asked : Quantile) (lost : List Row) (most : ℤ) → IsAskedIn s asked → IsPossibleFor s.question lost → AreUpTo s (high_in s) most → All (λ n. n ≤ℤ most) (numbers_of s.question lost) }
-    ensures low { (s : Setting) (asked : Quantile) (lost : List Row) (least : ℤ) → IsAskedIn s asked → IsPossibleFor s.question lost → AreFrom s (low_in s) least → All (λ n. least ≤ℤ n) (numbers_of s.question lost) }
+    ensures high { (s : Setting) (asked : Quantile) (lost : List Row) (most : ℤ) → IsListIn s asked lost → AreUpTo s (high_in s) most → All (λ n. n ≤ℤ most) (numbers_of s.question lost) }
+    ensures low { (s : Setting) (asked : Quantile) (lost : List Row) (least : ℤ) → IsListIn s asked lost → AreFrom s (low_in s) least → All (λ n. least ≤ℤ n) (numbers_of s.question lost) }
 {}
 
 /// Where each lost row has its cell's number at an end, all numbers are candidates of that end.
 pub fn numbers_at_an_end_are_candidates()
-    ensures { (s : Setting) (asked : Quantile) (lost : List Row) (end : Class → ℤ) → IsAskedIn s asked → IsPossibleFor s.question lost → StandAt s end lost → All (IsCandidate s end) (numbers_of s.question lost) }
+    ensures { (s : Setting) (asked : Quantile) (lost : List Row) (end : Class → ℤ) → IsListIn s asked lost → StandAt s end lost → All (IsCandidate s end) (numbers_of s.question lost) }
 {}
 
 /// A possible list that reaches a number as an end has it for its quantile.
 pub fn lists_reach_their_ends()
-    ensures high { (s : Setting) (asked : Quantile) (lost : List Row) (number : ℤ) → IsAskedIn s asked → IsPossibleFor s.question lost → ReachesHigh s asked lost number → quantile_of s.question asked lost ≡ Some number }
-    ensures low { (s : Setting) (asked : Quantile) (lost : List Row) (number : ℤ) → IsAskedIn s asked → IsPossibleFor s.question lost → ReachesLow s asked lost number → quantile_of s.question asked lost ≡ Some number }
+    ensures high { (s : Setting) (asked : Quantile) (lost : List Row) (number : ℤ) → IsListIn s asked lost → ReachesHigh s asked lost number → quantile_of s.question asked lost ≡ Some number }
+    ensures low { (s : Setting) (asked : Quantile) (lost : List Row) (number : ℤ) → IsListIn s asked lost → ReachesLow s asked lost number → quantile_of s.question asked lost ≡ Some number }
 {}
