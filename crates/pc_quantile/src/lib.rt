@@ -4,6 +4,7 @@
 
 mod laws;
 mod quantile;
+mod samples;
 
 pub use laws::{
     lists_of_numbers_have_a_quantile, lists_reach_their_ends, numbers_are_within_the_candidates,
