@@ -4,4 +4,5 @@ pub mod ListSums
 pub mod Outermost
 pub mod Reached
 pub mod Shares
+pub mod There
 pub mod Within

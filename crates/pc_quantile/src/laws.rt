@@ -1,6 +1,7 @@
-ghost use Rattle.std.specs.Prelude.{◌≡◌, ℕ, ◌*◌, ◌^◌, ◌≤◌, ◌<◌, ℤ, pos, ◌≤ℤ◌, ◌<ℤ◌, List, [], length, All, Contains, Some, IfSome, IsSome, IsNone};
+ghost use Rattle.std.specs.Prelude.{◌≡◌, ◌↔◌, ℕ, ◌*◌, ◌^◌, ◌≤◌, ◌<◌, ℤ, pos, ◌≤ℤ◌, ◌<ℤ◌, List, [], length, All, Contains, Some, IfSome, IsSome, IsNone};
 ghost use Rattle.pc_model.specs.declared.row.Row.{Row};
 ghost use Rattle.pc_model.specs.Cells.{Class};
+ghost use Rattle.pc_model.specs.Right.{value_for};
 ghost use Rattle.pc_proof.specs.Setting.{Setting, high_in, low_in};
 ghost use Rattle.pc_quantile.specs.declared.quantile.Quantile.{Quantile};
 ghost use Rattle.pc_quantile.specs.Candidates.{AreFrom, AreUpTo, IsCandidate, StandAt};
@@ -57,6 +58,11 @@ pub fn programs_bound_quantiles()
 #[tactic(auto, using(crate::proofs::Shares::among))]
 pub fn quantiles_are_among_their_numbers()
     ensures { (p q : ℕ) (numbers : List ℤ) → IfSome (quantile p q numbers) (Contains numbers) }
+{}
+
+/// A list of rows has a quantile just where its numbers have a least one.
+pub fn quantiles_are_there_with_least_numbers()
+    ensures { (s : Setting) (asked : Quantile) (lost : List Row) → IsAskedIn s asked → (IsSome (quantile_of s.question asked lost) ↔ IsSome (value_for s.question lost)) }
 {}
 
 /// What bounds the candidates of an end bounds every number of a possible list.

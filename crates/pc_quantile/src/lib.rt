@@ -9,7 +9,8 @@ mod samples;
 pub use laws::{
     lists_of_numbers_have_a_quantile, lists_reach_their_ends, numbers_are_within_the_candidates,
     numbers_at_an_end_are_candidates, programs_bound_quantiles, quantiles_are_among_their_numbers,
-    shares_tell_on_which_side, sums_of_lists_are_within_those_of_cells,
-    sums_of_lists_at_an_end_are_those_of_cells, sums_tell_on_which_side,
+    quantiles_are_there_with_least_numbers, shares_tell_on_which_side,
+    sums_of_lists_are_within_those_of_cells, sums_of_lists_at_an_end_are_those_of_cells,
+    sums_tell_on_which_side,
 };
 pub use quantile::Quantile;
