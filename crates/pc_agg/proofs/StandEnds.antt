@@ -68,6 +68,7 @@ has_reached : (want : Want) (p : Program) (counts : List ℕ) → Has p (wanted_
 has_reached wants.Any p counts has = tt
 has_reached wants.Gaining p counts has = has
 has_reached wants.Without p counts has = omega (arith, ints, has)
+has_reached (wants.From least) p counts has = has
 
 pub none_held : (found : List (List ℕ)) (p : Program) (want : Want) → All (λ counts. IsFound p want counts → ⊥) found → HoldsNone found p (wanted_of want)
 none_held found p want none place d inside allowed has = none place d inside (allowed, has_reached want p (get_or found place d) has)

@@ -29,16 +29,19 @@ under_is : (want : Want) (n : ℤ) → is_under want n ≡ true → IsUnder want
 under_is wants.Any n e = absurd (true≢false (sym e))
 under_is wants.Gaining n e = omega (arith, ints, e)
 under_is wants.Without n e = omega (arith, ints, e)
+under_is (wants.From least) n e = omega (arith, ints, e)
 
 reaches_is : (want : Want) (n : ℤ) → is_under want n ≡ false → Reaches want n
 reaches_is wants.Any n e = tt
 reaches_is wants.Gaining n e = omega (arith, ints, e)
 reaches_is wants.Without n e = omega (arith, ints, e)
+reaches_is (wants.From least) n e = omega (arith, ints, e)
 
 under_less : (want : Want) (k n : ℤ) → k ≤ℤ n → IsUnder want n → IsUnder want k
 under_less wants.Any k n less under = under
 under_less wants.Gaining k n less under = omega (arith, ints, less, under)
 under_less wants.Without k n less under = omega (arith, ints, less, under)
+under_less (wants.From least) k n less under = omega (arith, ints, less, under)
 
 under_within : (want : Want) (most : ℤ) (bound : Option ℤ) → MatchOption bound ⊤ (λ k. k ≤ℤ most) → IsUnder want most → MatchOption bound ⊤ (IsUnder want)
 under_within want most None inside under = tt
@@ -51,11 +54,13 @@ module _ (p : Program) where
   none_short wants.Any = refl
   none_short wants.Gaining = tt
   none_short wants.Without = tt
+  none_short (wants.From least) = tt
 
   under_short : (want : Want) (counts : List ℕ) → IsUnder want (worth p counts) → IsShort p (wanted_of want) (Some counts)
   under_short wants.Any counts under = absurd under
   under_short wants.Gaining counts under = under
   under_short wants.Without counts under = omega (arith, ints, under)
+  under_short (wants.From least) counts under = under
 
   all_found : (found : Option (List ℕ)) → IfSome found (IsAllocation p p.floor p.cap) → All (IsAllocation p p.floor p.cap) (found_of found)
   all_found None allowed = All-nil (IsAllocation p p.floor p.cap)

@@ -14,17 +14,25 @@ use Rattle.pc_agg_search.specs.Fitting.{IsFitTree}
 use Rattle.pc_agg_search.specs.Limits.{IsLimit, IsEmpty}
 use Rattle.pc_agg_search.specs.Wants.{IsUnder, FallsShort}
 
-under_small : (want : Want) (k : ℤ) → IsUnder want k → k ≤ℤ pos 0
-under_small wants.Any k under = absurd under
-under_small wants.Gaining k under = under
-under_small wants.Without k under = omega (arith, ints, under)
+-- what is not wanted is worth at most 0
+abbrev IsLow : Want → Type 0
+IsLow wants.Any = ⊤
+IsLow wants.Gaining = ⊤
+IsLow wants.Without = ⊤
+IsLow (wants.From least) = least ≤ℤ pos 1
 
-all_small : (want : Want) (k : Option ℤ) → MatchOption k ⊤ (IsUnder want) → IfSome k (λ x. x ≤ℤ bound_limit)
-all_small want None under = tt
-all_small want (Some k) under = omega (arith, ints, under_small want k under)
+under_small : (want : Want) (k : ℤ) → IsLow want → IsUnder want k → k ≤ℤ pos 0
+under_small wants.Any k low under = absurd under
+under_small wants.Gaining k low under = under
+under_small wants.Without k low under = omega (arith, ints, under)
+under_small (wants.From least) k low under = omega (arith, ints, low, under)
 
-pub sound_short : (p : Program) (want : Want) (budget : ℕ) (tree : Tree) → FallsShort p want budget tree → IsSound p tree
-sound_short p want budget tree short = record { proves = short.proves; small = all_small want (bound_for p tree) short.under }
+all_small : (want : Want) (k : Option ℤ) → IsLow want → MatchOption k ⊤ (IsUnder want) → IfSome k (λ x. x ≤ℤ bound_limit)
+all_small want None low under = tt
+all_small want (Some k) low under = omega (arith, ints, under_small want k low under)
+
+pub sound_short : (p : Program) (want : Want) (budget : ℕ) (tree : Tree) → IsLow want → FallsShort p want budget tree → IsSound p tree
+sound_short p want budget tree low short = record { proves = short.proves; small = all_small want (bound_for p tree) low short.under }
 
 pass_none : (k : Option ℤ) → MatchOption k ⊤ (IsUnder wants.Gaining) → IfSome k (λ x. int_max x (neg_ℤ bound_limit) ≤ℤ pos 0)
 pass_none None under = tt
@@ -36,10 +44,10 @@ pass_some (Some k) under = omega (arith, ints, clamps, under)
 
 -- no row is gained, and each list has a row
 pub shows_no_gain : (p : Program) (budget : ℕ) (tree : Tree) → FallsShort p wants.Gaining budget tree → Shows p tree (λ k. k ≤ℤ pos 0)
-shows_no_gain p budget tree short = record { sound = sound_short p wants.Gaining budget tree short; passes = pass_none (bound_for p tree) short.under }
+shows_no_gain p budget tree short = record { sound = sound_short p wants.Gaining budget tree tt short; passes = pass_none (bound_for p tree) short.under }
 
 pub shows_some_row : (p : Program) (budget : ℕ) (tree : Tree) → FallsShort p wants.Without budget tree → Shows p tree (λ k. k ≤ℤ neg_ℤ (pos 1))
-shows_some_row p budget tree short = record { sound = sound_short p wants.Without budget tree short; passes = pass_some (bound_for p tree) short.under }
+shows_some_row p budget tree short = record { sound = sound_short p wants.Without budget tree tt short; passes = pass_some (bound_for p tree) short.under }
 
 -- lists with a value do not avoid the cells
 forced_any : (P : ℤ → Type 0) (k : Option ℤ) → MatchOption k ⊤ (IsUnder wants.Any) → IfSome k P
@@ -47,7 +55,7 @@ forced_any P None under = tt
 forced_any P (Some k) under = absurd under
 
 pub shows_forced_any : (s : Setting) (p : Program) (budget : ℕ) (tree : Tree) → FallsShort p wants.Any budget tree → ShowsForced s p tree
-shows_forced_any s p budget tree short = record { sound = sound_short p wants.Any budget tree short; forced = forced_any (λ k. (seen_count s.question ≡ pos 0) × (k ≤ℤ pos 0)) (bound_for p tree) short.under }
+shows_forced_any s p budget tree short = record { sound = sound_short p wants.Any budget tree tt short; forced = forced_any (λ k. (seen_count s.question ≡ pos 0) × (k ≤ℤ pos 0)) (bound_for p tree) short.under }
 
 forced_gaining : (P : Type 0) (k : Option ℤ) → P → MatchOption k ⊤ (IsUnder wants.Gaining) → IfSome k (λ x. P × (x ≤ℤ pos 0))
 forced_gaining P None there under = tt
@@ -55,7 +63,7 @@ forced_gaining P (Some k) there under = (there, under)
 
 pub shows_forced_gaining : (s : Setting) (p : Program) (budget : ℕ) (tree : Tree) → seen_count s.question ≡ pos 0 → FallsShort p wants.Gaining budget tree → ShowsForced s p tree
 shows_forced_gaining s p budget tree none short =
-    record { sound = sound_short p wants.Gaining budget tree short; forced = forced_gaining (seen_count s.question ≡ pos 0) (bound_for p tree) none short.under }
+    record { sound = sound_short p wants.Gaining budget tree tt short; forced = forced_gaining (seen_count s.question ≡ pos 0) (bound_for p tree) none short.under }
 
 -- a tree of void leaves falls short of anything, and one that falls short of any counts has void leaves alone
 pub empty_short : (p : Program) (want : Want) (budget : ℕ) (tree : Tree) → IsEmpty p budget tree → FallsShort p want budget tree

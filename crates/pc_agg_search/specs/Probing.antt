@@ -12,6 +12,7 @@ abbrev pub is_under : Want → ℤ → Bool
 is_under wants.Any n = false
 is_under wants.Gaining n = int_le n (pos 0)
 is_under wants.Without n = int_lt n (pos 0)
+is_under (wants.From least) n = int_lt n least
 
 abbrev pub within : Want → ℤ → Tree → List (List ℕ) → Option (List ℕ) → Probed
 within want most tree found best = record {

@@ -1,5 +1,5 @@
 -- Counts that are looked for, and what a search says of them.
-use Rattle.std.specs.Prelude.{◌≡◌, ℕ, ℤ, pos, neg_ℤ, ◌≤ℤ◌, ◌<◌, ◌⊎◌, ⊤, Bool, true, false, List, length, ◌++◌, All, Any, Option, None, MatchOption, slice_index_or, []}
+use Rattle.std.specs.Prelude.{◌≡◌, ℕ, ℤ, pos, neg_ℤ, ◌≤ℤ◌, ◌<ℤ◌, ◌<◌, ◌⊎◌, ⊤, Bool, true, false, List, length, ◌++◌, All, Any, Option, None, MatchOption, slice_index_or, []}
 use Rattle.pc_model.specs.declared.tree.Tree.{Tree}
 use Rattle.pc_program_bound.specs.declared.program.Program.{Program}
 use Rattle.pc_program_bound.specs.Sums.{nat_at}
@@ -22,18 +22,21 @@ abbrev pub wanted_of : Want → Wanted
 wanted_of wants.Any = wanted.any
 wanted_of wants.Gaining = wanted.some
 wanted_of wants.Without = wanted.without
+wanted_of (wants.From least) = wanted.from least
 
 -- such counts have this worth
 abbrev pub Reaches : Want → ℤ → Type 0
 Reaches wants.Any n = ⊤
 Reaches wants.Gaining n = pos 1 ≤ℤ n
 Reaches wants.Without n = pos 0 ≤ℤ n
+Reaches (wants.From least) n = least ≤ℤ n
 
 -- no such counts have a worth within this bound
 abbrev pub IsUnder : Want → ℤ → Type 0
 IsUnder wants.Any k = ⊥
 IsUnder wants.Gaining k = k ≤ℤ pos 0
 IsUnder wants.Without k = k ≤ℤ neg_ℤ (pos 1)
+IsUnder (wants.From least) k = k <ℤ least
 
 -- the counts are allowed, and looked for
 abbrev pub IsFound : Program → Want → List ℕ → Type 0

@@ -120,6 +120,7 @@ fn is_under(want: Want, most: i128) -> bool
         Want::Any => false,
         Want::Gaining => most <= 0,
         Want::Without => most < 0,
+        Want::From(least) => most < least,
     }
 }
 

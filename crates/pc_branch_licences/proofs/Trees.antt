@@ -13,7 +13,7 @@ use Rattle.pc_branch.specs.Licence.{Splits, leaf, split, AreSplitNodes, IsSearch
 use Rattle.pc_branch.proofs.Leaves.{start_box}
 use Rattle.pc_branch.proofs.Parts.{IsBox-less, IsBox-more}
 use Rattle.pc_branch.proofs.Points.{whole-worth}
-use Rattle.pc_branch_licences.specs.Wanted.{Wanted, any, nothing, some, without, Has, IsShort, EndsInNone, LeavesOpen}
+use Rattle.pc_branch_licences.specs.Wanted.{Wanted, any, nothing, some, without, from, Has, IsShort, EndsInNone, LeavesOpen}
 
 -- ---- a tree for no value
 
@@ -49,6 +49,7 @@ not-wanted p any (Some best) counts most is held short has = none-some best (sym
 not-wanted p nothing (Some best) counts most is held short has = has
 not-wanted p some (Some best) counts most is held short has = omega (arith, ints, is, held, short, has)
 not-wanted p without (Some best) counts most is held short has = omega (arith, ints, is, held, short, has)
+not-wanted p (from least) (Some best) counts most is held short has = omega (arith, ints, is, held, short, has)
 
 module _ (p : Program) (program : IsProgram p) (e : ℤ) (found : Option (List ℕ)) (wanted : Wanted) (short : IsShort p wanted found) where
   leaves-short : (tree : Splits) (floors caps : List ℕ) → IsBox p floors caps → AreSplitNodes p (Some e) floors caps tree → HoldsWholePoints p found floors caps tree →

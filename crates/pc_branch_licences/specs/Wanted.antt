@@ -9,18 +9,20 @@ use Rattle.pc_simplex_tableau.specs.Point.{vertex, IsRelaxation}
 use Rattle.pc_branch.specs.Licence.{Splits, leaf, split, IsWhole, IsLicence}
 use Rattle.pc_branch.specs.Ends.{whole_counts}
 
--- any counts, none, those worth 1 or more, those worth 0
+-- any counts, none, those worth 1 or more, those worth 0, those worth so much or more
 pub data Wanted : Type 0 where
   any : Wanted
   nothing : Wanted
   some : Wanted
   without : Wanted
+  from : ℤ → Wanted
 
 abbrev pub Has : Program → Wanted → List ℕ → Type 0
 Has p any counts = ⊤
 Has p nothing counts = ⊥
 Has p some counts = pos 1 ≤ℤ worth p counts
 Has p without counts = worth p counts ≡ pos 0
+Has p (from least) counts = least ≤ℤ worth p counts
 
 -- what was found is not wanted, nor is what is worth no more
 abbrev pub IsShort : Program → Wanted → Option (List ℕ) → Type 0
@@ -28,6 +30,7 @@ IsShort p any found = found ≡ None
 IsShort p nothing found = ⊤
 IsShort p some found = IfSome found (λ best. worth p best ≤ℤ pos 0)
 IsShort p without found = IfSome found (λ best. worth p best <ℤ pos 0)
+IsShort p (from least) found = IfSome found (λ best. worth p best <ℤ least)
 
 -- at no leaf do the steps end in a whole point of wanted counts
 abbrev pub EndsInNone : Program → Wanted → List ℕ → List ℕ → Splits → Type 0
