@@ -6,7 +6,7 @@ use pc_num::Memory;
 use std::alloc::Global;
 
 /// The numbers, each once, greatest first.
-pub(crate) fn falling_of(alloc: Global, numbers: Vec<i128>) -> Result<Seq<i128>, Memory>
+pub fn falling_of(alloc: Global, numbers: Vec<i128>) -> Result<Seq<i128>, Memory>
     ensures { IfOk result (IsFallingOf numbers.items) }
 {
     let mut rising = numbers;

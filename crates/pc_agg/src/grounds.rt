@@ -22,14 +22,14 @@ use std::alloc::Global;
 
 /// Whether the aggregate can lack a value: never, or it may, unless the budget was spent.
 #[derive(Drop)]
-pub(crate) enum Lacking {
+pub enum Lacking {
     Never(NeverBy),
     Open,
 }
 
 /// What is known of the lack, and the counts that were found.
 #[derive(Drop)]
-pub(crate) struct Grounds {
+pub struct Grounds {
     pub lacking: Lacking,
     pub found: FoundCounts,
 }
@@ -37,18 +37,14 @@ pub(crate) struct Grounds {
 /// What the programs of all rows and of the chosen ones come to: that there is no list, that none gives a value, or neither.
 /// Then a list with a value was found, or may be there.
 #[derive(Drop)]
-pub(crate) enum Grounded {
+pub enum Grounded {
     Impossible(Why),
     Always(Tree, FoundCounts),
     Open(Grounds),
 }
 
 /// Searches for lists, for those without a chosen row, and for those with one, where rows were observed or not.
-pub(crate) fn ground(
-    alloc: Global,
-    problem: &Problem<'_>,
-    observed: bool,
-) -> Result<Grounded, Memory>
+pub fn ground(alloc: Global, problem: &Problem<'_>, observed: bool) -> Result<Grounded, Memory>
     requires posed { IsPosed problem.now }
     ensures grounded { IfOk result (IsGroundedAt problem.now observed) }
     ensures nested { IsEasyFor problem.now → IfOk result (IsGroundedSurelyAt problem.now observed) }

@@ -69,7 +69,7 @@ fn judge_settled(
 }
 
 /// A list of what was found, and what is known of the lack.
-pub(crate) fn settle_found(
+pub fn settle_found(
     alloc: Global,
     problem: &Problem<'_>,
     grounds: Grounds,
@@ -160,11 +160,7 @@ pub(crate) fn always_by(
 }
 
 /// A list of the first counts that were found.
-pub(crate) fn relation_from(
-    alloc: Global,
-    picks: &[Row],
-    found: &[Seq<u64>],
-) -> Result<Relation, Memory>
+pub fn relation_from(alloc: Global, picks: &[Row], found: &[Seq<u64>]) -> Result<Relation, Memory>
     requires sized { All (λ counts. length picks.now ≡ length counts) found.now }
     ensures { IfOk result (λ relation. relation ≡ relation_from picks.now found.now) }
 {

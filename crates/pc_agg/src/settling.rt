@@ -231,7 +231,7 @@ fn negated(number: i128) -> i128
 }
 
 /// A row of each cell.
-pub(crate) fn rows_of_cells(alloc: Global, cells: &Cells) -> Result<Seq<Row>, Memory>
+pub fn rows_of_cells(alloc: Global, cells: &Cells) -> Result<Seq<Row>, Memory>
     requires filled { All IsFilled cells.now.cells }
     ensures { IfOk result (λ picks. AreRowsIn cells.now.cells picks) }
 {

@@ -7,6 +7,7 @@ pub mod DocumentLines
 pub mod EndLines
 pub mod Ends
 pub mod Extremes
+pub mod FewRows
 pub mod Formed
 pub mod Fractions
 pub mod Gains

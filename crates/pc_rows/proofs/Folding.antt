@@ -34,10 +34,10 @@ best_at-push pick (Some column) rows extra =
     let at = λ (found : Row). number_at found column in
     rw (map-append at rows (extra ∷ [])) (reduce-push pick (map at rows) (at extra))
 
-kept_yes : (query : Query) (name : Option ℕ) (rows : List Row) (extra : Row) → keeps query name extra ≡ true → kept query name (rows ++ extra ∷ []) ≡ kept query name rows ++ extra ∷ []
+pub kept_yes : (query : Query) (name : Option ℕ) (rows : List Row) (extra : Row) → keeps query name extra ≡ true → kept query name (rows ++ extra ∷ []) ≡ kept query name rows ++ extra ∷ []
 kept_yes query name rows extra keeping = filter-append (keeps query name) rows (extra ∷ []) ∙ rw keeping refl
 
-kept_no : (query : Query) (name : Option ℕ) (rows : List Row) (extra : Row) → keeps query name extra ≡ false → kept query name (rows ++ extra ∷ []) ≡ kept query name rows
+pub kept_no : (query : Query) (name : Option ℕ) (rows : List Row) (extra : Row) → keeps query name extra ≡ false → kept query name (rows ++ extra ∷ []) ≡ kept query name rows
 kept_no query name rows extra other = filter-append (keeps query name) rows (extra ∷ []) ∙ rw other (append-nil (kept query name rows))
 
 pub fold_none : (query : Query) (name : Option ℕ) (rows : List Row) → IsFoldedTo query name rows 0 (record { count = 0; sum = pos 0; least = None; greatest = None })

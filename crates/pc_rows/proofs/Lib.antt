@@ -1,3 +1,4 @@
+pub mod Asking
 pub mod Cells
 pub mod Finding
 pub mod Folding

@@ -1,6 +1,7 @@
 //! The observed rows: how a file spells them, where they stand, and what a query makes of them.
 #![tactic(auto)]
 
+mod asked;
 mod case;
 mod cell;
 mod column;
