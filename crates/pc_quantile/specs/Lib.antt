@@ -1,7 +1,17 @@
+pub mod Answered
 pub mod Candidates
+pub mod Climbing
 pub mod Ends
 pub mod Gains
+pub mod Halving
+pub mod Licensed
+pub mod Measure
 pub mod Measured
+pub mod Passing
+pub mod Past
 pub mod Quantile
 pub mod Right
+pub mod Rungs
+pub mod Shown
 pub mod Sums
+pub mod Texts

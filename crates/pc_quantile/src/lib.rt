@@ -2,10 +2,20 @@
 //! and over possible rows.
 #![tactic(auto)]
 
+mod answer;
+mod bounds;
+mod climb;
+mod judged;
 mod laws;
+mod measure;
+mod past;
 mod quantile;
+mod rungs;
 mod samples;
+mod stand;
 
+pub use answer::{QuantileAnswer, QuantileEnd, QuantileLack, QuantileRelation};
+pub use bounds::bound_quantile;
 pub use laws::{
     lists_of_numbers_have_a_quantile, lists_reach_their_ends, numbers_are_within_the_candidates,
     numbers_at_an_end_are_candidates, programs_bound_quantiles, quantiles_are_among_their_numbers,

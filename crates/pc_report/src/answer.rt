@@ -146,8 +146,13 @@ fn put_end(
     put_mark(alloc, schema, out, &end.mark)
 }
 
-// Appends whether an end is reached, and the runs that reach it.
-fn put_mark(alloc: Global, schema: &Schema, out: &mut Vec<u8>, mark: &Mark) -> Result<(), Memory>
+/// Appends whether an end is reached, and the runs that reach it.
+pub fn put_mark(
+    alloc: Global,
+    schema: &Schema,
+    out: &mut Vec<u8>,
+    mark: &Mark,
+) -> Result<(), Memory>
     requires { HaveScales schema.now.columns }
     ensures { OnOk result (out.new.items ≡ out.old.items ++ mark_text schema.now mark.now) }
 {
@@ -157,9 +162,9 @@ fn put_mark(alloc: Global, schema: &Schema, out: &mut Vec<u8>, mark: &Mark) -> R
     }
 }
 
-// Appends a line, and those of runs after it.
+/// Appends a line, and those of runs after it.
 #[tactic(auto, unfolding(crate::specs::Report::titled_text))]
-fn put_titled(
+pub fn put_titled(
     alloc: Global,
     schema: &Schema,
     out: &mut Vec<u8>,
@@ -173,8 +178,8 @@ fn put_titled(
     put_runs(alloc, schema, out, runs)
 }
 
-// Appends a text and a line break.
-fn put_line(out: &mut Vec<u8>, text: &str) -> Result<(), Memory>
+/// Appends a text and a line break.
+pub fn put_line(out: &mut Vec<u8>, text: &str) -> Result<(), Memory>
     ensures { OnOk result (out.new.items ≡ out.old.items ++ (text.now ++ line_break)) }
 {
     out.extend_from_slice(text.as_bytes())?;

@@ -8,6 +8,7 @@ mod runs;
 mod summary;
 mod value;
 
+pub use answer::{put_line, put_mark, put_titled};
 pub use laws::reports_tell_their_blocks;
 pub use report::{kind_name, put_report};
 pub use runs::{put_fields, put_runs};
