@@ -1,5 +1,6 @@
 pub mod CellGains
 pub mod CellKeys
+pub mod CellNumbers
 pub mod CellPrograms
 pub mod CellTargets
 pub mod Empty

@@ -45,7 +45,7 @@ use Rattle.pc_avg_ratio.proofs.Raising.{fewest_small, bottom_some}
 use Rattle.pc_avg.specs.declared.sides.Side.{Side}
 use Rattle.pc_avg.specs.Ends.{turned}
 use Rattle.pc_avg.specs.Sides.{observed_key, IsChosenKey, IsOutermostKey, IsOutermost, IsSide}
-use Rattle.pc_avg.proofs.CellNumbers.{each_small}
+use Rattle.pc_agg_search.proofs.CellNumbers.{each_small}
 use Rattle.pc_avg.proofs.SideNumbers.{turned_is, least_seen, greatest_seen}
 use Rattle.pc_avg.proofs.SideShort.{turned_lowest, whole_lowest}
 

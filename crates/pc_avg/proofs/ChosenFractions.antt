@@ -26,8 +26,8 @@ use Rattle.pc_agg_search.specs.declared.extreme.Extreme.{Extreme}
 use Rattle.pc_agg_search.specs.Keys.{key_of, IsAtEnd}
 use Rattle.pc_agg_search.specs.Settings.{unseen}
 use Rattle.pc_agg_search.specs.Wants.{most_chosen}
+use Rattle.pc_agg_search.proofs.CellNumbers.{keys_small}
 use Rattle.pc_agg_search.proofs.UnseenPrograms.{for_program}
-use Rattle.pc_avg.proofs.CellNumbers.{keys_small}
 use Rattle.pc_avg.proofs.FewRows.{few_rows, room}
 
 module _ (schema : Schema) (constraints : List Constraint) (query : Query) (nodes : List CutNode) (formed : IsWellFormed schema)

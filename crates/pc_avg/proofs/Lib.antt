@@ -1,6 +1,5 @@
 pub mod AverageSizes
 pub mod BothEnds
-pub mod CellNumbers
 pub mod ChosenFractions
 pub mod FewRows
 pub mod GreatestKeys
