@@ -63,6 +63,9 @@ have_names (Int low high) e = true≢false (sym e)
 have_names (Dec scale low high) e = true≢false (sym e)
 have_names (Cat names) e = tt
 
+pub is_column : (schema : Schema) (name : List ℕ) (place : ℕ) → numeric_place schema name ≡ Ok place → IsColumnWhere IsNumeric schema place
+is_column schema name place e = place_is is_numeric IsNumeric are_numeric schema name place e
+
 -- an aggregate other than a count
 abbrev IsOfNumbers : Schema → Agg → Agg × Option ℕ → Type 0
 IsOfNumbers schema agg measure = (measure.0 ≡ agg) × IsSomeAnd measure.1 (IsColumnWhere IsNumeric schema)
@@ -71,7 +74,7 @@ of_numbers : (schema : Schema) (agg : Agg) (name : List ℕ) (measure : Agg × O
 of_numbers schema agg name measure e =
     let b = bound (of_column agg) (numeric_place schema name) measure e in
     let same : (agg, Some b.value) ≡ measure = (let gives = b.gives in cc) in
-    subst (IsOfNumbers schema agg) same (refl, place_is is_numeric IsNumeric are_numeric schema name b.value b.is)
+    subst (IsOfNumbers schema agg) same (refl, is_column schema name b.value b.is)
 
 abbrev IsMeasure : Schema → Agg × Option ℕ → Type 0
 IsMeasure schema measure = Measures schema measure.0 measure.1
@@ -85,7 +88,7 @@ is_measure schema (measures.Min name) found e = let p = of_numbers schema aggs.M
 is_measure schema (measures.Max name) found e = let p = of_numbers schema aggs.Max name found e in rw p.0 p.1
 is_measure schema (measures.Avg name) found e = let p = of_numbers schema aggs.Avg name found e in rw p.0 p.1
 
-is_chosen : (schema : Schema) (ways : Option Ways) (found : Area) → IsWellFormed schema → chosen_of schema ways ≡ Ok found → IsAreaOf schema found
+pub is_chosen : (schema : Schema) (ways : Option Ways) (found : Area) → IsWellFormed schema → chosen_of schema ways ≡ Ok found → IsAreaOf schema found
 is_chosen schema None found formed e = let same : whole_area schema ≡ found = cc in subst (IsAreaOf schema) same (whole_is_area schema formed)
 is_chosen schema (Some ways) found formed e = is_area schema ways found formed e
 

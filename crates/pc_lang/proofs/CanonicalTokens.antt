@@ -37,8 +37,10 @@ use Rattle.pc_lang_tokens.specs.declared.token.Word.TheVariants as words
 use Rattle.pc_lang_tokens.specs.declared.token.Token.{Token}
 use Rattle.pc_lang_tokens.specs.declared.token.Token.TheVariants as tokens
 use Rattle.pc_lang_grammar.specs.declared.syntax.Atom.{Atom}
-use Rattle.pc_lang_grammar.specs.Grammar.{aggregate_tokens, atom_tokens, claim_tokens, frequency_tokens, further_atoms, further_names, further_parts, group_tokens, head_tokens, joined_atoms, line_tokens, measure_tokens, part_tokens, question_tokens, ways_tokens, where_tokens}
+use Rattle.pc_lang_grammar.specs.Grammar.{aggregate_tokens, atom_tokens, claim_tokens, frequency_tokens, further_atoms, further_names, further_parts, group_tokens, head_tokens, joined_atoms, line_tokens, measure_tokens, part_tokens, quantile_tokens, question_tokens, ways_tokens, where_tokens}
 use Rattle.pc_lang.specs.Canonical.{are_whole, atoms_for, chosen_for, count_text, group_for, head_for, line_for, measure_for, name_at, names_claim, names_from, part_for, question_for, same_side, side_atoms, side_claim, span_claim, ways_for}
+use Rattle.pc_lang.specs.declared.quantile.Quantile.{Quantile}
+use Rattle.pc_lang.specs.Quantiles.{IsQuantile, quantile_question_for}
 use Rattle.pc_lang.proofs.AreasOfParts.{AreRegions}
 use Rattle.pc_lang.proofs.NamedSets.{some_name}
 use Rattle.pc_lang.proofs.QueriesAgain.{name_at-suc, name_at-zero}
@@ -244,3 +246,19 @@ module _ (fits : Token → Bool) (of_symbol : (which : Symbol) → fits (tokens.
       AllFit-append (measure ++ chosen) group
       (AllFit-append measure chosen (measure_fits schema q.agg q.column is asked.measured) (chosen_fits schema q.chosen is asked.chosen))
       (group_fits schema q.group is asked.grouped)
+
+  pub quantile_fits : (schema : Schema) (asked : Quantile) → IsWellFormed schema → IsQuantile schema asked → list_all fits (quantile_tokens (quantile_question_for schema asked)) ≡ true
+  unfolding AllFit quantile_tokens quantile_question_for
+  quantile_fits schema asked is accepted =
+      let few = accepted.few in
+      let most = accepted.most in
+      let named = column_named IsNumeric schema.columns asked.column is.columns.all accepted.numeric in
+      rw (
+        of_word words.Quantile,
+        of_symbol symbols.OpenGroup,
+        of_number (pos asked.p) 0 (omega (arith, few, most)) (omega arith),
+        of_symbol symbols.Comma,
+        of_number (pos asked.q) 0 (omega (arith, few)) (omega arith),
+        of_name (name_at schema.columns asked.column) named,
+        of_symbol symbols.CloseGroup,
+      ) (chosen_fits schema asked.chosen is accepted.chosen)

@@ -26,3 +26,5 @@ pub mod Places
 pub mod Holding
 pub mod StatedCells
 pub mod ReadTexts
+pub mod AcceptedQuantiles
+pub mod QuantilesAgain

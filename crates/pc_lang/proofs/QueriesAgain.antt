@@ -75,7 +75,7 @@ names_fit (Int low high) is = absurd is
 names_fit (Dec scale low high) is = absurd is
 names_fit (Cat names) is = refl
 
-numeric_again : (schema : Schema) (place : ℕ) → IsWellFormed schema → IsColumnWhere IsNumeric schema place → numeric_place schema (name_at schema.columns place) ≡ Ok place
+pub numeric_again : (schema : Schema) (place : ℕ) → IsWellFormed schema → IsColumnWhere IsNumeric schema place → numeric_place schema (name_at schema.columns place) ≡ Ok place
 unfolding FitsAt
 numeric_again schema place is at = place_of_name is_numeric IsNumeric numeric_fits schema.columns place is.columns.own_names at
 

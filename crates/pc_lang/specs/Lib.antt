@@ -5,3 +5,4 @@ pub mod Meaning
 pub mod Files
 pub mod Canonical
 pub mod Holding
+pub mod Quantiles

@@ -74,7 +74,7 @@ fn parts_for(alloc: Global, schema: &Schema, boxes: &[Region]) -> Result<Seq<Par
     Ok(parts)
 }
 
-fn count_text(alloc: Global, count: u64) -> Result<Seq<u8>, Memory>
+pub(crate) fn count_text(alloc: Global, count: u64) -> Result<Seq<u8>, Memory>
     ensures { IfOk result (λ text. text ≡ count_text count) }
 {
     number_text(alloc, i128::from(count), 0)
@@ -126,7 +126,7 @@ fn measured_name(alloc: Global, schema: &Schema, column: Option<u8>) -> Result<T
 
 // The parts of an area that is not written as the whole domain.
 #[tactic(auto, using(pc_model::proofs::FewNames::have_few_names))]
-fn chosen_for(alloc: Global, schema: &Schema, area: &Area) -> Result<Option<Ways>, Memory>
+pub(crate) fn chosen_for(alloc: Global, schema: &Schema, area: &Area) -> Result<Option<Ways>, Memory>
     requires { IsWellFormed schema.now }
     ensures { IfOk result (λ chosen. chosen ≡ chosen_for schema.now area.now) }
 {
@@ -158,7 +158,7 @@ fn group_for(alloc: Global, schema: &Schema, group: Option<u8>) -> Result<Option
 
 // The name of the column at a place, or no text where there is none.
 #[tactic(auto, using(crate::proofs::NamesAt::steps))]
-fn name_at(alloc: Global, columns: &[Column], place: u8) -> Result<Text, Memory>
+pub(crate) fn name_at(alloc: Global, columns: &[Column], place: u8) -> Result<Text, Memory>
     ensures { IfOk result (λ name. name ≡ name_at columns.now place) }
 {
     match columns.get(usize::from(place)) {

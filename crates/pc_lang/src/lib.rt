@@ -10,6 +10,7 @@ mod law;
 mod meaning;
 mod part;
 mod put;
+mod quantile;
 mod query;
 mod whole;
 
@@ -17,4 +18,5 @@ pub use files::{line_number, read_constraints, read_query};
 pub use law::{parts_hold, ways_hold};
 pub use pc_lang_tokens::{front_name, put_name};
 pub use put::{put_constraints, put_query};
+pub use quantile::{Quantile, put_quantile_query, read_quantile};
 pub use whole::is_whole;

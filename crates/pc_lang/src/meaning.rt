@@ -134,7 +134,7 @@ fn count_of(text: &[u8]) -> Result<u64, Reason>
     at_most_limit(number.unsigned_abs())
 }
 
-fn are_digits(text: &[u8]) -> bool
+pub(crate) fn are_digits(text: &[u8]) -> bool
     ensures { result ≡ list_all is_ascii_digit text.now }
 {
     text.iter().all(|byte| byte.is_ascii_digit())

@@ -56,7 +56,7 @@ fn measured(schema: &Schema, measure: &Measure) -> Result<(Agg, Option<u8>), Rea
 }
 
 // The place of the column of numbers of this name.
-fn numeric_place(schema: &Schema, name: &[u8]) -> Result<u8, Reason>
+pub(crate) fn numeric_place(schema: &Schema, name: &[u8]) -> Result<u8, Reason>
     requires { length schema.now.columns ≤ 12 }
     ensures { result ≡ numeric_place schema.now name.now }
 {
@@ -98,7 +98,7 @@ fn has_names_as(kind: &Kind, asked: bool) -> bool
 }
 
 #[tactic(auto, using(pc_model::proofs::FewNames::have_few_names))]
-fn chosen_of(alloc: Global, schema: &Schema, ways: &Option<Ways>) -> Result<Area, ReadStop>
+pub(crate) fn chosen_of(alloc: Global, schema: &Schema, ways: &Option<Ways>) -> Result<Area, ReadStop>
     requires well_formed { IsWellFormed schema.now }
     ensures { Answers result (chosen_of schema.now ways.now) }
 {

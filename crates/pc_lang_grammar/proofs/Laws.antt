@@ -5,10 +5,11 @@ use Rattle.pc_model.specs.declared.fault.Reason.TheVariants as reasons
 use Rattle.pc_lang_tokens.specs.declared.token.Token.{Token}
 use Rattle.pc_lang_grammar.specs.declared.syntax.Line.{Line}
 use Rattle.pc_lang_grammar.specs.declared.syntax.Question.{Question}
-use Rattle.pc_lang_grammar.specs.Grammar.{line_tokens, question_tokens}
-use Rattle.pc_lang_grammar.specs.Parsing.{Found, line_of, question_of}
-use Rattle.pc_lang_grammar.proofs.Complete.{line_again, question_again}
-use Rattle.pc_lang_grammar.proofs.Sound.{Spells, line_spelled, question_spelled}
+use Rattle.pc_lang_grammar.specs.declared.syntax.QuantileQuestion.{QuantileQuestion}
+use Rattle.pc_lang_grammar.specs.Grammar.{line_tokens, quantile_tokens, question_tokens}
+use Rattle.pc_lang_grammar.specs.Parsing.{Found, line_of, quantile_of, question_of}
+use Rattle.pc_lang_grammar.proofs.Complete.{line_again, quantile_again, question_again}
+use Rattle.pc_lang_grammar.proofs.Sound.{Spells, line_spelled, quantile_spelled, question_spelled}
 
 ok_spells : {A : Type 0} (spelled : A → List Token) (list : List Token) (found : Found A) (x : A) → Spells spelled list found → found ≡ Ok x → spelled x ≡ list
 ok_spells spelled list found x spells e = rw e at spells
@@ -42,6 +43,18 @@ pub questions_refused : (list : List Token) (reason : Reason) → question_of li
 questions_refused list reason e =
     (err_spells question_tokens list (question_of list) reason (question_spelled list) e, λ question. refused_list question_tokens question_of list reason question (question_again question) e)
 
+pub quantiles_spelled : (list : List Token) (question : QuantileQuestion) → quantile_of list ≡ Ok question → quantile_tokens question ≡ list
+quantiles_spelled list question e = ok_spells quantile_tokens list (quantile_of list) question (quantile_spelled list) e
+
+pub quantiles_read : (question : QuantileQuestion) → quantile_of (quantile_tokens question) ≡ Ok question
+quantiles_read question = quantile_again question
+
+pub quantiles_refused : (list : List Token) (reason : Reason) → quantile_of list ≡ Err reason → (reason ≡ reasons.Unexpected) × ((question : QuantileQuestion) → quantile_tokens question ≢ list)
+quantiles_refused list reason e =
+    (err_spells quantile_tokens list (quantile_of list) reason (quantile_spelled list) e, λ question. refused_list quantile_tokens quantile_of list reason question (quantile_again question) e)
+
 pub ruleset line_laws = (lines_spelled, lines_read, lines_refused)
 
 pub ruleset question_laws = (questions_spelled, questions_read, questions_refused)
+
+pub ruleset quantile_laws = (quantiles_spelled, quantiles_read, quantiles_refused)

@@ -16,6 +16,7 @@ use Rattle.pc_lang_grammar.specs.declared.syntax.Line.{Line}
 use Rattle.pc_lang_grammar.specs.declared.syntax.Measure.{Measure}
 use Rattle.pc_lang_grammar.specs.declared.syntax.Measure.TheVariants as measures
 use Rattle.pc_lang_grammar.specs.declared.syntax.Question.{Question}
+use Rattle.pc_lang_grammar.specs.declared.syntax.QuantileQuestion.{QuantileQuestion}
 
 -- each further name after a comma
 abbrev pub further_names : List (List ℕ) → List Token
@@ -94,3 +95,9 @@ group_tokens (Some column) = tokens.Reserved words.Group ∷ tokens.Reserved wor
 -- a query
 unfoldable pub question_tokens : Question → List Token
 question_tokens question = measure_tokens question.measure ++ where_tokens question.chosen ++ group_tokens question.group
+
+-- the query of a quantile
+unfoldable pub quantile_tokens : QuantileQuestion → List Token
+quantile_tokens question =
+    tokens.Reserved words.Quantile ∷ tokens.Symbol symbols.OpenGroup ∷ tokens.Number question.p ∷ tokens.Symbol symbols.Comma ∷ tokens.Number question.q
+    ∷ tokens.Symbol symbols.Comma ∷ tokens.Name question.column ∷ tokens.Symbol symbols.CloseGroup ∷ where_tokens question.chosen

@@ -20,6 +20,7 @@ use Rattle.pc_lang_grammar.specs.declared.syntax.Line.{Line}
 use Rattle.pc_lang_grammar.specs.declared.syntax.Measure.{Measure}
 use Rattle.pc_lang_grammar.specs.declared.syntax.Measure.TheVariants as measures
 use Rattle.pc_lang_grammar.specs.declared.syntax.Question.{Question}
+use Rattle.pc_lang_grammar.specs.declared.syntax.QuantileQuestion.{QuantileQuestion}
 
 abbrev pub Found : Type 0 → Type 0
 Found A = Result A Reason
@@ -173,3 +174,12 @@ unfoldable pub question_of : List Token → Found Question
 question_of tokens = do
   found ← measure_at tokens
   question_from found.0 (group_of (drop (length found.1 - 3) found.1)) found.1
+
+abbrev pub quantile : List ℕ → List ℕ → List ℕ → Option Ways → Found QuantileQuestion
+quantile p q column chosen = Ok (record { p = p; q = q; column = column; chosen = chosen })
+
+-- the query of a quantile that all of the tokens spell
+unfoldable pub quantile_of : List Token → Found QuantileQuestion
+quantile_of (tokens.Reserved words.Quantile ∷ tokens.Symbol symbols.OpenGroup ∷ tokens.Number p ∷ tokens.Symbol symbols.Comma ∷ tokens.Number q ∷ tokens.Symbol symbols.Comma ∷ tokens.Name column ∷ tokens.Symbol symbols.CloseGroup ∷ rest) =
+    where_of rest >>= quantile p q column
+quantile_of other = Err reasons.Unexpected

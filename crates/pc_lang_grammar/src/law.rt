@@ -4,8 +4,9 @@ ghost use Rattle.pc_model.specs.declared.fault.Reason.TheVariants.{Unexpected};
 ghost use Rattle.pc_lang_tokens.specs.declared.token.Token.{Token};
 ghost use Rattle.pc_lang_grammar.specs.declared.syntax.Line.{Line};
 ghost use Rattle.pc_lang_grammar.specs.declared.syntax.Question.{Question};
-ghost use Rattle.pc_lang_grammar.specs.Grammar.{line_tokens, question_tokens};
-ghost use Rattle.pc_lang_grammar.specs.Parsing.{line_of, question_of};
+ghost use Rattle.pc_lang_grammar.specs.declared.syntax.QuantileQuestion.{QuantileQuestion};
+ghost use Rattle.pc_lang_grammar.specs.Grammar.{line_tokens, quantile_tokens, question_tokens};
+ghost use Rattle.pc_lang_grammar.specs.Parsing.{line_of, quantile_of, question_of};
 
 /// The reader of lines takes what the grammar spells and nothing else.
 #[tactic(auto, using(crate::proofs::Laws::line_laws))]
@@ -21,4 +22,12 @@ pub fn questions_follow_the_grammar()
     ensures spelled { (list : List Token) (question : Question) → question_of list ≡ Ok question → question_tokens question ≡ list }
     ensures read { (question : Question) → question_of (question_tokens question) ≡ Ok question }
     ensures refused { (list : List Token) (reason : Reason) → question_of list ≡ Err reason → (reason ≡ Unexpected) × ((question : Question) → question_tokens question ≢ list) }
+{}
+
+/// The reader of queries of quantiles takes what the grammar spells and nothing else.
+#[tactic(auto, using(crate::proofs::Laws::quantile_laws))]
+pub fn quantiles_follow_the_grammar()
+    ensures spelled { (list : List Token) (question : QuantileQuestion) → quantile_of list ≡ Ok question → quantile_tokens question ≡ list }
+    ensures read { (question : QuantileQuestion) → quantile_of (quantile_tokens question) ≡ Ok question }
+    ensures refused { (list : List Token) (reason : Reason) → quantile_of list ≡ Err reason → (reason ≡ Unexpected) × ((question : QuantileQuestion) → quantile_tokens question ≢ list) }
 {}

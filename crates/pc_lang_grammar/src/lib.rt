@@ -6,13 +6,17 @@ mod head;
 mod law;
 mod line;
 mod part;
+mod quantile;
 mod question;
 mod spell;
 mod syntax;
 mod ways;
 
-pub use law::{lines_follow_the_grammar, questions_follow_the_grammar};
+pub use law::{
+    lines_follow_the_grammar, quantiles_follow_the_grammar, questions_follow_the_grammar,
+};
 pub use line::read_line;
+pub use quantile::read_quantile_question;
 pub use question::read_question;
-pub use spell::{spell_line, spell_question};
-pub use syntax::{Atom, Claim, Head, Line, Measure, Part, Question, Ways};
+pub use spell::{spell_line, spell_quantile, spell_question};
+pub use syntax::{Atom, Claim, Head, Line, Measure, Part, QuantileQuestion, Question, Ways};

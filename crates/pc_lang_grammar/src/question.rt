@@ -129,7 +129,7 @@ fn before_group<'a>(group: &Option<Text>, rest: &'a [Token]) -> &'a [Token]
 
 // The parts after a `where`, if there is one.
 #[tactic(auto, unfolding(crate::specs::Parsing::where_of))]
-fn where_of(alloc: Global, tokens: &[Token]) -> Result<Option<Ways>, ReadStop>
+pub(crate) fn where_of(alloc: Global, tokens: &[Token]) -> Result<Option<Ways>, ReadStop>
     ensures { Answers result (where_of tokens.now) }
 {
     match tokens {

@@ -3,9 +3,9 @@ ghost use Rattle.pc_lang_tokens.specs.declared.token.Symbol.TheVariants as symbo
 ghost use Rattle.pc_lang_tokens.specs.declared.token.Word.TheVariants as words;
 ghost use Rattle.pc_lang_tokens.specs.declared.token.Token.TheVariants as kinds;
 ghost use Rattle.pc_lang_grammar.specs.declared.syntax.Claim.TheVariants as claims;
-ghost use Rattle.pc_lang_grammar.specs.Grammar.{aggregate_tokens, atom_tokens, claim_tokens, frequency_tokens, further_atoms, further_names, further_parts, group_tokens, head_tokens, line_tokens, measure_tokens, part_tokens, question_tokens, ways_tokens, where_tokens};
+ghost use Rattle.pc_lang_grammar.specs.Grammar.{aggregate_tokens, atom_tokens, claim_tokens, frequency_tokens, further_atoms, further_names, further_parts, group_tokens, head_tokens, line_tokens, measure_tokens, part_tokens, quantile_tokens, question_tokens, ways_tokens, where_tokens};
 
-use crate::syntax::{Atom, Claim, Head, Line, Measure, Part, Question, Ways};
+use crate::syntax::{Atom, Claim, Head, Line, Measure, Part, QuantileQuestion, Question, Ways};
 use pc_lang_tokens::{Symbol, Token, Word};
 use pc_list::{Seq, Text};
 use pc_num::Memory;
@@ -33,6 +33,21 @@ pub fn spell_question(alloc: Global, question: &Question) -> Result<Seq<Token>, 
     put_measure(&mut list, &question.measure)?;
     put_where(&mut list, &question.chosen)?;
     put_group(&mut list, &question.group)?;
+    Ok(list)
+}
+
+/// The tokens of the query of a quantile.
+#[tactic(auto, using(std::proofs::lemmas::List::append_assoc), unfolding(crate::specs::Grammar::quantile_tokens))]
+pub fn spell_quantile(alloc: Global, question: &QuantileQuestion) -> Result<Seq<Token>, Memory>
+    ensures { IfOk result (λ list. list ≡ quantile_tokens question.now) }
+{
+    let mut list = Seq::new(alloc);
+    list.push(Token::Reserved(Word::Quantile))?;
+    put_signed(&mut list, Symbol::OpenGroup, &question.p)?;
+    put_signed(&mut list, Symbol::Comma, &question.q)?;
+    put_named(&mut list, Symbol::Comma, &question.column)?;
+    list.push(Token::Symbol(Symbol::CloseGroup))?;
+    put_where(&mut list, &question.chosen)?;
     Ok(list)
 }
 

@@ -75,3 +75,12 @@ pub struct Question {
     pub chosen: Option<Ways>,
     pub group: Option<Text>,
 }
+
+/// The query of a quantile: `quantile(P, Q, COLUMN) where WAYS`, in which the last may be left out.
+#[derive(Debug, PartialEq, Eq, Drop)]
+pub struct QuantileQuestion {
+    pub p: Seq<u8>,
+    pub q: Seq<u8>,
+    pub column: Text,
+    pub chosen: Option<Ways>,
+}

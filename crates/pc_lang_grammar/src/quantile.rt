@@ -1,0 +1,37 @@
+ghost use Rattle.pc_model.specs.Refusals.{Answers};
+ghost use Rattle.pc_lang_grammar.specs.Parsing.{quantile_of};
+
+use crate::question::where_of;
+use crate::syntax::QuantileQuestion;
+use pc_lang_tokens::{Symbol, Token, Word};
+use pc_model::{ReadStop, Reason};
+use std::alloc::Global;
+
+/// Reads the query of a quantile, which takes all of the tokens.
+#[tactic(auto, unfolding(crate::specs::Parsing::quantile_of))]
+pub fn read_quantile_question(
+    alloc: Global,
+    tokens: &[Token],
+) -> Result<QuantileQuestion, ReadStop>
+    ensures answers { Answers result (quantile_of tokens.now) }
+{
+    match tokens {
+        [
+            Token::Reserved(Word::Quantile),
+            Token::Symbol(Symbol::OpenGroup),
+            Token::Number(p),
+            Token::Symbol(Symbol::Comma),
+            Token::Number(q),
+            Token::Symbol(Symbol::Comma),
+            Token::Name(column),
+            Token::Symbol(Symbol::CloseGroup),
+            rest @ ..,
+        ] => Ok(QuantileQuestion {
+            p: p.clone()?,
+            q: q.clone()?,
+            column: column.clone()?,
+            chosen: where_of(alloc, rest)?,
+        }),
+        _ => Err(ReadStop::Reason(Reason::Unexpected)),
+    }
+}
