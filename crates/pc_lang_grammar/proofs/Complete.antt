@@ -24,7 +24,7 @@ use Rattle.pc_lang_grammar.specs.declared.syntax.Measure.TheVariants as measures
 use Rattle.pc_lang_grammar.specs.declared.syntax.Question.{Question}
 use Rattle.pc_lang_grammar.specs.declared.syntax.QuantileQuestion.{QuantileQuestion}
 use Rattle.pc_lang_grammar.specs.Grammar.{atom_tokens, claim_tokens, frequency_tokens, further_atoms, further_names, further_parts, group_tokens, head_tokens, joined_atoms, line_tokens, measure_tokens, part_tokens, quantile_tokens, question_tokens, ways_tokens, where_tokens}
-use Rattle.pc_lang_grammar.specs.Parsing.{aggregate, aggregate_at, atom_of, atoms_from, before_group, claim_of, frequency_of, group_of, halves_of, head_of, is_and, is_arrow, is_or, line_from, line_of, measure_at, names_after, part, part_of, parts_from, quantile_of, question_from, question_of, ways_from, ways_of, where_of}
+use Rattle.pc_lang_grammar.specs.Parsing.{aggregate, aggregate_at, atom_of, atoms_from, before_group, claim_of, frequency_of, group_of, halves_of, head_of, is_and, is_arrow, is_or, line_from, line_of, measure_at, names_after, part, part_of, parts_from, quantile_after, quantile_of, question_from, question_of, ways_from, ways_of, where_of}
 use Rattle.pc_lang_grammar.proofs.Splits.{drop_past, front_size, place_after}
 
 -- the tokens that an atom may have
@@ -323,5 +323,5 @@ question_again question =
     ) (question_from_again question)
 
 pub quantile_again : (question : QuantileQuestion) → quantile_of (quantile_tokens question) ≡ Ok question
-unfolding quantile_of quantile_tokens
+unfolding quantile_of quantile_after quantile_tokens
 quantile_again question = rw (where_again question.chosen) refl

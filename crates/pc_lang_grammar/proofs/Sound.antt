@@ -15,7 +15,7 @@ use Rattle.pc_lang_grammar.specs.declared.syntax.Part.{Part}
 use Rattle.pc_lang_grammar.specs.declared.syntax.Head.TheVariants as heads
 use Rattle.pc_lang_grammar.specs.declared.syntax.Measure.{Measure}
 use Rattle.pc_lang_grammar.specs.Grammar.{aggregate_tokens, atom_tokens, claim_tokens, frequency_tokens, further_atoms, further_names, further_parts, group_tokens, head_tokens, joined_atoms, line_tokens, measure_tokens, part_tokens, quantile_tokens, question_tokens, ways_tokens, where_tokens}
-use Rattle.pc_lang_grammar.specs.Parsing.{Found, aggregate, aggregate_at, among, atom, atom_of, atoms_from, before_group, claim_of, frequency_of, group_of, halves_of, head_of, is_and, is_arrow, is_or, line_from, line_of, measure_at, names_after, part, part_of, parts_from, quantile, quantile_of, question_from, question_of, ways_from, ways_of, where_of}
+use Rattle.pc_lang_grammar.specs.Parsing.{Found, aggregate, aggregate_at, among, atom, atom_of, atoms_from, before_group, claim_of, frequency_of, group_of, halves_of, head_of, is_and, is_arrow, is_or, line_from, line_of, measure_at, names_after, part, part_of, parts_from, quantile, quantile_after, quantile_of, question_from, question_of, ways_from, ways_of, where_of}
 use Rattle.pc_lang_grammar.proofs.Splits.{around_first, pieces_join}
 
 -- what is found is spelled by the list, or nothing is found since it is unexpected
@@ -238,10 +238,18 @@ question_spelled list =
     (λ found e. moved question_tokens (measure_tokens found.0 ++ found.1) list (question_from found.0 (group_of (drop (length found.1 - 3) found.1)) found.1) e
     (question_from_spelled found.0 (group_of (drop (length found.1 - 3) found.1)) found.1 (before_and_group found.1 (group_of (drop (length found.1 - 3) found.1)) (group_spelled (drop (length found.1 - 3) found.1)))))
 
-pub quantile_spelled : (list : List Token) → Spells quantile_tokens list (quantile_of list)
-unfolding quantile_of quantile_tokens
-quantile_spelled (tokens.Reserved words.Quantile ∷ tokens.Symbol symbols.OpenGroup ∷ tokens.Number p ∷ tokens.Symbol symbols.Comma ∷ tokens.Number q ∷ tokens.Symbol symbols.Comma ∷ tokens.Name column ∷ tokens.Symbol symbols.CloseGroup ∷ rest) =
-    chained where_tokens quantile_tokens rest
-    (tokens.Reserved words.Quantile ∷ tokens.Symbol symbols.OpenGroup ∷ tokens.Number p ∷ tokens.Symbol symbols.Comma ∷ tokens.Number q ∷ tokens.Symbol symbols.Comma ∷ tokens.Name column ∷ tokens.Symbol symbols.CloseGroup ∷ rest)
+-- the tokens of the query of a quantile as far as the comma after its first number
+abbrev to_second : List ℕ → List Token → List Token
+to_second p rest = tokens.Reserved words.Quantile ∷ tokens.Symbol symbols.OpenGroup ∷ tokens.Number p ∷ tokens.Symbol symbols.Comma ∷ rest
+
+quantile_after_spelled : (p : List ℕ) (list : List Token) → Spells quantile_tokens (to_second p list) (quantile_after p list)
+unfolding quantile_after quantile_tokens
+quantile_after_spelled p (tokens.Number q ∷ tokens.Symbol symbols.Comma ∷ tokens.Name column ∷ tokens.Symbol symbols.CloseGroup ∷ rest) =
+    chained where_tokens quantile_tokens rest (to_second p (tokens.Number q ∷ tokens.Symbol symbols.Comma ∷ tokens.Name column ∷ tokens.Symbol symbols.CloseGroup ∷ rest))
     (quantile p q column) (where_of rest) (where_spelled rest) (λ chosen e. rw e refl)
+quantile_after_spelled p other = refl
+
+pub quantile_spelled : (list : List Token) → Spells quantile_tokens list (quantile_of list)
+unfolding quantile_of
+quantile_spelled (tokens.Reserved words.Quantile ∷ tokens.Symbol symbols.OpenGroup ∷ tokens.Number p ∷ tokens.Symbol symbols.Comma ∷ rest) = quantile_after_spelled p rest
 quantile_spelled other = refl

@@ -178,8 +178,12 @@ question_of tokens = do
 abbrev pub quantile : List ℕ → List ℕ → List ℕ → Option Ways → Found QuantileQuestion
 quantile p q column chosen = Ok (record { p = p; q = q; column = column; chosen = chosen })
 
+-- the query of a quantile, of its first number and the tokens after the comma
+unfoldable pub quantile_after : List ℕ → List Token → Found QuantileQuestion
+quantile_after p (tokens.Number q ∷ tokens.Symbol symbols.Comma ∷ tokens.Name column ∷ tokens.Symbol symbols.CloseGroup ∷ rest) = where_of rest >>= quantile p q column
+quantile_after p other = Err reasons.Unexpected
+
 -- the query of a quantile that all of the tokens spell
 unfoldable pub quantile_of : List Token → Found QuantileQuestion
-quantile_of (tokens.Reserved words.Quantile ∷ tokens.Symbol symbols.OpenGroup ∷ tokens.Number p ∷ tokens.Symbol symbols.Comma ∷ tokens.Number q ∷ tokens.Symbol symbols.Comma ∷ tokens.Name column ∷ tokens.Symbol symbols.CloseGroup ∷ rest) =
-    where_of rest >>= quantile p q column
+quantile_of (tokens.Reserved words.Quantile ∷ tokens.Symbol symbols.OpenGroup ∷ tokens.Number p ∷ tokens.Symbol symbols.Comma ∷ rest) = quantile_after p rest
 quantile_of other = Err reasons.Unexpected

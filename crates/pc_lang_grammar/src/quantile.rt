@@ -1,9 +1,10 @@
 ghost use Rattle.pc_model.specs.Refusals.{Answers};
-ghost use Rattle.pc_lang_grammar.specs.Parsing.{quantile_of};
+ghost use Rattle.pc_lang_grammar.specs.Parsing.{quantile_after, quantile_of};
 
 use crate::question::where_of;
 use crate::syntax::QuantileQuestion;
 use pc_lang_tokens::{Symbol, Token, Word};
+use pc_list::Seq;
 use pc_model::{ReadStop, Reason};
 use std::alloc::Global;
 
@@ -21,13 +22,30 @@ pub fn read_quantile_question(
             Token::Symbol(Symbol::OpenGroup),
             Token::Number(p),
             Token::Symbol(Symbol::Comma),
+            rest @ ..,
+        ] => quantile_after(alloc, p.clone()?, rest),
+        _ => Err(ReadStop::Reason(Reason::Unexpected)),
+    }
+}
+
+// The query, of its first number and the tokens after the comma.
+#[tactic(auto, unfolding(crate::specs::Parsing::quantile_after))]
+fn quantile_after(
+    alloc: Global,
+    p: Seq<u8>,
+    tokens: &[Token],
+) -> Result<QuantileQuestion, ReadStop>
+    ensures { Answers result (quantile_after p tokens.now) }
+{
+    match tokens {
+        [
             Token::Number(q),
             Token::Symbol(Symbol::Comma),
             Token::Name(column),
             Token::Symbol(Symbol::CloseGroup),
             rest @ ..,
         ] => Ok(QuantileQuestion {
-            p: p.clone()?,
+            p,
             q: q.clone()?,
             column: column.clone()?,
             chosen: where_of(alloc, rest)?,

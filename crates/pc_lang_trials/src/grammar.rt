@@ -1,7 +1,8 @@
 use crate::tokens::lexer::put_tokens;
 use pc_lang_grammar::{
-    Claim, Head, Line, Measure, Question, Ways, lines_follow_the_grammar,
-    questions_follow_the_grammar, read_line, read_question, spell_line, spell_question,
+    Claim, Head, Line, Measure, QuantileQuestion, Question, Ways, lines_follow_the_grammar,
+    quantiles_follow_the_grammar, questions_follow_the_grammar, read_line, read_quantile_question,
+    read_question, spell_line, spell_quantile, spell_question,
 };
 use pc_lang_tokens::{Token, read_tokens};
 use pc_list::Seq;
@@ -34,6 +35,11 @@ fn question_of(alloc: Global, text: &[u8]) -> Result<Question, ReadStop> {
     read_question(alloc, tokens.as_slice())
 }
 
+fn quantile_of(alloc: Global, text: &[u8]) -> Result<QuantileQuestion, ReadStop> {
+    let tokens = read_tokens(alloc, text)?;
+    read_quantile_question(alloc, tokens.as_slice())
+}
+
 fn respelled_line(alloc: Global, text: &str) -> Result<Result<Seq<Token>, Memory>, ReadStop> {
     let line = line_of(alloc, text.as_bytes())?;
     Ok(spell_line(alloc, &line))
@@ -42,6 +48,11 @@ fn respelled_line(alloc: Global, text: &str) -> Result<Result<Seq<Token>, Memory
 fn respelled_question(alloc: Global, text: &str) -> Result<Result<Seq<Token>, Memory>, ReadStop> {
     let question = question_of(alloc, text.as_bytes())?;
     Ok(spell_question(alloc, &question))
+}
+
+fn respelled_quantile(alloc: Global, text: &str) -> Result<Result<Seq<Token>, Memory>, ReadStop> {
+    let question = quantile_of(alloc, text.as_bytes())?;
+    Ok(spell_quantile(alloc, &question))
 }
 
 static LINES: [(&str, &str); 26] = [
@@ -153,6 +164,41 @@ fn questions(rt: HostRuntime) -> Result<(), Fail> {
     for (text, want) in QUESTIONS.iter() {
         out.clear();
         put_spelled(alloc, &mut out, respelled_question(alloc, text))?;
+        assert!(rt; out.as_slice() == want.as_bytes(), "{text}");
+    }
+    Ok(())
+}
+
+static QUANTILES: [(&str, &str); 10] = [
+    (
+        "quantile(1, 2, a)",
+        "!Quantile OpenGroup #1 Comma #2 Comma 'a CloseGroup ",
+    ),
+    (
+        "quantile(-0.5, +007, \"by\") where true",
+        "!Quantile OpenGroup #-0.5 Comma #+007 Comma 'by CloseGroup !Where !True ",
+    ),
+    (
+        "quantile(3, 2, a) where b = x and c >= 1 or d in {x, y}",
+        "!Quantile OpenGroup #3 Comma #2 Comma 'a CloseGroup !Where 'b Equal 'x !And 'c AtLeast #1 !Or 'd !In OpenSet 'x Comma 'y CloseSet ",
+    ),
+    ("quantile(1, 2, a) group by b", "16"),
+    ("quantile(1, 2, a) where true group by b", "16"),
+    ("quantile(1, 2, a) where", "16"),
+    ("quantile(a, 1, 2)", "16"),
+    ("quantile(1, 2, a", "16"),
+    ("quantile(1, 2)", "16"),
+    ("", "16"),
+];
+
+#[test]
+fn quantiles(rt: HostRuntime) -> Result<(), Fail> {
+    quantiles_follow_the_grammar();
+    let alloc = rt.alloc();
+    let mut out = Vec::new(alloc);
+    for (text, want) in QUANTILES.iter() {
+        out.clear();
+        put_spelled(alloc, &mut out, respelled_quantile(alloc, text))?;
         assert!(rt; out.as_slice() == want.as_bytes(), "{text}");
     }
     Ok(())

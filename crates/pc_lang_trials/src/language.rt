@@ -3,3 +3,4 @@ mod canonical;
 mod files;
 mod meaning;
 mod put;
+mod quantiles;

@@ -32,7 +32,7 @@ fn respelled_query(alloc: Global, schema: &Schema, text: &str) -> Result<Vec<u8>
     Ok(out)
 }
 
-fn is_text(written: Result<Vec<u8>, Refusal>, want: &str) -> bool {
+pub(super) fn is_text(written: Result<Vec<u8>, Refusal>, want: &str) -> bool {
     match written {
         Ok(text) => text.as_slice() == want.as_bytes(),
         Err(_) => false,
