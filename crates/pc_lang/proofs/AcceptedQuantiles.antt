@@ -1,5 +1,5 @@
 -- A question stands for a quantile that is well-formed.
-use Rattle.std.proofs.Common.{◌≡◌, ℕ, ◌≤◌, ◌==◌, ◌||◌, nat_lt, false, ℤ, unsigned_abs, if◌then◌else◌, List, Result, Ok, Err, IfOk, ltb-false, subst, arith}
+use Rattle.std.proofs.Common.{◌≡◌, ℕ, ◌≤◌, ◌==◌, ◌||◌, nat_lt, false, ℤ, unsigned_abs, List, Result, Ok, Err, IfOk, ltb-false, subst, arith}
 use Rattle.std.specs.Char.{is_ascii_digit}
 use Rattle.std.specs.List.{list_all}
 use Rattle.std.proofs.lemmas.Bool.Decides.{nat_tests}
@@ -7,7 +7,6 @@ use Rattle.pc_model.specs.declared.fault.Reason.{Reason}
 use Rattle.pc_model.specs.declared.fault.Reason.TheVariants as reasons
 use Rattle.pc_model.specs.declared.fault.ReadStop.{ReadStop}
 use Rattle.pc_model.specs.declared.schema.Schema.{Schema}
-use Rattle.pc_model.specs.declared.area.Area.{Area}
 use Rattle.pc_model.specs.Numbers.{number_of}
 use Rattle.pc_model.specs.Refusals.{◌>>=◌, Answers}
 use Rattle.pc_model.specs.WellFormed.{IsWellFormed}

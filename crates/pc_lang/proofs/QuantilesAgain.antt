@@ -1,5 +1,5 @@
 -- The canonical text of a quantile is read back as that quantile.
-use Rattle.std.proofs.Common.{◌≡◌, ℕ, ◌+◌, ◌≤◌, ◌==◌, ◌||◌, false, nat_lt, pos, Ok, le-ltb, refl, arith}
+use Rattle.std.proofs.Common.{◌≡◌, ℕ, ◌≤◌, ◌==◌, ◌||◌, false, nat_lt, pos, Ok, le-ltb, refl, arith}
 use Rattle.std.proofs.lemmas.Bool.Decides.{nat_tests}
 use Rattle.pc_model.specs.declared.schema.Schema.{Schema}
 use Rattle.pc_model.specs.WellFormed.{IsSmall, IsWellFormed}
@@ -27,7 +27,7 @@ share_again n some few =
 shares_again : (p q : ℕ) → 1 ≤ p → p ≤ q → q ≤ share_limit → shares_of (count_text p) (count_text q) ≡ Ok (p, q)
 unfolding shares_of
 shares_again p q some most few =
-    rw (share_again p some (omega (arith, most, few)), share_again q (omega (arith, some, most)) few, le-ltb p q most) refl
+    rw (share_again p some (omega (arith, most, few)), share_again q (omega (arith, some, most)) few, le-ltb q p most) refl
 
 question_again : (schema : Schema) (asked : Quantile) → IsWellFormed schema → IsQuantile schema asked → quantile_of_question schema (quantile_question_for schema asked) ≡ Ok asked
 unfolding quantile_of_question quantile_question_for
