@@ -126,7 +126,11 @@ fn measured_name(alloc: Global, schema: &Schema, column: Option<u8>) -> Result<T
 
 // The parts of an area that is not written as the whole domain.
 #[tactic(auto, using(pc_model::proofs::FewNames::have_few_names))]
-pub(crate) fn chosen_for(alloc: Global, schema: &Schema, area: &Area) -> Result<Option<Ways>, Memory>
+pub(crate) fn chosen_for(
+    alloc: Global,
+    schema: &Schema,
+    area: &Area,
+) -> Result<Option<Ways>, Memory>
     requires { IsWellFormed schema.now }
     ensures { IfOk result (λ chosen. chosen ≡ chosen_for schema.now area.now) }
 {

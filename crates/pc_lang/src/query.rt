@@ -98,7 +98,11 @@ fn has_names_as(kind: &Kind, asked: bool) -> bool
 }
 
 #[tactic(auto, using(pc_model::proofs::FewNames::have_few_names))]
-pub(crate) fn chosen_of(alloc: Global, schema: &Schema, ways: &Option<Ways>) -> Result<Area, ReadStop>
+pub(crate) fn chosen_of(
+    alloc: Global,
+    schema: &Schema,
+    ways: &Option<Ways>,
+) -> Result<Area, ReadStop>
     requires well_formed { IsWellFormed schema.now }
     ensures { Answers result (chosen_of schema.now ways.now) }
 {

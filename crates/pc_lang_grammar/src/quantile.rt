@@ -10,10 +10,7 @@ use std::alloc::Global;
 
 /// Reads the query of a quantile, which takes all of the tokens.
 #[tactic(auto, unfolding(crate::specs::Parsing::quantile_of))]
-pub fn read_quantile_question(
-    alloc: Global,
-    tokens: &[Token],
-) -> Result<QuantileQuestion, ReadStop>
+pub fn read_quantile_question(alloc: Global, tokens: &[Token]) -> Result<QuantileQuestion, ReadStop>
     ensures answers { Answers result (quantile_of tokens.now) }
 {
     match tokens {
@@ -30,11 +27,7 @@ pub fn read_quantile_question(
 
 // The query, of its first number and the tokens after the comma.
 #[tactic(auto, unfolding(crate::specs::Parsing::quantile_after))]
-fn quantile_after(
-    alloc: Global,
-    p: Seq<u8>,
-    tokens: &[Token],
-) -> Result<QuantileQuestion, ReadStop>
+fn quantile_after(alloc: Global, p: Seq<u8>, tokens: &[Token]) -> Result<QuantileQuestion, ReadStop>
     ensures { Answers result (quantile_after p tokens.now) }
 {
     match tokens {
