@@ -27,7 +27,7 @@ use Rattle.pc_agg.specs.declared.grounds.Lacking.TheVariants as lackings
 use Rattle.pc_agg.specs.Extremes.{IsOpenLack, IsLackFrom}
 use Rattle.pc_agg.specs.Grounds.{HasValues, IsLacking}
 use Rattle.pc_agg.specs.Owed.{CanGive, IsGiving, MayGiveOne, LeavesLack}
-use Rattle.pc_agg.proofs.Lacking.{IsObserving}
+use Rattle.pc_agg.proofs.Lacks.{IsObserving}
 use Rattle.pc_agg.proofs.StandEnds.{left_open}
 
 -- ---- lacks that differ

@@ -46,7 +46,7 @@ use Rattle.pc_agg_search.specs.Keys.{IsAtEnd}
 use Rattle.pc_agg.specs.Stands.{IsWanted, IsStand}
 use Rattle.pc_agg_search.specs.Wants.{IsFound, IsDoubt, IsMet}
 use Rattle.pc_agg.proofs.Ending.{IsDone}
-use Rattle.pc_agg.proofs.Lacking.{any_grown, doubt_grown, unlisted_grown, lacking_grown, surely_grown, relation_is, relation_may, relation_decided, IsObserving, lack_done, lack_settled}
+use Rattle.pc_agg.proofs.Lacks.{any_grown, doubt_grown, unlisted_grown, lacking_grown, surely_grown, relation_is, relation_may, relation_decided, IsObserving, lack_done, lack_settled}
 use Rattle.pc_agg.proofs.Owing.{IsLackDone, owes_always, owes_both, both_fit, crossing, do_cross}
 use Rattle.pc_agg.proofs.SeenNumbers.{observed_some, observed_none}
 use Rattle.pc_agg.proofs.StandEnds.{stand_done, stand_exact}

@@ -7,10 +7,10 @@ pub mod FallingSteps
 pub mod Filling
 pub mod Flat
 pub mod Giving
-pub mod Grounded
+pub mod Grounding
 pub mod Halving
 pub mod Judging
-pub mod Lacking
+pub mod Lacks
 pub mod LadderKeys
 pub mod LadderRungs
 pub mod Ladders

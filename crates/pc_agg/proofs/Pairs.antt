@@ -19,7 +19,7 @@ use Rattle.pc_agg_search.specs.Wants.{want_for, most_chosen}
 use Rattle.pc_agg.specs.Rungs.{reaches, avoids}
 use Rattle.pc_agg.specs.Stands.{IsWanted, IsStand, IsStood, IsStoodAt, IsStoodSurely}
 use Rattle.pc_agg_search.specs.Wants.{IsFound, IsDoubt}
-use Rattle.pc_agg.proofs.Lacking.{any_grown, doubt_grown}
+use Rattle.pc_agg.proofs.Lacks.{any_grown, doubt_grown}
 
 -- ---- a stand, as more is found
 

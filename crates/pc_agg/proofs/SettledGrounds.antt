@@ -40,7 +40,7 @@ use Rattle.pc_agg.specs.Owed.{OwesSettled, CanGive, IsGiving, MayGiveOne, Leaves
 use Rattle.pc_agg_search.specs.Settings.{unseen}
 use Rattle.pc_agg.specs.Settling.{AreRowsOfCells}
 use Rattle.pc_agg.proofs.Giving.{is_undecided, settled_lack, can_give, may_give, surely_giving, lack_left}
-use Rattle.pc_agg.proofs.Lacking.{relation_is, relation_may, relation_decided, IsObserving, lack_done, lack_settled}
+use Rattle.pc_agg.proofs.Lacks.{relation_is, relation_may, relation_decided, IsObserving, lack_done, lack_settled}
 use Rattle.pc_agg.proofs.Owing.{settled_with, settled_impossible}
 use Rattle.pc_agg.proofs.Totals.{sized_rows}
 

@@ -38,7 +38,7 @@ use Rattle.pc_agg_search.specs.Flat.{flat_tree}
 use Rattle.pc_agg_search.specs.Settings.{unseen}
 use Rattle.pc_agg_search.specs.Wants.{FallsShort, IsDoubt, IsFound}
 use Rattle.pc_agg.proofs.Flat.{flat_reach, flat_avoid}
-use Rattle.pc_agg.proofs.Lacking.{any_grown, doubt_grown}
+use Rattle.pc_agg.proofs.Lacks.{any_grown, doubt_grown}
 use Rattle.pc_agg.proofs.StandMarks.{reach_avoid}
 use Rattle.pc_agg.proofs.Neighbours.{reach_neighbours, avoid_neighbours, reach_all, avoid_all}
 

@@ -1,7 +1,7 @@
 use Rattle.std.proofs.Common.{IfOk, sym, subst}
 use Rattle.pc_agg.specs.Grounds.{IsGrounded, IsGroundedSurely}
 use Rattle.pc_agg_search.specs.Problem.{setting_of}
-use Rattle.pc_agg.proofs.Grounded.{listed_left}
+use Rattle.pc_agg.proofs.Grounding.{listed_left}
 use Rattle.pc_agg.proofs.grounds.ground.Goals as goal
 
 pub returns-then-observed : goal.returns-then-observed

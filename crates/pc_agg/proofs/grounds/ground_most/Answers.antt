@@ -4,7 +4,7 @@ use Rattle.pc_proof.specs.Table.{one}
 use Rattle.pc_agg_search.specs.Wants.{want_for}
 use Rattle.pc_agg_search.specs.Problem.{setting_of}
 use Rattle.pc_agg_search.specs.Wants.{IsMet}
-use Rattle.pc_agg.proofs.Grounded.{probed_empty, most_probed, most_sure, most_none, most_always, most_open, most_surely}
+use Rattle.pc_agg.proofs.Grounding.{probed_empty, most_probed, most_sure, most_none, most_always, most_open, most_surely}
 use Rattle.pc_agg.proofs.Lawful.{lawful_met}
 use Rattle.pc_agg.proofs.grounds.ground_most.Goals as goal
 

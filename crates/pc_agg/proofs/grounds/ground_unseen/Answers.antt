@@ -5,7 +5,7 @@ use Rattle.pc_agg_search.specs.declared.want.Want.TheVariants as wants
 use Rattle.pc_agg.specs.Grounds.{AreAlways, IsLacking, IsLackingSurely}
 use Rattle.pc_agg_search.specs.Problem.{setting_of}
 use Rattle.pc_agg_search.specs.Wants.{IsMet, IsProbed, IsSure}
-use Rattle.pc_agg.proofs.Grounded.{probed_empty, probed_lawful, probed_some, probed_sure, fewest_short, fewest_open, some_chosen, none_chosen}
+use Rattle.pc_agg.proofs.Grounding.{probed_empty, probed_lawful, probed_some, probed_sure, fewest_short, fewest_open, some_chosen, none_chosen}
 use Rattle.pc_agg.proofs.Lawful.{lawful_met}
 use Rattle.pc_agg.proofs.grounds.ground_unseen.Goals as goal
 use Rattle.pc_agg.proofs.grounds.ground_unseen.Goals.{in-Short, in-Open}

@@ -31,7 +31,7 @@ use Rattle.pc_agg.specs.Settling.{IsRelation, IsUnlisted}
 use Rattle.pc_agg_search.specs.Wants.{FallsShort, IsDoubt, IsFound, IsProbed, IsSure, IsVerdict}
 use Rattle.pc_agg_search.proofs.Empty.{void_tree}
 use Rattle.pc_agg.proofs.Flat.{flat_none}
-use Rattle.pc_agg.proofs.Lacking.{unlisted_grown, lacking_grown, surely_grown}
+use Rattle.pc_agg.proofs.Lacks.{unlisted_grown, lacking_grown, surely_grown}
 use Rattle.pc_agg_search.proofs.PosedPrograms.{own_classes}
 use Rattle.pc_agg_search.proofs.Shorts.{shows_no_gain, shows_some_row, short_empty, fit_short}
 
