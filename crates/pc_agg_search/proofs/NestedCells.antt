@@ -1,5 +1,5 @@
 -- Cells of nested constraints: their programs are nested, and they are few.
-use Rattle.std.proofs.Common.{◌≡◌, ℕ, ◌*◌, ◌<◌, ◌≤◌, Bool, true, false, true≢false, List, length, map, get_or, All, AllPairs, count_by, inl, inr, refl, sym, ap, ap₂, ◌∙◌, arith}
+use Rattle.std.proofs.Common.{◌≡◌, ℕ, ◌*◌, ◌<◌, ◌≤◌, Bool, false, true≢false, List, length, get_or, All, AllPairs, inl, inr, sym, ap, ap₂, ◌∙◌, arith}
 use Rattle.std.specs.Prelude.{ℤ}
 use Rattle.std.proofs.lemmas.Bool.{cases_eq, cases_lt}
 use Rattle.std.proofs.lemmas.List.{length-map, get_or_default}
@@ -8,7 +8,7 @@ use Rattle.pc_model.specs.declared.schema.Schema.{Schema}
 use Rattle.pc_model.specs.declared.row.Row.{Row}
 use Rattle.pc_model.specs.declared.area.Area.{Area}
 use Rattle.pc_model.specs.declared.constraint.Constraint.{Constraint}
-use Rattle.pc_model.specs.Membership.{is_under, in_domain, AreDisjoint, AreNested, AreTwoNested}
+use Rattle.pc_model.specs.Membership.{is_under, AreDisjoint, AreNested, AreTwoNested}
 use Rattle.pc_model.specs.Places.{has_bit}
 use Rattle.pc_model.specs.Cells.{Class, mask_of, is_class, HasRowOf}
 use Rattle.pc_cells_laws.proofs.Classes.{is_class-from_same}
@@ -19,7 +19,7 @@ use Rattle.pc_program_bound.specs.Allocation.{cells_of, constraints_of}
 use Rattle.pc_program_bound.specs.CellPrograms.{program_with}
 use Rattle.pc_program_bound.proofs.CellPlaces.{no_class, no_constraint, cell_inside, mask_is}
 use Rattle.pc_program.specs.Settled.{is_in}
-use Rattle.pc_nested.specs.Nested.{IsInside, AreNestedPair, AreNestedPairs}
+use Rattle.pc_nested.specs.Nested.{AreNestedPair, AreNestedPairs}
 use Rattle.pc_nested.specs.Few.{AreCovered, DifferOnSides}
 use Rattle.pc_nested.proofs.Few.{few_cells}
 

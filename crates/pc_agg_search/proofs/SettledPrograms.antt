@@ -1,5 +1,5 @@
 -- The program of the cells of a settled tree, which is nested over nested constraints.
-use Rattle.std.proofs.Common.{◌≡◌, ℕ, ◌<◌, ◌≤◌, List, length, map, get_or, All, AllPairs, Contains, sym, ap, subst, ◌∙◌, arith}
+use Rattle.std.proofs.Common.{◌≡◌, ℕ, ◌<◌, ◌≤◌, List, length, map, All, AllPairs, Contains, sym, ap, subst, ◌∙◌, arith}
 use Rattle.std.specs.Prelude.{ℤ, pos, nat_abs}
 use Rattle.std.proofs.lemmas.List.{length-map}
 use Rattle.std.proofs.lemmas.List.Elements.{All-weaker, All-contains_itself}
@@ -9,14 +9,12 @@ use Rattle.pc_model.specs.declared.constraint.Constraint.{Constraint}
 use Rattle.pc_model.specs.declared.tree.CutNode.{CutNode}
 use Rattle.pc_model.specs.Accepted.{AreConstraints}
 use Rattle.pc_agg_search.specs.Easy.{IsEasy}
-use Rattle.pc_model.specs.Places.{has_bit}
 use Rattle.pc_model.specs.WellFormed.{IsWellFormed}
 use Rattle.pc_model.specs.Cells.{Class, HasRowOf, IsSettledTree, classes_of, leaves_in}
 use Rattle.pc_cells_laws.proofs.Cells.{classes_of-differ}
 use Rattle.pc_cells_laws.proofs.SettledTrees.{classes_of_tree}
 use Rattle.pc_program_bound.specs.declared.program.Program.{Program}
 use Rattle.pc_program_bound.specs.Allocation.{IsProgram}
-use Rattle.pc_program.specs.Settled.{is_in}
 use Rattle.pc_branch.specs.Outcome.{IsEasyProgram}
 use Rattle.pc_program_bound.specs.Bound.{HasFitWidth}
 use Rattle.pc_branch.specs.Ends.{HasSmallGains}
@@ -28,7 +26,7 @@ use Rattle.pc_cells.proofs.Decomposed.{classes_of_cells}
 use Rattle.pc_program_bound.specs.CellPrograms.{program_with}
 use Rattle.pc_agg_search.specs.Limits.{greatest_gain}
 use Rattle.pc_agg_search.proofs.NestedCells.{Differ, nested_pairs, few}
-use Rattle.pc_program_bound.proofs.CellPlaces.{no_class, cell_inside, mask_is, floor_is}
+use Rattle.pc_program_bound.proofs.CellPlaces.{cell_inside}
 use Rattle.pc_agg_search.proofs.ManyCells.{many_cells, small_gains}
 use Rattle.pc_agg_search.proofs.ProgramEnds.{is_program}
 
