@@ -25,7 +25,8 @@ use Rattle.pc_agg_search.specs.declared.want.Want.{Want}
 use Rattle.pc_agg.specs.Climbing.{above, if_empty, narrowed, IsSpan, IsHalved, IsSureSpan, IsSureHalf}
 use Rattle.pc_agg_search.specs.Limits.{IsEmpty}
 use Rattle.pc_agg_search.specs.Keys.{key_of}
-use Rattle.pc_agg.specs.Rungs.{reaches, rung_program, program_at, IsStanding}
+use Rattle.pc_agg.specs.declared.climb.Climbed.TheVariants as climbs
+use Rattle.pc_agg.specs.Rungs.{reaches, rung_program, program_at, IsClimbedSurely, IsStanding}
 use Rattle.pc_agg_search.specs.Wants.{IsDoubt, IsFound, IsMet, IsProbed, IsSure, IsUnder, IsVerdict, FallsShort}
 use Rattle.pc_agg_search.proofs.Empty.{void_tree}
 
@@ -168,3 +169,8 @@ module _ (s : Setting) where
             step = is.step;
             doubt = subst (λ place. suc place < length ladder.rungs → IsDoubt (program_at s ladder place) want budget span.found) same is.doubt;
           }
+
+      pub last_sure : span.from ≤ span.to → IsSureSpan s ladder want span → IsClimbedSurely s ladder want (climbs.At (record { place = span.from; tree = span.tree; found = span.found }))
+      last_sure ordered sure =
+          let same : span.to ≡ span.from = omega (arith, closed, ordered) in
+          subst (λ place. suc place < length ladder.rungs → Any (IsFound (program_at s ladder place) want) span.found) same sure

@@ -1,8 +1,9 @@
 use Rattle.std.proofs.Common.{sym, subst}
 use Rattle.pc_agg.specs.Climbing.{IsHalved}
-use Rattle.pc_agg.specs.Rungs.{IsStanding}
+use Rattle.pc_agg.specs.Rungs.{IsClimbedSurely, IsStanding}
+use Rattle.pc_agg.specs.declared.climb.Climbed.TheVariants as climbs
 use Rattle.pc_agg_search.specs.Problem.{setting_of}
-use Rattle.pc_agg.proofs.Halving.{last_standing}
+use Rattle.pc_agg.proofs.Halving.{last_standing, last_sure}
 use Rattle.pc_agg.proofs.climb.climb.Goals as goal
 
 pub loop-span-smaller : goal.loop-span-smaller
@@ -20,3 +21,9 @@ returns-clause-climbed c =
     let u = setting_of c.args.problem.now in
     subst (IsStanding u c.args.problem.now.nodes c.args.ladder.now c.args.want c.args.found) (sym c.standing_of.ensures)
     (last_standing u c.args.problem.now.nodes c.args.ladder.now c.args.want c.loop-span.span c.loop-span-test.false c.args.found c.loop-span.invariant.0)
+
+pub returns-clause-nested : goal.returns-clause-nested
+returns-clause-nested c = λ nested.
+    let u = setting_of c.args.problem.now in
+    subst (λ standing. IsClimbedSurely u c.args.ladder.now c.args.want (climbs.At standing)) (sym c.standing_of.ensures)
+    (last_sure u c.args.problem.now.nodes c.args.ladder.now c.args.want c.loop-span.span c.loop-span-test.false c.loop-span.invariant.0.ordered (c.loop-span.invariant.1 nested))
