@@ -1,7 +1,14 @@
 pub mod Added
+pub mod Attained
+pub mod Bounding
 pub mod Counted
 pub mod ListSums
+pub mod Marked
+pub mod OnRungs
 pub mod Outermost
+pub mod Owed
+pub mod Pairs
+pub mod Passed
 pub mod Reached
 pub mod Shares
 pub mod There

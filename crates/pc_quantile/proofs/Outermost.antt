@@ -10,7 +10,7 @@ use Rattle.pc_proof.specs.Setting.{Setting, seen_numbers, low_in, high_in}
 use Rattle.pc_proof.proofs.Groups.{keeps_area}
 use Rattle.pc_proof.proofs.Kept.{cell_of, between, in_cells}
 use Rattle.pc_proof.proofs.Seen.{keeps, of_all, from_lost}
-use Rattle.pc_quantile.specs.declared.quantile.Quantile.{Quantile}
+use Rattle.pc_lang.specs.declared.quantile.Quantile.{Quantile}
 use Rattle.pc_quantile.specs.Candidates.{AreFrom, AreUpTo, IsCandidate, StandAt}
 use Rattle.pc_quantile.specs.Measured.{IsAskedIn, numbers_of}
 use Rattle.pc_quantile.proofs.Within.{asks}

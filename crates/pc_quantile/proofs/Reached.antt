@@ -6,7 +6,7 @@ use Rattle.pc_model.specs.declared.row.Row.{Row}
 use Rattle.pc_model.specs.Cells.{Class}
 use Rattle.pc_model.specs.Right.{IsPossibleFor}
 use Rattle.pc_proof.specs.Setting.{Setting, low_in, high_in}
-use Rattle.pc_quantile.specs.declared.quantile.Quantile.{Quantile}
+use Rattle.pc_lang.specs.declared.quantile.Quantile.{Quantile}
 use Rattle.pc_quantile.specs.Candidates.{IsCandidate, StandAt}
 use Rattle.pc_quantile.specs.Ends.{PassesHigh, PassesLow, ReachesHigh, ReachesLow}
 use Rattle.pc_quantile.specs.Gains.{first_sum, second_sum}

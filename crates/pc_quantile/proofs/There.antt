@@ -8,7 +8,7 @@ use Rattle.pc_model.specs.declared.query.Agg.{Agg}
 use Rattle.pc_model.specs.Aggregate.{whole, value_of}
 use Rattle.pc_model.specs.Right.{value_for}
 use Rattle.pc_proof.specs.Setting.{Setting}
-use Rattle.pc_quantile.specs.declared.quantile.Quantile.{Quantile}
+use Rattle.pc_lang.specs.declared.quantile.Quantile.{Quantile}
 use Rattle.pc_quantile.specs.Measured.{IsAskedIn, numbers_of, quantile_of}
 use Rattle.pc_quantile.specs.Quantile.{quantile}
 use Rattle.pc_quantile.proofs.Shares.{there_is_one}

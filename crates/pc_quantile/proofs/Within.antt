@@ -15,7 +15,7 @@ use Rattle.pc_proof.proofs.Groups.{keeps_area}
 use Rattle.pc_proof.proofs.Kept.{cell_of, between}
 use Rattle.pc_proof.proofs.PossibleRows.{rows_are_allocation, rows_are_worth}
 use Rattle.pc_proof.proofs.Seen.{keeps, lost_numbers, int_sum-append, int_sum-filter, int_sum_mono}
-use Rattle.pc_quantile.specs.declared.quantile.Quantile.{Quantile}
+use Rattle.pc_lang.specs.declared.quantile.Quantile.{Quantile}
 use Rattle.pc_quantile.specs.Measured.{IsAskedIn, numbers_of, quantile_of}
 use Rattle.pc_quantile.specs.Gains.{BoundsAbove, BoundsBelow, first_added, second_added, first_gain, second_gain, first_sum, second_sum, first_most, second_most, lost_counts}
 use Rattle.pc_quantile.specs.Candidates.{StandAt}

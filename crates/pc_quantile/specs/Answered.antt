@@ -19,6 +19,7 @@ use Rattle.pc_agg.specs.Settling.{AreRowsOfCells}
 use Rattle.pc_agg_search.specs.declared.extreme.Extreme.{Extreme}
 use Rattle.pc_agg_search.specs.declared.extreme.Extreme.TheVariants.{Low, High}
 use Rattle.pc_agg_search.specs.Ends.{signed}
+use Rattle.pc_agg_search.specs.Problem.{IsEasyFor}
 use Rattle.pc_agg_search.specs.Wants.{IsFound, IsMet}
 use Rattle.pc_quantile.specs.declared.answer.QuantileAnswer.{QuantileAnswer}
 use Rattle.pc_quantile.specs.declared.answer.QuantileEnd.{QuantileEnd}
@@ -29,11 +30,11 @@ use Rattle.pc_quantile.specs.declared.answer.QuantileRelation.TheVariants as rel
 use Rattle.pc_quantile.specs.declared.bounds.Pair.{Pair}
 use Rattle.pc_quantile.specs.declared.bounds.Pair.TheVariants as pairs
 use Rattle.pc_quantile.specs.declared.measure.Measure.{Measure}
-use Rattle.pc_quantile.specs.declared.quantile.Quantile.{Quantile}
+use Rattle.pc_lang.specs.declared.quantile.Quantile.{Quantile}
 use Rattle.pc_quantile.specs.declared.stand.Stand.{Stand}
 use Rattle.pc_quantile.specs.declared.stand.Stood.{Stood}
 use Rattle.pc_quantile.specs.declared.stand.Stood.TheVariants as stoods
-use Rattle.pc_quantile.specs.Climbing.{AllowsNone, IsStand}
+use Rattle.pc_quantile.specs.Climbing.{AllowsNone, HaveValue, IsStand}
 use Rattle.pc_quantile.specs.Licensed.{IsOwed, question_of}
 use Rattle.pc_quantile.specs.Measure.{cells_for, has_numbers}
 
@@ -138,15 +139,17 @@ pub record IsAlwaysFrom (m : Measure) (found : List (List ℕ)) (answer : Quanti
   pub rows : AreRowsOfCells (cells_for m) picks
   pub answer_is : answer ≡ always_as (told_relation (relation_from picks found))
 
--- both ends were sought, and there is no list, or the answer is that of what was found in the end
+-- there is no list, or the answer is that of what was found in the end
+abbrev pub IsAnswerOf : Measure → Grounds → QuantileAnswer → Pair → Type 0
+IsAnswerOf m before answer (pairs.At low high found) = IsJudged (cells_for m) (has_numbers m.seen.now) (record { lacking = before.lacking; found = found }) low high answer
+IsAnswerOf m before answer pairs.Empty = answer ≡ impossible
+
+-- both ends were sought
 pub record IsBetween (m : Measure) (before : Grounds) (answer : QuantileAnswer) : Type 0 where
   pub pair : Pair
   pub pair_is : IsPairOf m before.found pair
-  pub answer_is : IsAnswerOf pair
-    where
-      IsAnswerOf : Pair → Type 0
-      IsAnswerOf (pairs.At low high found) = IsJudged (cells_for m) (has_numbers m.seen.now) (record { lacking = before.lacking; found = found }) low high answer
-      IsAnswerOf pairs.Empty = answer ≡ impossible
+  pub sure : IsEasyFor m.problem → HaveValue m before.found → IsPairSurely pair
+  pub answer_is : IsAnswerOf m before answer pair
 
 -- whatever rows were observed that have these numbers
 abbrev pub IsOwedFor : Measure → QuantileAnswer → Type 0

@@ -21,7 +21,7 @@ use Rattle.pc_quantile.specs.declared.climb.Halved.TheVariants as halves
 use Rattle.pc_quantile.specs.declared.climb.Span.{Span}
 use Rattle.pc_quantile.specs.declared.climb.Standing.{Standing}
 use Rattle.pc_quantile.specs.declared.measure.Measure.{Measure}
-use Rattle.pc_quantile.specs.declared.quantile.Quantile.{Quantile}
+use Rattle.pc_lang.specs.declared.quantile.Quantile.{Quantile}
 use Rattle.pc_quantile.specs.declared.stand.Stand.{Stand}
 use Rattle.pc_quantile.specs.declared.stand.Stood.{Stood}
 use Rattle.pc_quantile.specs.declared.stand.Stood.TheVariants as stoods

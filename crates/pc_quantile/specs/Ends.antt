@@ -2,7 +2,7 @@
 use Rattle.std.specs.Prelude.{ℤ, pos, ◌≤ℤ◌, ◌<◌, ◌^◌, ◌⊎◌, List, length}
 use Rattle.pc_model.specs.declared.row.Row.{Row}
 use Rattle.pc_proof.specs.Setting.{Setting, low_in, high_in}
-use Rattle.pc_quantile.specs.declared.quantile.Quantile.{Quantile}
+use Rattle.pc_lang.specs.declared.quantile.Quantile.{Quantile}
 use Rattle.pc_quantile.specs.Candidates.{AreBeside, AreFrom, AreUpTo, StandAt}
 use Rattle.pc_quantile.specs.Gains.{BoundsAbove, BoundsBelow, first_most, second_most}
 use Rattle.pc_quantile.specs.Measured.{numbers_of}

@@ -6,7 +6,7 @@ use Rattle.pc_program_bound.specs.declared.program.Program.{Program}
 use Rattle.pc_program_bound.specs.Allocation.{worth, IsAllocation}
 use Rattle.pc_program_bound.specs.CellPrograms.{counts_of}
 use Rattle.pc_proof.specs.Setting.{Setting, seen_numbers, area_of, cells, low_in, high_in, on_chosen, program_for}
-use Rattle.pc_quantile.specs.declared.quantile.Quantile.{Quantile}
+use Rattle.pc_lang.specs.declared.quantile.Quantile.{Quantile}
 use Rattle.pc_quantile.specs.Measured.{numbers_of}
 use Rattle.pc_quantile.specs.Sums.{weight, first_of, second_of}
 

@@ -15,7 +15,7 @@ use Rattle.pc_agg_search.specs.declared.extreme.Extreme.{Extreme}
 use Rattle.pc_agg_search.specs.declared.extreme.Extreme.TheVariants.{Low, High}
 use Rattle.pc_agg_search.specs.Easy.{IsEasy}
 use Rattle.pc_agg_search.specs.Ends.{signed}
-use Rattle.pc_quantile.specs.declared.quantile.Quantile.{Quantile}
+use Rattle.pc_lang.specs.declared.quantile.Quantile.{Quantile}
 use Rattle.pc_quantile.specs.declared.answer.QuantileAnswer.{QuantileAnswer}
 use Rattle.pc_quantile.specs.Measured.{least_of}
 use Rattle.pc_quantile.specs.Past.{IsCandidateBeside, least_past, program_past, sum_past}

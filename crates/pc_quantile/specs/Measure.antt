@@ -1,5 +1,6 @@
 -- What a quantile is sought over.
 use Rattle.std.specs.Prelude.{◌≡◌, ◌==◌, ◌≤◌, ◌^◌, ℤ, nat_abs, Bool, not, List, length, All}
+use Rattle.pc_model.specs.Boxes.{IsAreaOf}
 use Rattle.pc_proof.specs.Setting.{Setting}
 use Rattle.pc_agg_search.specs.Posed.{AsksNumbers}
 use Rattle.pc_agg_search.specs.Problem.{IsPosed, setting_of}
@@ -19,6 +20,7 @@ pub record IsMeasured (m : Measure) : Type 0 where
   pub posed : IsPosed m.problem
   pub query : m.problem.query.now ≡ least_of m.asked.now
   pub numbers : AsksNumbers m.problem
+  pub chosen : IsAreaOf m.problem.schema.now m.asked.now.chosen
   pub some : 1 ≤ m.asked.now.p
   pub most : m.asked.now.p ≤ m.asked.now.q
   pub few : m.asked.now.q ≤ 1000

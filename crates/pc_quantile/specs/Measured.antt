@@ -11,16 +11,9 @@ use Rattle.pc_model.specs.Cells.{IsSettledTree}
 use Rattle.pc_model.specs.Right.{Question, IsPossibleFor}
 use Rattle.pc_proof.specs.Setting.{Setting, area_of}
 use Rattle.pc_proof.specs.Unbroken.{IsWellPosed}
-use Rattle.pc_quantile.specs.declared.quantile.Quantile.{Quantile}
+use Rattle.pc_lang.specs.declared.quantile.Quantile.{Quantile}
+use Rattle.pc_lang.specs.Quantiles.{IsQuantile}
 use Rattle.pc_quantile.specs.Quantile.{quantile}
-
--- a share of more than none and at most one, of a column of numbers
-pub record IsQuantile (schema : Schema) (asked : Quantile) : Type 0 where
-  pub some : 1 ≤ asked.p
-  pub most : asked.p ≤ asked.q
-  pub few : asked.q ≤ 1000
-  pub numeric : IsColumnWhere IsNumeric schema asked.column
-  pub chosen : IsAreaOf schema asked.chosen
 
 -- the query of the least number of the same rows
 abbrev pub least_of : Quantile → Query

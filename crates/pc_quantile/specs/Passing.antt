@@ -4,7 +4,7 @@ use Rattle.pc_cells.specs.declared.cells.Cell.{Cell}
 use Rattle.pc_agg_search.specs.declared.extreme.Extreme.{Extreme}
 use Rattle.pc_agg_search.specs.declared.extreme.Extreme.TheVariants.{Low, High}
 use Rattle.pc_agg_search.specs.Targets.{cell_at}
-use Rattle.pc_quantile.specs.declared.quantile.Quantile.{Quantile}
+use Rattle.pc_lang.specs.declared.quantile.Quantile.{Quantile}
 use Rattle.pc_quantile.specs.Sums.{weight}
 
 pub record IsShare (asked : Quantile) : Type 0 where

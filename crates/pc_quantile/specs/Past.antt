@@ -6,7 +6,7 @@ use Rattle.pc_program_bound.specs.Allocation.{worth, IsAllocation}
 use Rattle.pc_proof.specs.Setting.{Setting, low_in, high_in, on_chosen, program_for}
 use Rattle.pc_agg_search.specs.declared.extreme.Extreme.{Extreme}
 use Rattle.pc_agg_search.specs.declared.extreme.Extreme.TheVariants.{Low, High}
-use Rattle.pc_quantile.specs.declared.quantile.Quantile.{Quantile}
+use Rattle.pc_lang.specs.declared.quantile.Quantile.{Quantile}
 use Rattle.pc_quantile.specs.Candidates.{IsOfCell}
 use Rattle.pc_quantile.specs.Gains.{first_gain, second_gain}
 use Rattle.pc_quantile.specs.Sums.{first_of, second_of}

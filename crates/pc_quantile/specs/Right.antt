@@ -5,7 +5,7 @@ use Rattle.pc_model.specs.declared.row.Run.{Run}
 use Rattle.pc_model.specs.Aggregate.{whole}
 use Rattle.pc_model.specs.Right.{Question, Relation, Lack, Mark, End, Answer, silent, never, sometimes, always, unsettled, exact, outer, IsPossibleFor, ArePossible, IsRightRelation, MayStand, is_impossible, is_silent, is_always}
 use Rattle.pc_model.specs.Runs.{rows_of}
-use Rattle.pc_quantile.specs.declared.quantile.Quantile.{Quantile}
+use Rattle.pc_lang.specs.declared.quantile.Quantile.{Quantile}
 use Rattle.pc_quantile.specs.Measured.{quantile_of}
 
 -- from low to high lies the quantile of every possible list that has one

@@ -3,7 +3,7 @@ use Rattle.std.specs.Prelude.{codes, ℕ, List, [], ◌∷◌}
 use Rattle.std.specs.List.{concat}
 use Rattle.pc_model.specs.declared.schema.Schema.{Schema}
 use Rattle.pc_report.specs.Report.{answer_text, line_break}
-use Rattle.pc_quantile.specs.declared.quantile.Quantile.{Quantile}
+use Rattle.pc_lang.specs.declared.quantile.Quantile.{Quantile}
 use Rattle.pc_quantile.specs.declared.answer.QuantileAnswer.{QuantileAnswer}
 use Rattle.pc_quantile.specs.Measured.{least_of}
 use Rattle.pc_quantile.specs.Shown.{shown}

@@ -11,12 +11,13 @@ ghost use Rattle.pc_quantile.specs.Answered.{IsAlwaysFrom, IsBetween, IsOwedFor,
 ghost use Rattle.pc_quantile.specs.Climbing.{HaveValue, MayHaveValue};
 ghost use Rattle.pc_quantile.specs.Licensed.{Owes};
 ghost use Rattle.pc_quantile.specs.Measure.{IsMeasured, cells_for, has_numbers};
-ghost use Rattle.pc_quantile.specs.Measured.{IsQuantile, least_of};
+ghost use Rattle.pc_lang.specs.Quantiles.{IsQuantile};
+ghost use Rattle.pc_quantile.specs.Measured.{least_of};
 
 use crate::answer::{QuantileAnswer, QuantileLack, QuantileRelation};
 use crate::judged::{always_as, judge, told_relation};
 use crate::measure::{Measure, is_observed};
-use crate::quantile::Quantile;
+use pc_lang::Quantile;
 use crate::stand::{On, Stand, Stood, search_end};
 use pc_agg::{Grounded, Grounds, ground, relation_from, rows_of_cells};
 use pc_agg_search::{Extreme, FoundCounts, Problem};

@@ -3,7 +3,7 @@ ghost use Rattle.pc_model.specs.declared.row.Row.{Row};
 ghost use Rattle.pc_model.specs.Cells.{Class};
 ghost use Rattle.pc_model.specs.Right.{value_for};
 ghost use Rattle.pc_proof.specs.Setting.{Setting, high_in, low_in};
-ghost use Rattle.pc_quantile.specs.declared.quantile.Quantile.{Quantile};
+ghost use Rattle.pc_lang.specs.declared.quantile.Quantile.{Quantile};
 ghost use Rattle.pc_quantile.specs.Candidates.{AreFrom, AreUpTo, IsCandidate, StandAt};
 ghost use Rattle.pc_quantile.specs.Ends.{ReachesHigh, ReachesLow};
 ghost use Rattle.pc_quantile.specs.Gains.{BoundsAbove, BoundsBelow, first_most, first_sum, second_most, second_sum};

@@ -9,7 +9,6 @@ mod judged;
 mod laws;
 mod measure;
 mod past;
-mod quantile;
 mod rungs;
 mod samples;
 mod stand;
@@ -23,4 +22,3 @@ pub use laws::{
     sums_of_lists_are_within_those_of_cells, sums_of_lists_at_an_end_are_those_of_cells,
     sums_tell_on_which_side,
 };
-pub use quantile::Quantile;

@@ -1,7 +1,7 @@
 ghost use Rattle.std.specs.Prelude.{◌≡◌};
 ghost use Rattle.pc_quantile.specs.Measure.{has_numbers};
 
-use crate::quantile::Quantile;
+use pc_lang::Quantile;
 use pc_agg_search::Problem;
 
 /// What a quantile is sought over: the query of the least number of the same rows with its cells, and the numbers of the

@@ -14,7 +14,7 @@ ghost use Rattle.pc_quantile.specs.Past.{least_past, program_past, sum_past};
 ghost use Rattle.pc_quantile.specs.Quantile.{at_most, below};
 
 use crate::measure::Measure;
-use crate::quantile::Quantile;
+use pc_lang::Quantile;
 use pc_agg_search::{Extreme, gained_program};
 use pc_cells::Cell;
 use pc_list::Seq;
