@@ -145,10 +145,22 @@ fn orders(rt: HostRuntime) -> Result<(), Fail> {
 }
 
 static AREAS: [(&str, u8); 9] = [
-    ("quantile(1, 2, price) where day = 1 or day = 2 or day = 3 or day = 4 or day = 5", 14),
-    ("quantile(1, 2, pric) where day = 1 or day = 2 or day = 3 or day = 4 or day = 5", 4),
-    ("quantile(1, 2, branch) where day = 1 or day = 2 or day = 3 or day = 4 or day = 5", 19),
-    ("quantile(1, 2, price) where day = 40 or true or true or true or bran = 1", 14),
+    (
+        "quantile(1, 2, price) where day = 1 or day = 2 or day = 3 or day = 4 or day = 5",
+        14,
+    ),
+    (
+        "quantile(1, 2, pric) where day = 1 or day = 2 or day = 3 or day = 4 or day = 5",
+        4,
+    ),
+    (
+        "quantile(1, 2, branch) where day = 1 or day = 2 or day = 3 or day = 4 or day = 5",
+        19,
+    ),
+    (
+        "quantile(1, 2, price) where day = 40 or true or true or true or bran = 1",
+        14,
+    ),
     ("quantile(1, 2, pric) where day = 40", 4),
     ("quantile(1, 2, price) where day = 1 or day = 40", 17),
     ("quantile(1, 2, price) where branch = Boston", 12),
@@ -185,10 +197,16 @@ fn are_written(rt: &impl Abort, alloc: Global, schema: &Schema, cases: &[(&str, 
 
 static WRITTEN: [(&str, &str); 6] = [
     ("quantile(1, 2, price)", "quantile(1, 2, price)"),
-    (" quantile ( 007,0010 ,\"price\" )where true", "quantile(7, 10, price)"),
+    (
+        " quantile ( 007,0010 ,\"price\" )where true",
+        "quantile(7, 10, price)",
+    ),
     ("quantile(1, 1, day) where day >= 1", "quantile(1, 1, day)"),
     ("quantile(1000,1000,price)", "quantile(1000, 1000, price)"),
-    ("quantile(1,1000,day)where branch=Trenton", "quantile(1, 1000, day) where branch = Trenton"),
+    (
+        "quantile(1,1000,day)where branch=Trenton",
+        "quantile(1, 1000, day) where branch = Trenton",
+    ),
     (
         "quantile(999, 1000, price) where price < 0.01 and day > 30",
         "quantile(999, 1000, price) where day = 31 and price = 0.00",
@@ -207,8 +225,14 @@ static PARTS: [(&str, &str); 4] = [
         "quantile(1,2,price) where day<=3 or day>=30",
         "quantile(1, 2, price) where day in 1..3 or day in 30..31",
     ),
-    ("quantile(1, 4, price) where true or day = 1", "quantile(1, 4, price) where true or day = 1"),
-    ("quantile(3, 4, day) where day >= 1 or price >= 0", "quantile(3, 4, day) where true or true"),
+    (
+        "quantile(1, 4, price) where true or day = 1",
+        "quantile(1, 4, price) where true or day = 1",
+    ),
+    (
+        "quantile(3, 4, day) where day >= 1 or price >= 0",
+        "quantile(3, 4, day) where true or true",
+    ),
     (
         "quantile(1, 3, price) where branch in {Trenton, Chicago} and day = 2 or day = 1 or day = 2 or price <= 10",
         "quantile(1, 3, price) where branch in {Chicago, Trenton} and day = 2 or day = 1 or day = 2 or price in 0.00..10.00",
@@ -241,7 +265,10 @@ fn writes_names(rt: HostRuntime) -> Result<(), Fail> {
 static PLACES: [(&str, (u32, u32, u8, usize)); 5] = [
     ("quantile(1, 1, price)", (1, 1, 2, 1)),
     ("quantile(1, 1000, day)", (1, 1000, 1, 1)),
-    ("quantile(1000, 1000, price) where day = 1", (1000, 1000, 2, 1)),
+    (
+        "quantile(1000, 1000, price) where day = 1",
+        (1000, 1000, 2, 1),
+    ),
     ("quantile(3, 4, day) where day = 1 or day = 2", (3, 4, 1, 2)),
     (
         "quantile(999, 1000, price) where true or true or day = 2 or true",
