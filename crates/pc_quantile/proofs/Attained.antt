@@ -1,5 +1,5 @@
 -- The rows of counts that attain an end have its quantile.
-use Rattle.std.proofs.Common.{◌≡◌, ℕ, suc, ◌*◌, ◌+◌, ◌^◌, ◌<◌, ◌≤◌, ◌==◌, ℤ, pos, ◌+ℤ◌, ◌-ℤ◌, ◌≤ℤ◌, Bool, true, false, not, ◌⊎◌, inl, inr, List, [], ◌∷◌, length, map, filter, All, IsSome, Some, None, refl, sym, ap, subst, ◌∙◌, true≢false, arith}
+use Rattle.std.proofs.Common.{◌≡◌, ℕ, suc, ◌*◌, ◌+◌, ◌^◌, ◌<◌, ◌≤◌, ◌==◌, ℤ, pos, ◌+ℤ◌, ◌-ℤ◌, ◌≤ℤ◌, Bool, true, false, not, ◌⊎◌, inl, inr, List, [], ◌∷◌, length, map, filter, get_or, All, IsSome, Some, None, refl, sym, ap, subst, ◌∙◌, true≢false, arith}
 use Rattle.std.specs.List.{AllZip}
 use Rattle.std.proofs.lemmas.Int.{ints}
 use Rattle.std.proofs.lemmas.List.{length-append, length-map}
@@ -39,14 +39,14 @@ use Rattle.pc_agg_search.specs.Wants.{IsFound, most_chosen, want_for}
 use Rattle.pc_lang.specs.declared.quantile.Quantile.{Quantile}
 use Rattle.pc_quantile.specs.declared.stand.Stand.{Stand}
 use Rattle.pc_quantile.specs.Candidates.{StandAt}
-use Rattle.pc_quantile.specs.Climbing.{AreWanted, IsStand, number_on}
+use Rattle.pc_quantile.specs.Climbing.{AreRungs, AreWanted, IsHeldAt, IsStand, number_on}
 use Rattle.pc_quantile.specs.Licensed.{question_of}
 use Rattle.pc_quantile.specs.Measure.{has_numbers}
 use Rattle.pc_lang.specs.Quantiles.{IsQuantile}
 use Rattle.pc_quantile.specs.Measured.{IsAskedIn, least_of, numbers_of, quantile_of}
-use Rattle.pc_quantile.specs.Past.{end_in, sum_past, program_past}
+use Rattle.pc_quantile.specs.Past.{IsCandidateBeside, end_in, program_past}
 use Rattle.pc_quantile.specs.Right.{HasQuantile}
-use Rattle.pc_quantile.proofs.Passed.{at_end, signed_twice}
+use Rattle.pc_quantile.proofs.Passed.{at_end, seen_some}
 use Rattle.pc_quantile.proofs.Shares.{there_is_one}
 use Rattle.pc_quantile.proofs.OnRungs.{last_has, passing_has}
 use Rattle.pc_quantile.proofs.There.{with_least}
@@ -66,7 +66,7 @@ module _ (schema : Schema) (observed : List Row) (constraints : List Constraint)
   abbrev pub folded : Folded
   folded = record { count = length (seen q); sum = seen_sum q; least = seen_least q; greatest = seen_greatest q }
 
-  pub asking : Asking schema constraints (least_of asked) folded
+  abbrev pub asking : Asking schema constraints (least_of asked) folded
   asking = record {
     observed = observed;
     wide = asked.chosen;
@@ -81,6 +81,34 @@ module _ (schema : Schema) (observed : List Row) (constraints : List Constraint)
 
   pub is_asked : IsAskedIn s asked
   is_asked = record { posed = record { formed = formed; query = asking.well }; query = refl; well = well; tree = tree }
+
+  -- ---- rungs, beside the observed rows
+
+  candidate_here : (seen : List ℤ) (extreme : Extreme) (n : ℤ) → IsCandidateBeside u seen extreme n → IsCandidateBeside s seen extreme n
+  candidate_here seen Low n (inl of) = inl (record { class = of.class; listed = of.listed; chosen = of.chosen; is = of.is })
+  candidate_here seen High n (inl of) = inl (record { class = of.class; listed = of.listed; chosen = of.chosen; is = of.is })
+  candidate_here seen extreme n (inr of) = inr of
+
+  candidate_back : (seen : List ℤ) (extreme : Extreme) (n : ℤ) → IsCandidateBeside s seen extreme n → IsCandidateBeside u seen extreme n
+  candidate_back seen Low n (inl of) = inl (record { class = of.class; listed = of.listed; chosen = of.chosen; is = of.is })
+  candidate_back seen High n (inl of) = inl (record { class = of.class; listed = of.listed; chosen = of.chosen; is = of.is })
+  candidate_back seen extreme n (inr of) = inr of
+
+  pub rungs_here : (seen : List ℤ) (extreme : Extreme) (rungs : List ℤ) → AreRungs u seen extreme rungs → AreRungs s seen extreme rungs
+  rungs_here seen extreme rungs are = record {
+    falling = are.falling;
+    from = λ place d inside. candidate_here seen extreme (signed extreme (get_or rungs place d)) (are.from place d inside);
+    each = λ number candidate. are.each number (candidate_back seen extreme number candidate);
+    small = are.small;
+  }
+
+  pub held_here : (seen : List ℤ) (extreme : Extreme) (rungs : List ℤ) (place : ℕ) → IsHeldAt u seen extreme asked rungs place → IsHeldAt s seen extreme asked rungs place
+  held_here seen Low rungs place held = held
+  held_here seen High rungs place held = held
+
+  worth_here : (extreme : Extreme) (v : ℤ) (counts : List ℕ) → worth (program_past u extreme asked v) counts ≡ worth (program_past s extreme asked v) counts
+  worth_here Low v counts = refl
+  worth_here High v counts = refl
 
   -- ---- the rows of counts
 
@@ -127,14 +155,10 @@ module _ (schema : Schema) (observed : List Row) (constraints : List Constraint)
           let kept = length-filter_both (keeps q) (λ row. not (keeps q row)) (λ row. refl) made in
           omega (arith, split, few_seen, rows, kept, length-map (filter (keeps q) made) (asked_of (least_of asked)))
 
-      some_seen : (numbers : List ℤ) → has_numbers numbers ≡ true → 0 < length numbers
-      some_seen [] some = absurd (true≢false (sym some))
-      some_seen (x ∷ xs) some = omega arith
-
       -- where counts with a value are wanted, there is a quantile
       valued : (side : Bool) → has_numbers (seen_numbers q) ≡ side → IsFound (most_chosen u) (want_for side) counts → IsSome (quantile_of q asked made)
       valued true some is =
-          let here = some_seen (seen_numbers q) some in
+          let here = seen_some (seen_numbers q) some in
           there_is_one asked.p asked.q (numbers_of q made) well.some well.most (omega (arith, split, here))
       valued false none is =
           (with_least s asked made is_asked).1 (giving s picks counts is_asked.posed tree at_cells lawful is.1).some
@@ -148,11 +172,13 @@ module _ (schema : Schema) (observed : List Row) (constraints : List Constraint)
             let given = subst (λ w. IsFound (program_past u extreme asked (number_on extreme is.rungs (suc is.place))) w counts) after.2 (subst (λ p. IsFound p end.want counts) after.1 wanted) in
             let same = at_end s asked is_asked made (possible picks at_cells counts lawful).are_possible extreme (number_on extreme is.rungs (suc is.place)) stand in
             let worth_is = ap (worth (program_past s extreme asked (number_on extreme is.rungs (suc is.place)))) counted in
-            passing_has s extreme is.rungs is.are_rungs is.place is.inside asked is_asked is.held made (possible picks at_cells counts lawful).are_possible stand after.0 (few_numbers few_seen)
-            (omega (arith, ints, given.1, same, worth_is))
+            passing_has s extreme is.rungs (rungs_here (seen_numbers q) extreme is.rungs is.are_rungs) is.place is.inside asked is_asked (held_here (seen_numbers q) extreme is.rungs is.place is.held) made
+            (possible picks at_cells counts lawful).are_possible stand after.0 (few_numbers few_seen)
+            (omega (arith, ints, given.1, same, worth_is, worth_here extreme (number_on extreme is.rungs (suc is.place)) counts))
         has (inr last) wanted =
             let given = subst (λ w. IsFound (most_chosen u) w counts) last.2 (subst (λ p. IsFound p end.want counts) last.1 wanted) in
-            last_has s extreme is.rungs is.are_rungs is.place is.inside asked is_asked is.held made (possible picks at_cells counts lawful).are_possible stand last.0
+            last_has s extreme is.rungs (rungs_here (seen_numbers q) extreme is.rungs is.are_rungs) is.place is.inside asked is_asked (held_here (seen_numbers q) extreme is.rungs is.place is.held) made
+            (possible picks at_cells counts lawful).are_possible stand last.0
             (valued (has_numbers (seen_numbers q)) refl given)
 
         -- wanted counts have the quantile of the end

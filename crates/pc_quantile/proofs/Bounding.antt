@@ -1,5 +1,5 @@
 -- The answers of the calls that lead to a quantile's range owe what they must.
-use Rattle.std.proofs.Common.{◌≡◌, ℕ, ◌<◌, ◌≤◌, ◌^◌, ℤ, Bool, true, false, inl, inr, List, [], ◌∷◌, ◌++◌, length, map, All, Any, IsSomeAnd, None, refl, sym, ap, subst, ◌∙◌, arith}
+use Rattle.std.proofs.Common.{◌≡◌, ℕ, ◌<◌, ◌≤◌, ◌^◌, ℤ, Bool, true, false, inl, inr, List, [], ◌∷◌, ◌++◌, length, map, All, Any, IsSomeAnd, None, refl, sym, ap, subst, ◌∙◌, arith, get_or, ◌&&◌}
 use Rattle.std.specs.Prelude.{nat_abs}
 use Rattle.std.specs.List.{AllPass, AllZip}
 use Rattle.std.proofs.lemmas.List.{length-append}
@@ -12,6 +12,11 @@ use Rattle.pc_model.specs.declared.query.Query.{Query}
 use Rattle.pc_model.specs.declared.tree.CutNode.{CutNode}
 use Rattle.pc_model.specs.declared.tree.Tree.{Tree}
 use Rattle.pc_model.specs.Accepted.{IsColumnWhere, IsNumeric}
+use Rattle.pc_model.specs.Aggregate.{asked as asked_of, is_in_group, kept}
+use Rattle.pc_model.specs.Membership.{in_domain, is_in}
+use Rattle.pc_model.specs.WellFormed.{IsWellFormed}
+use Rattle.pc_proof.proofs.Numbers.{All-kept}
+use Rattle.pc_proof.proofs.RowNumbers.{asked_small}
 use Rattle.pc_model.specs.Cells.{IsSettledTree}
 use Rattle.pc_model.specs.Right.{IsPossibleFor}
 use Rattle.pc_proof.specs.declared.answer.Lack.{Lack}
@@ -69,7 +74,7 @@ module _ (m : Measure) (measured : IsMeasured m) (observed : List Row) where
   abbrev u : Setting
   u = unseen schema constraints (least_of asked) nodes
 
-  well : IsQuantile schema asked
+  pub well : IsQuantile schema asked
   well = record {
     some = measured.some;
     most = measured.most;
@@ -78,7 +83,7 @@ module _ (m : Measure) (measured : IsMeasured m) (observed : List Row) where
     chosen = measured.chosen;
   }
 
-  tree : IsSettledTree schema constraints asked.chosen nodes
+  pub tree : IsSettledTree schema constraints asked.chosen nodes
   tree = subst (λ (query : Query). IsSettledTree schema constraints query.chosen nodes) measured.query measured.posed.found.tree
 
   abbrev here : Setting
@@ -192,3 +197,10 @@ module _ (m : Measure) (measured : IsMeasured m) (observed : List Row) where
         by_pair (pairs.At low high found) stands surely answered =
             owes_judged grounds are low high found stands answer answered (λ nested. let own = sure nested in let ends = surely nested own.found_some in (own, ends.0, ends.1))
         by_pair pairs.Empty allows surely answered = subst (IsOwed here asked budget) (sym answered) (owes_empty allows)
+
+-- the numbers of rows of a schema are no greater than those of its domains
+pub small_numbers : (schema : Schema) (query : Query) (rows : List Row) → IsWellFormed schema → AllPass (in_domain schema) rows → All (λ number. nat_abs number ≤ 10 ^ 15) (map (asked_of query) (kept query None rows))
+small_numbers schema query rows formed allowed =
+    All-map (λ number. nat_abs number ≤ 10 ^ 15) (asked_of query) (kept query None rows)
+    (All-kept (λ row. is_in query.chosen row && is_in_group query.group None row) (λ row. nat_abs (asked_of query row) ≤ 10 ^ 15) rows
+    (λ place d inside kept. asked_small schema query (get_or rows place d) formed (allowed place d inside)))

@@ -42,23 +42,15 @@ use Rattle.pc_quantile.specs.declared.answer.QuantileEnd.{QuantileEnd}
 use Rattle.pc_lang.specs.declared.quantile.Quantile.{Quantile}
 use Rattle.pc_quantile.specs.declared.stand.Stand.{Stand}
 use Rattle.pc_quantile.specs.Answered.{IsEndAt, IsMarkedBy}
-use Rattle.pc_quantile.specs.Climbing.{AreWanted, IsStand, number_on, program_after, want_after}
+use Rattle.pc_quantile.specs.Climbing.{AreRungs, AreWanted, IsStand, number_on, program_after, want_after}
 use Rattle.pc_quantile.specs.Licensed.{IsInnermost, LicensedEnd, MayPass}
 use Rattle.pc_quantile.specs.Measure.{has_numbers}
 use Rattle.pc_lang.specs.Quantiles.{IsQuantile}
 use Rattle.pc_quantile.specs.Measured.{least_of, quantile_of}
 use Rattle.pc_quantile.specs.Right.{HasQuantile, IsRightMark}
-use Rattle.pc_quantile.proofs.Attained.{asking, at_cells, attained, folded, is_asked, s}
+use Rattle.pc_quantile.proofs.Attained.{asking, at_cells, attained, folded, held_here, is_asked, rungs_here, s}
+use Rattle.pc_quantile.proofs.Passed.{seen_none, seen_some}
 use Rattle.pc_quantile.proofs.OnRungs.{candidate_on, innermost, next_to, not_past}
-
--- whether rows were observed, as their numbers tell
-pub seen_some : (numbers : List ℤ) → has_numbers numbers ≡ true → 0 < length numbers
-seen_some [] some = absurd (true≢false (sym some))
-seen_some (x ∷ xs) some = omega arith
-
-pub seen_none : (numbers : List ℤ) → has_numbers numbers ≡ false → length numbers ≡ 0
-seen_none [] none = refl
-seen_none (x ∷ xs) none = absurd (true≢false none)
 
 module _ (schema : Schema) (observed : List Row) (constraints : List Constraint) (asked : Quantile) (nodes : List CutNode) (formed : IsWellFormed schema) (limited : AreConstraints schema constraints)
     (well : IsQuantile schema asked) (tree : IsSettledTree schema constraints asked.chosen nodes) (budget : ℕ) (found : List (List ℕ)) where
@@ -86,6 +78,9 @@ module _ (schema : Schema) (observed : List Row) (constraints : List Constraint)
 
     lawful_at : (counts : List ℕ) → Contains found counts → AreLawful u counts
     lawful_at counts there = All-contains (AreLawful u) found counts lawful there
+
+    rungs : AreRungs here numbers extreme is.rungs
+    rungs = rungs_here schema observed constraints asked nodes formed limited well tree numbers extreme is.rungs is.are_rungs
 
     -- ---- an exact end
 
@@ -155,7 +150,7 @@ module _ (schema : Schema) (observed : List Row) (constraints : List Constraint)
         let left = spent answer (program_after u extreme asked is.rungs is.place) (want_after numbers extreme asked is.rungs is.place) from doubt gone in
         inl (record {
           next = number_on extreme is.rungs (suc is.place);
-          beside = next_to here extreme is.rungs is.are_rungs is.place is.inside after.0;
+          beside = next_to here extreme is.rungs rungs is.place is.inside after.0;
           most = left.0;
           spent = left.1;
           over = omega (arith, ints, left.2);
@@ -163,12 +158,12 @@ module _ (schema : Schema) (observed : List Row) (constraints : List Constraint)
     may_stand answer from away (inr last) =
         let doubt = subst (λ w. IsDoubt (most_chosen u) w budget found) last.2 (subst (λ p. IsDoubt p stand.want budget found) last.1 is.doubt) in
         let gone = subst (λ w. Away (most_chosen u) w) last.2 (subst (λ p. Away p stand.want) last.1 away) in
-        inr (innermost here extreme is.rungs is.are_rungs is.place is.inside last.0, may_give (has_numbers numbers) refl answer from doubt gone)
+        inr (innermost here extreme is.rungs rungs is.place is.inside last.0, may_give (has_numbers numbers) refl answer from doubt gone)
 
     licensed : (answer : Answer) → ShownFrom here found answer → Away stand.program stand.want → LicensedEnd here asked budget answer extreme (signed extreme stand.key)
     licensed answer from away =
         subst (λ key. LicensedEnd here asked budget answer extreme (signed extreme key)) (sym is.key_is)
-        (record { candidate = candidate_on here extreme is.rungs is.are_rungs is.place is.inside; may = may_stand answer from away is.wanted })
+        (record { candidate = candidate_on here extreme is.rungs rungs is.place is.inside; may = may_stand answer from away is.wanted })
 
     pub mark_licensed : (answer : Answer) → ShownFrom here found answer → (mark : Mark) → IsMarkedBy stand found mark → IfOuter mark (LicensedEnd here asked budget answer extreme (signed extreme stand.key))
     mark_licensed answer from (marks.Exact runs) some = tt
@@ -179,7 +174,8 @@ module _ (schema : Schema) (observed : List Row) (constraints : List Constraint)
     pub held : (lost : List Row) → IsPossibleFor here.question lost → IfSome (quantile_of here.question asked lost) (λ w. signed extreme w ≤ℤ stand.key)
     held lost possible =
         subst (λ key. IfSome (quantile_of here.question asked lost) (λ w. signed extreme w ≤ℤ key)) (sym is.key_is)
-        (not_past here extreme is.rungs is.are_rungs is.place is.inside asked (is_asked schema observed constraints asked nodes formed limited well tree) is.held lost possible)
+        (not_past here extreme is.rungs rungs is.place is.inside asked (is_asked schema observed constraints asked nodes formed limited well tree)
+        (held_here schema observed constraints asked nodes formed limited well tree numbers extreme is.rungs is.place is.held) lost possible)
 
     pub small_key : nat_abs stand.key ≤ 10 ^ 15
     small_key = subst (λ key. nat_abs key ≤ 10 ^ 15) (sym is.key_is) (is.are_rungs.small is.place (pos 0) is.inside)

@@ -2,6 +2,7 @@
 use Rattle.std.proofs.Common.{◌≡◌, ℕ, zero, suc, ◌+◌, ◌-◌, ◌^◌, ◌<◌, ◌≤◌, ℤ, pos, ◌+ℤ◌, ◌≤ℤ◌, ◌<ℤ◌, ◌⊎◌, inl, inr, List, length, Contains, Option, Some, None, IfSome, IsSome, refl, sym, ap, subst, ◌∙◌, arith}
 use Rattle.std.proofs.lemmas.Bool.{false≢true, cases_lt}
 use Rattle.std.proofs.lemmas.Int.{ints}
+use Rattle.std.proofs.lemmas.List.{get_or_default}
 use Rattle.pc_model.specs.declared.row.Row.{Row}
 use Rattle.pc_model.specs.Right.{IsPossibleFor}
 use Rattle.pc_program_bound.specs.Sums.{int_at}
@@ -21,19 +22,22 @@ use Rattle.pc_quantile.proofs.Shares.{there_is_one}
 
 module _ (rungs : List ℤ) (falling : (place : ℕ) → suc place < length rungs → int_at rungs (suc place) <ℤ int_at rungs place) where
   falls_by : (i n : ℕ) → i + n < length rungs → int_at rungs (i + n) ≤ℤ int_at rungs i
-  falls_by i zero inside = subst (λ j. int_at rungs j ≤ℤ int_at rungs i) (omega arith) (omega (arith, ints))
+  falls_by i zero inside = let same : i + 0 ≡ i = omega arith in subst (λ j. int_at rungs j ≤ℤ int_at rungs i) (sym same) (omega (arith, ints))
   falls_by i (suc n) inside =
       let before = falls_by i n (omega (arith, inside)) in
       let step = falling (i + n) (omega (arith, inside)) in
-      subst (λ j. int_at rungs j ≤ℤ int_at rungs i) (omega arith) (omega (arith, ints, before, step))
+      let same : i + suc n ≡ suc (i + n) = omega arith in
+      subst (λ j. int_at rungs j ≤ℤ int_at rungs i) (sym same) (omega (arith, ints, before, step))
 
   pub falls : (i j : ℕ) → i ≤ j → j < length rungs → int_at rungs j ≤ℤ int_at rungs i
-  falls i j order inside = subst (λ k. int_at rungs k ≤ℤ int_at rungs i) (omega (arith, order)) (falls_by i (j - i) (omega (arith, order, inside)))
+  falls i j order inside = let same : i + (j - i) ≡ j = omega (arith, order) in subst (λ k. int_at rungs k ≤ℤ int_at rungs i) same (falls_by i (j - i) (omega (arith, order, inside)))
 
 module _ (s : Setting) (extreme : Extreme) (rungs : List ℤ) (are : AreRungs s (seen_numbers s.question) extreme rungs) where
   -- each candidate stands on a rung
   on_rung : (number : ℤ) → IsCandidateAt s extreme number → (i : ℕ) × (i < length rungs) × (int_at rungs i ≡ signed extreme number)
-  on_rung number candidate = are.each number candidate
+  on_rung number candidate =
+      let there = are.each number candidate in
+      (there.0, there.1, get_or_default rungs there.0 (pos 0) (signed extreme number) there.1 ∙ there.2)
 
   pub up_to_first : (number : ℤ) → IsCandidateAt s extreme number → signed extreme number ≤ℤ int_at rungs 0
   up_to_first number candidate =

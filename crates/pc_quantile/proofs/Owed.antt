@@ -55,7 +55,8 @@ use Rattle.pc_quantile.specs.Measured.{least_of, numbers_of, quantile_of}
 use Rattle.pc_quantile.specs.Right.{IsRightLack, IsRightMark}
 use Rattle.pc_quantile.specs.Shown.{shown, shown_end, shown_lack, shown_relation}
 use Rattle.pc_quantile.proofs.Attained.{asking, folded, is_asked, possible, s}
-use Rattle.pc_quantile.proofs.Marked.{held, mark_exact, mark_licensed, mark_outer, mark_right, mark_there, seen_some}
+use Rattle.pc_quantile.proofs.Marked.{held, mark_exact, mark_licensed, mark_outer, mark_right, mark_there}
+use Rattle.pc_quantile.proofs.Passed.{seen_some}
 use Rattle.pc_quantile.proofs.Shares.{there_is_one}
 use Rattle.pc_quantile.proofs.There.{with_least}
 
@@ -76,8 +77,8 @@ module _ (schema : Schema) (observed : List Row) (constraints : List Constraint)
   no_counts allows lost is_possible = allows (lost_counts here lost) (rows_are_allocation schema constraints (area_of here.question) nodes none lost formed tree is_possible)
 
   pub owed_impossible : NoList → IsOwed here asked budget impossible
-  owed_impossible no = record {
-    right = record { relation = no; lack = tt; said = refl; absent = refl; ends = tt };
+  owed_impossible nothing = record {
+    right = record { relation = nothing; lack = tt; said = refl; absent = refl; ends = tt };
     licensed = record { relation = tt; lack = tt; low = tt; high = tt };
     sharp = λ nested. (record { decided = tt; ends = tt }, tt);
   }
@@ -89,7 +90,7 @@ module _ (schema : Schema) (observed : List Row) (constraints : List Constraint)
     where
       by_value : {X : Type 0} (o : Option X) → IsNone o → IsSome o → ⊥
       by_value None none some = true≢false (sym some)
-      by_value (Some x) none some = true≢false (sym none)
+      by_value (Some x) none some = true≢false none
 
   -- ---- the relation that what was found makes
 
@@ -146,7 +147,7 @@ module _ (schema : Schema) (observed : List Row) (constraints : List Constraint)
     owed_always never sure = record {
       right = record { relation = told_right; lack = never; said = sym told_may; absent = sym (or_true (plain.is_impossible (plain_relation (shown_relation told)))); ends = tt };
       licensed = record {
-        relation = told_licensed (shown (always_as told)) (All-append IsThere (runs_of_relation (shown_relation told)) [] told_there (All-nil IsThere));
+        relation = told_licensed (shown (always_as told)) (All-append IsThere (runs_of_relation (shown_relation told) ++ []) [] (All-append IsThere (runs_of_relation (shown_relation told)) [] told_there (All-nil IsThere)) (All-nil IsThere));
         lack = tt;
         low = tt;
         high = tt;
@@ -202,18 +203,18 @@ module _ (schema : Schema) (observed : List Row) (constraints : List Constraint)
       lack_there said.Undecided there = there
 
       not_silent : (l : Lack) → plain.is_silent (plain_lack l) ≡ false → plain.is_silent (plain_lack (shown_lack (told_lack l))) ≡ false
-      not_silent said.Silent no = no
-      not_silent (said.Never by') no = refl
-      not_silent (said.Sometimes without with') no = refl
-      not_silent (said.Always by') no = refl
-      not_silent said.Undecided no = refl
+      not_silent said.Silent given = given
+      not_silent (said.Never by') given = refl
+      not_silent (said.Sometimes without with') given = refl
+      not_silent (said.Always by') given = refl
+      not_silent said.Undecided given = refl
 
       not_always : (l : Lack) → plain.is_always (plain_lack l) ≡ false → plain.is_always (plain_lack (shown_lack (told_lack l))) ≡ false
-      not_always said.Silent no = refl
-      not_always (said.Never by') no = refl
-      not_always (said.Sometimes without with') no = refl
-      not_always (said.Always by') no = no
-      not_always said.Undecided no = refl
+      not_always said.Silent given = refl
+      not_always (said.Never by') given = refl
+      not_always (said.Sometimes without with') given = refl
+      not_always (said.Always by') given = given
+      not_always said.Undecided given = refl
 
       all_there : ShownFrom here found (shown answer)
       all_there =
@@ -302,7 +303,7 @@ module _ (schema : Schema) (observed : List Row) (constraints : List Constraint)
         where
           no_value : (o : Option ℤ) → IsNone o → IsSome o → ⊥
           no_value None none some' = true≢false (sym some')
-          no_value (Some x) none some' = true≢false (sym none)
+          no_value (Some x) none some' = true≢false none
 
           there : (lost : List Row) → IsSome (quantile_of here.question asked lost)
           there lost =

@@ -4,11 +4,13 @@ use Rattle.std.specs.Prelude.{nat_abs}
 use Rattle.std.proofs.lemmas.List.{append_assoc, length-map}
 use Rattle.std.proofs.lemmas.List.Elements.{All-append}
 use Rattle.std.proofs.lemmas.Slice.Zip.{AllZip-long}
-use Rattle.pc_model.specs.Cells.{Class}
+use Rattle.pc_model.specs.declared.row.Row.{Row}
+use Rattle.pc_model.specs.Cells.{Class, IsRowOf}
 use Rattle.pc_program_bound.specs.declared.program.Program.{Program}
 use Rattle.pc_program_bound.specs.Allocation.{cells_of}
 use Rattle.pc_proof.specs.Setting.{Setting, cells}
 use Rattle.pc_branch_licences.specs.Pools.{AreLawful}
+use Rattle.pc_agg.specs.Settling.{AreRowsOfCells}
 use Rattle.pc_agg.proofs.Lacks.{any_grown, doubt_grown}
 use Rattle.pc_agg_search.specs.declared.extreme.Extreme.{Extreme}
 use Rattle.pc_agg_search.specs.declared.extreme.Extreme.TheVariants.{Low, High}
@@ -75,6 +77,11 @@ module _ (u : Setting) (budget : ℕ) (seen : List ℤ) (asked : Quantile) (befo
   pair_surely stoods.Empty pair void is some surely = subst IsPairSurely (sym is) tt
 
 -- ---- what the ends hand to the answer
+
+-- lawful counts are as many as rows of the cells
+pub picks_sized : (u : Setting) (picks : List Row) (found : List (List ℕ)) → AreRowsOfCells u picks → All (AreLawful u) found → All (λ counts. length picks ≡ length counts) found
+picks_sized u picks found rows lawful place d inside =
+    AllZip-long (IsRowOf u.question.schema u.question.constraints u.question.query.chosen) (cells u) picks rows ∙ sym (length-map (cells u) (λ (class : Class). class.mask)) ∙ sym (lawful place d inside).sized
 
 module _ (u : Setting) (budget : ℕ) (seen : List ℤ) (asked : Quantile) (before : List (List ℕ)) (low high : Stand) (found : List (List ℕ)) (stands : AreStands u budget seen asked before low high found)
     (own : All (AreLawful u) before) where

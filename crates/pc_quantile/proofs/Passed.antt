@@ -1,5 +1,5 @@
 -- The two sums as one, at either end: what they say of a quantile, and of the numbers of possible lists.
-use Rattle.std.proofs.Common.{◌≡◌, ℕ, ◌*◌, ◌^◌, ◌≤◌, ◌<◌, ℤ, pos, neg_ℤ, ◌+ℤ◌, ◌≤ℤ◌, ◌<ℤ◌, List, length, All, IfSome, arith}
+use Rattle.std.proofs.Common.{◌≡◌, ℕ, suc, ◌*◌, ◌^◌, ◌≤◌, ◌<◌, ◌==◌, ℤ, pos, neg_ℤ, ◌+ℤ◌, ◌≤ℤ◌, ◌<ℤ◌, Bool, true, false, not, List, [], ◌∷◌, length, All, IfSome, refl, sym, true≢false, arith}
 use Rattle.std.proofs.lemmas.Int.{ints}
 use Rattle.std.proofs.lemmas.Option.{IfSome_then}
 use Rattle.pc_model.specs.declared.row.Row.{Row}
@@ -13,6 +13,7 @@ use Rattle.pc_lang.specs.declared.quantile.Quantile.{Quantile}
 use Rattle.pc_quantile.specs.Candidates.{StandAt}
 use Rattle.pc_quantile.specs.Gains.{lost_counts}
 use Rattle.pc_quantile.specs.Licensed.{IsCandidateAt}
+use Rattle.pc_quantile.specs.Measure.{has_numbers}
 use Rattle.pc_quantile.specs.Measured.{IsAskedIn, numbers_of, quantile_of}
 use Rattle.pc_quantile.specs.Past.{IsBounded, end_in, program_past, sum_past}
 use Rattle.pc_quantile.specs.Quantile.{quantile}
@@ -26,6 +27,23 @@ use Rattle.pc_quantile.proofs.Within.{bounded_above, bounded_below, first_at_end
 pub signed_twice : (extreme : Extreme) (n : ℤ) → signed extreme (signed extreme n) ≡ n
 signed_twice High n = omega (arith, ints)
 signed_twice Low n = omega (arith, ints)
+
+-- ---- whether rows were observed, as their numbers tell
+
+no_numbers : (n : ℕ) → not (suc n == 0) ≡ false → ⊥
+no_numbers n none = by_test (suc n == 0) refl none
+  where
+    by_test : (test : Bool) → (suc n == 0) ≡ test → not test ≡ false → ⊥
+    by_test true same none = grind (arith, same)
+    by_test false same none = true≢false none
+
+pub seen_some : (numbers : List ℤ) → has_numbers numbers ≡ true → 0 < length numbers
+seen_some [] some = absurd (true≢false (sym some))
+seen_some (x ∷ xs) some = omega arith
+
+pub seen_none : (numbers : List ℤ) → has_numbers numbers ≡ false → length numbers ≡ 0
+seen_none [] none = refl
+seen_none (x ∷ xs) none = absurd (no_numbers (length xs) none)
 
 -- ---- lists of numbers
 

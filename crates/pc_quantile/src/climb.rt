@@ -111,7 +111,7 @@ fn halve(
     let Span { from, to, found } = span;
     let middle = from + (to - from) / 2;
     let probed = probe_after(alloc, measure, ladder, middle, found)?;
-    Ok(halved(from, to, middle, probed))
+    Ok(halved_at(from, to, middle, probed))
 }
 
 /// Whether some list passes the rung after this one.
@@ -166,7 +166,7 @@ pub(crate) fn passing_after(
 }
 
 /// The rungs past the one in the middle, or up to it.
-fn halved(from: usize, to: usize, middle: usize, probed: Probed) -> Halved
+fn halved_at(from: usize, to: usize, middle: usize, probed: Probed) -> Halved
     requires inside { middle < to }
     ensures { result ≡ halved from to middle probed.found probed.verdict }
 {

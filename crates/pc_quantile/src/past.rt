@@ -1,6 +1,5 @@
 //! How far numbers pass a number, and the programs of how far lost rows can.
-ghost use Rattle.std.specs.Prelude.{◌≡◌, ◌<◌, ◌≤◌, ◌^◌, ◌*◌, ◌-ℤ◌, ◌+ℤ◌, ◌*ℤ◌, nat_abs, pos, length, cond, IfOk, int_lt};
-ghost use Rattle.std.specs.List.{count_by};
+ghost use Rattle.std.specs.Prelude.{◌≡◌, ◌≤◌, ◌^◌, ◌*ℤ◌, ◌≤ℤ◌, nat_abs, pos, int_lt, length, cond, IfOk};
 ghost use Rattle.pc_program_bound.specs.Allocation.{IsProgram};
 ghost use Rattle.pc_branch.specs.Ends.{HasSmallGains};
 ghost use Rattle.pc_branch.specs.Outcome.{IsEasyProgram};
@@ -12,6 +11,7 @@ ghost use Rattle.pc_quantile.specs.Measure.{IsMeasured, cells_for};
 ghost use Rattle.pc_quantile.specs.Passing.{inner_gain, outer_gain, passing_gain, IsShare};
 ghost use Rattle.pc_quantile.specs.Past.{least_past, program_past, sum_past};
 ghost use Rattle.pc_quantile.specs.Quantile.{at_most, below};
+ghost use Rattle.pc_quantile.specs.Sums.{first_of, second_of};
 
 use crate::measure::Measure;
 use pc_lang::Quantile;
@@ -58,22 +58,24 @@ fn gains_past(
     requires keyed { length keys.now ≡ length cells.now }
     ensures { IfOk result (λ gains. gains ≡ table (length cells.now) (passing_gain asked.now extreme cells.now keys.now key)) }
 {
-    let outer = outer_gain(asked, extreme);
-    let inner = inner_gain(asked, extreme);
     let mut gains = Seq::new(alloc);
     for cell in 0..cells.len() {
-        gains.push(gain_at(cells[cell].chosen, key < keys[cell], outer, inner))?;
+        gains.push(gain_at(asked, extreme, cells[cell].chosen, keys[cell], key))?;
     }
     Ok(gains)
 }
 
-fn gain_at(chosen: bool, passes: bool, outer: i128, inner: i128) -> i128
-    ensures { result ≡ cond chosen (cond passes outer inner) (pos 0) }
+fn gain_at(asked: &Quantile, extreme: Extreme, chosen: bool, own: i128, key: i128) -> i128
+    requires share { IsShare asked.now }
+    ensures { result ≡ cond chosen (cond (int_lt key own) (outer_gain asked.now extreme) (inner_gain asked.now extreme)) (pos 0) }
 {
     if !chosen {
         return 0;
     }
-    if passes { outer } else { inner }
+    if key < own {
+        return outer_gain(asked, extreme);
+    }
+    inner_gain(asked, extreme)
 }
 
 /// What a row adds that can pass a number.
@@ -115,28 +117,57 @@ fn sum_past(asked: &Quantile, extreme: Extreme, number: i128, seen: &[i64]) -> i
     ensures sum { result ≡ sum_past extreme asked.now number seen.now }
     ensures small { nat_abs result ≤ 2 ^ 70 }
 {
-    let (p, q) = (i128::from(asked.p), i128::from(asked.q));
-    let all = seen.len() as i128;
     match extreme {
-        Extreme::Low => WEIGHT * (q * count_below(seen, number) - p * all) + all,
-        Extreme::High => p * all - q * count_upto(seen, number),
+        Extreme::Low => second_of(asked, number, seen),
+        Extreme::High => first_of(asked, number, seen),
     }
 }
 
-/// How many of the numbers are at most this one.
-fn count_upto(seen: &[i64], number: i128) -> i128
+/// How far those at most this number fall short of the share.
+fn first_of(asked: &Quantile, number: i128, seen: &[i64]) -> i128
+    requires share { IsShare asked.now }
     requires few { length seen.now ≤ 1_000_000 }
-    ensures counted { result ≡ pos (at_most number seen.now) }
-    ensures few { at_most number seen.now ≤ length seen.now }
+    ensures sum { result ≡ first_of asked.now.p asked.now.q number seen.now }
+    ensures small { nat_abs result ≤ 2 ^ 70 }
 {
-    seen.iter().filter(|each| i128::from(**each) <= number).count() as i128
+    times(asked.p, seen.len()) - times(asked.q, count_upto(seen, number))
+}
+
+/// How far those below this number pass the share.
+fn second_of(asked: &Quantile, number: i128, seen: &[i64]) -> i128
+    requires share { IsShare asked.now }
+    requires few { length seen.now ≤ 1_000_000 }
+    ensures sum { result ≡ second_of asked.now.p asked.now.q number seen.now }
+    ensures small { nat_abs result ≤ 2 ^ 70 }
+{
+    let past = times(asked.q, count_below(seen, number)) - times(asked.p, seen.len());
+    WEIGHT * past + seen.len() as i128
+}
+
+fn times(part: u32, rows: usize) -> i128
+    requires part { part ≤ 1000 }
+    requires few { rows ≤ 1_000_000 }
+    ensures product { result ≡ (pos part *ℤ pos rows) }
+    ensures from { pos 0 ≤ℤ result }
+    ensures upto { result ≤ℤ pos (10 ^ 9) }
+{
+    i128::from(part) * rows as i128
+}
+
+/// How many of the numbers are at most this one.
+fn count_upto(seen: &[i64], number: i128) -> usize
+    ensures { result ≡ at_most number seen.now }
+{
+    seen.iter()
+        .filter(|each| i128::from(**each) <= number)
+        .count()
 }
 
 /// How many of the numbers are below this one.
-fn count_below(seen: &[i64], number: i128) -> i128
-    requires few { length seen.now ≤ 1_000_000 }
-    ensures counted { result ≡ pos (below number seen.now) }
-    ensures few { below number seen.now ≤ length seen.now }
+fn count_below(seen: &[i64], number: i128) -> usize
+    ensures { result ≡ below number seen.now }
 {
-    seen.iter().filter(|each| i128::from(**each) < number).count() as i128
+    seen.iter()
+        .filter(|each| i128::from(**each) < number)
+        .count()
 }

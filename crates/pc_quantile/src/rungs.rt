@@ -63,15 +63,16 @@ fn with_seen(keys: Seq<i128>, extreme: Extreme, seen: &[i64]) -> Result<Seq<i128
     ensures { IfOk result (λ all. all ≡ keys ++ map (signed extreme) seen.now) }
 {
     let mut all = keys;
-    for number in seen {
-        all.push(key_of(extreme, *number))?;
+    for place in 0..seen.len() {
+        all.push(key_of(extreme, seen[place]))?;
     }
     Ok(all)
 }
 
 /// The key of a number.
 fn key_of(extreme: Extreme, number: i64) -> i128
-    ensures { result ≡ signed extreme number }
+    ensures key { result ≡ signed extreme number }
+    ensures small { nat_abs result ≤ 2 ^ 63 }
 {
     match extreme {
         Extreme::Low => -i128::from(number),

@@ -12,9 +12,7 @@ ghost use Rattle.pc_quantile.specs.Measure.{IsMeasured, cells_for, has_numbers};
 use crate::climb::{Climbed, Ladder, Passing, climb, passing_after};
 use crate::measure::{Measure, is_observed};
 use crate::rungs::rungs_of;
-use pc_agg_search::{
-    Extreme, FoundCounts, Targets, Want, chosen_program, find_keys, want_for,
-};
+use pc_agg_search::{Extreme, FoundCounts, Targets, Want, chosen_program, find_keys, want_for};
 use pc_list::Seq;
 use pc_model::Row;
 use pc_num::Memory;
@@ -66,7 +64,8 @@ pub(crate) fn search_end(
         keys,
         rungs,
     };
-    match climb(alloc, measure, &ladder, found)? {
+    let climbed = climb(alloc, measure, &ladder, found)?;
+    match climbed {
         Climbed::Empty => Ok(Stood::Empty),
         Climbed::At(standing) => {
             let stand = stand_on(alloc, measure, &ladder, standing.place, picks)?;

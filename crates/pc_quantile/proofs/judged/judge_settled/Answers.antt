@@ -6,5 +6,5 @@ returns c = record {
   high_end = c.in_ok-low.high;
   low_is = rw c.as_slice.ensures at c.in_ok-low.ensures.low;
   high_is = rw c.as_slice.ensures at c.in_ok-low.ensures.high;
-  answer_is = c.judged.ensures;
+  answer_is = rw (c.told_relation.ensures, c.told_lack.ensures) at c.judged.ensures;
 }
