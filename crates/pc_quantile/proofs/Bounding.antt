@@ -179,7 +179,7 @@ module _ (m : Measure) (measured : IsMeasured m) (observed : List Row) where
           (IsEasy schema constraints → AreGroundsSurely (cells_for m) (has_numbers m.seen.now) grounds × Any (IsFound low.program low.want) found × Any (IsFound high.program high.want) found) → IsOwed here asked budget answer
       owes_judged answer is sure =
           let judging = subst (λ v. IsJudged v side (record { lacking = grounds.lacking; found = found }) low high answer) same
-              (subst (λ b. IsJudged (cells_for m) b (record { lacking = grounds.lacking; found = found }) low high answer) side_is is) in
+          (subst (λ b. IsJudged (cells_for m) b (record { lacking = grounds.lacking; found = found }) low high answer) side_is is) in
           subst (IsOwed here asked budget) (sym judging.answer_is)
           (owed_judged schema observed constraints asked nodes measured.posed.formed measured.posed.limited well tree budget found lawful totals low.picks rows few_seen judging.lack (lack_owed judging.lack judging.lack_is) low high
           both.low_stands both.high_stands judging.low_end judging.high_end judging.low_is judging.high_is

@@ -93,7 +93,7 @@ module _ (schema : Schema) (observed : List Row) (constraints : List Constraint)
     exact_there runs some =
         let own = lawful_at some.1 (some.0, some.2, some.3) in
         let counted = counted_runs schema constraints (least_of asked) (folded schema observed constraints asked nodes formed limited well tree) nodes formed (asking schema observed constraints asked nodes formed limited well tree)
-            stand.picks some.1 (at_cells schema observed constraints asked nodes formed limited well tree extreme stand.picks is.picked) own in
+        stand.picks some.1 (at_cells schema observed constraints asked nodes formed limited well tree extreme stand.picks is.picked) own in
         subst (Contains found) (sym (ap (counts_of_runs here) some.4.1 ∙ counted)) (some.0, some.2, some.3)
 
     pub mark_there : (mark : Mark) → IsMarkedBy stand found mark → All IsThere (runs_of_mark mark)

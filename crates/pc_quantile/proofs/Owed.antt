@@ -115,7 +115,7 @@ module _ (schema : Schema) (observed : List Row) (constraints : List Constraint)
         by_list [] own inside = All-nil IsThere
         by_list (counts ∷ more) own inside =
             let counted = counted_runs schema constraints (least_of asked) (folded schema observed constraints asked nodes formed limited well tree) nodes formed
-                (asking schema observed constraints asked nodes formed limited well tree) picks counts rows (All-head (AreLawful u) counts more own) in
+            (asking schema observed constraints asked nodes formed limited well tree) picks counts rows (All-head (AreLawful u) counts more own) in
             All-cons IsThere (runs_from picks counts) [] (subst (Contains found) (sym counted) (inside counts (0, omega arith, refl))) (All-nil IsThere)
 
     told_licensed : (answer : Answer) → ShownFrom here found answer → LicensedRelation here budget answer (shown_relation told)

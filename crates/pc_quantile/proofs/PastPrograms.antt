@@ -68,6 +68,12 @@ either_small : (n : ℕ) (test : Bool) (x y : ℤ) → nat_abs x ≤ n → nat_a
 either_small n true x y first second = first
 either_small n false x y first second = second
 
+-- what a row of a cell adds, as the code takes it
+pub gain_small : (asked : Quantile) → IsShare asked → (extreme : Extreme) (chosen past : Bool) → nat_abs (cond chosen (cond past (outer_gain asked extreme) (inner_gain asked extreme)) (pos 0)) ≤ greatest_gain
+gain_small asked share extreme chosen past =
+    either_small greatest_gain chosen (cond past (outer_gain asked extreme) (inner_gain asked extreme)) (pos 0)
+    (either_small greatest_gain past (outer_gain asked extreme) (inner_gain asked extreme) (outer_small asked share extreme) (inner_small asked share extreme)) (omega arith)
+
 module _ (s : Setting) (asked : Quantile) (share : IsShare asked) (key : ℤ) (extreme : Extreme) (class : Class) where
   past_small : nat_abs (gain_past s extreme asked (signed extreme key) class) ≤ greatest_gain
   past_small = subst (λ g. nat_abs g ≤ greatest_gain) (past_is s asked key class extreme)

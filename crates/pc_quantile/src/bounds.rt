@@ -17,11 +17,11 @@ ghost use Rattle.pc_quantile.specs.Measured.{least_of};
 use crate::answer::{QuantileAnswer, QuantileLack, QuantileRelation};
 use crate::judged::{always_as, judge, told_relation};
 use crate::measure::{Measure, is_observed};
-use pc_lang::Quantile;
 use crate::stand::{On, Stand, Stood, search_end};
 use pc_agg::{Grounded, Grounds, ground, relation_from, rows_of_cells};
 use pc_agg_search::{Extreme, FoundCounts, Problem};
 use pc_cells::decompose;
+use pc_lang::Quantile;
 use pc_model::{Agg, Constraint, Query, Schema};
 use pc_num::Memory;
 use pc_rows::Rows;
@@ -112,11 +112,7 @@ fn always(
 }
 
 /// The answer between both ends.
-fn between(
-    alloc: Global,
-    measure: &Measure<'_>,
-    grounds: Grounds,
-) -> Result<QuantileAnswer, Memory>
+fn between(alloc: Global, measure: &Measure<'_>, grounds: Grounds) -> Result<QuantileAnswer, Memory>
     requires measured { IsMeasured measure.now }
     requires grounds { AreGrounds (cells_for measure.now) (has_numbers measure.now.seen.now) measure.now.problem.nodes grounds }
     ensures { IfOk result (IsBetween measure.now grounds) }
@@ -141,11 +137,7 @@ enum Pair {
     Empty,
 }
 
-fn stand_both(
-    alloc: Global,
-    measure: &Measure<'_>,
-    found: FoundCounts,
-) -> Result<Pair, Memory>
+fn stand_both(alloc: Global, measure: &Measure<'_>, found: FoundCounts) -> Result<Pair, Memory>
     requires measured { IsMeasured measure.now }
     requires some { HasValues (cells_for measure.now) (has_numbers measure.now.seen.now) }
     requires lawful { All (AreLawful (cells_for measure.now)) found }

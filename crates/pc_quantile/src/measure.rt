@@ -1,8 +1,8 @@
 ghost use Rattle.std.specs.Prelude.{◌≡◌};
 ghost use Rattle.pc_quantile.specs.Measure.{has_numbers};
 
-use pc_lang::Quantile;
 use pc_agg_search::Problem;
+use pc_lang::Quantile;
 
 /// What a quantile is sought over: the query of the least number of the same rows with its cells, and the numbers of the
 /// observed rows.

@@ -14,9 +14,9 @@ ghost use Rattle.pc_quantile.specs.Quantile.{at_most, below};
 ghost use Rattle.pc_quantile.specs.Sums.{first_of, second_of};
 
 use crate::measure::Measure;
-use pc_lang::Quantile;
 use pc_agg_search::{Extreme, gained_program};
 use pc_cells::Cell;
+use pc_lang::Quantile;
 use pc_list::Seq;
 use pc_num::Memory;
 use pc_program_bound::Program;

@@ -116,7 +116,7 @@ fn attaining(
     ensures is_program { IfOk result (λ made. IsProgram made.program) }
     ensures small { IfOk result (λ made. HasSmallGains made.program) }
 {
-    if place + 1 < ladder.rungs.len() {
+    if ladder.rungs.len() - place > 1 {
         return passing_after(alloc, measure, ladder, place);
     }
     let program = chosen_program(alloc, &measure.problem, 1)?;

@@ -19,5 +19,5 @@ pub relation_from-requires : goal.relation_from-requires
 relation_from-requires c =
     let p = c.args.measure.now.problem in
     let rows = rows_of_cells p.schema.now p.constraints.now p.query.now p.cells.now.tree.nodes c.requires.measured.posed.formed c.requires.measured.posed.found.tree p.cells.now.cells c.in_ok-picks.picks
-        c.requires.measured.posed.found.listed c.in_ok-picks.ensures in
+    c.requires.measured.posed.found.listed c.in_ok-picks.ensures in
     record { sized = rw (c.as_slice.ensures, c.as_slice-2.ensures) (picks_sized (cells_for c.args.measure.now) c.in_ok-picks.picks c.args.found rows c.requires.lawful) }

@@ -1,5 +1,3 @@
-use Rattle.std.proofs.Common.{arith}
-use Rattle.std.proofs.lemmas.Int.{ints}
 use Rattle.pc_quantile.proofs.Measured.{share}
 use Rattle.pc_quantile.proofs.past.least_past.Goals as goal
 

@@ -1,3 +1,5 @@
+use Rattle.std.specs.Int.{w128}
+use Rattle.std.proofs.lemmas.Int.{to_z-of_z}
 use Rattle.std.proofs.lemmas.Result.{IfOk-weaker}
 use Rattle.std.proofs.Common.{map, ap, ◌∙◌}
 use Rattle.pc_proof.specs.Setting.{cells}
@@ -17,16 +19,16 @@ pub gained_program-requires-clause-sized : goal.gained_program-requires-clause-s
 gained_program-requires-clause-sized c =
     let m = c.args.measure.now in
     past_long m.problem c.requires.measured.posed c.args.extreme c.args.keys.now c.requires.keyed m.asked.now c.args.key c.in_ok-gains.gains
-    (past_are m.problem c.requires.measured.posed c.args.extreme c.args.keys.now c.requires.keyed m.asked.now c.args.key c.in_ok-gains.gains (rw c.as_slice-cells.ensures at c.in_ok-gains.ensures))
+    (past_are m.problem c.requires.measured.posed c.args.extreme c.args.keys.now c.requires.keyed m.asked.now c.args.key c.in_ok-gains.gains (rw (c.as_slice-cells.ensures, to_z-of_z w128 c.args.key c.ranges.key) at c.in_ok-gains.ensures))
 
 pub gained_program-requires-clause-small_gains : goal.gained_program-requires-clause-small_gains
 gained_program-requires-clause-small_gains c =
     let m = c.args.measure.now in
     all_small m.problem c.requires.measured.posed c.args.extreme c.args.keys.now c.requires.keyed m.asked.now c.args.key (share m c.requires.measured) c.in_ok-gains.gains
-    (past_are m.problem c.requires.measured.posed c.args.extreme c.args.keys.now c.requires.keyed m.asked.now c.args.key c.in_ok-gains.gains (rw c.as_slice-cells.ensures at c.in_ok-gains.ensures))
+    (past_are m.problem c.requires.measured.posed c.args.extreme c.args.keys.now c.requires.keyed m.asked.now c.args.key c.in_ok-gains.gains (rw (c.as_slice-cells.ensures, to_z-of_z w128 c.args.key c.ranges.key) at c.in_ok-gains.ensures))
 
 pub returns-clause-program : goal.returns-clause-program
 returns-clause-program c =
     let m = c.args.measure.now in
-    let are = past_are m.problem c.requires.measured.posed c.args.extreme c.args.keys.now c.requires.keyed m.asked.now c.args.key c.in_ok-gains.gains (rw c.as_slice-cells.ensures at c.in_ok-gains.ensures) in
+    let are = past_are m.problem c.requires.measured.posed c.args.extreme c.args.keys.now c.requires.keyed m.asked.now c.args.key c.in_ok-gains.gains (rw (c.as_slice-cells.ensures, to_z-of_z w128 c.args.key c.ranges.key) at c.in_ok-gains.ensures) in
     IfOk-weaker c.gained_program.result _ _ (λ p is. is ∙ ap (program_with m.problem.constraints.now (cells (cells_for m))) are) c.gained_program.ensures.program

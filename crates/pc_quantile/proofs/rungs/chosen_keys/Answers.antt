@@ -1,4 +1,4 @@
-use Rattle.std.proofs.Common.{◌≡◌, get_or, pos, to_z, of_z, ap, ◌∙◌, false, [], arith}
+use Rattle.std.proofs.Common.{◌≡◌, get_or, pos, to_z, of_z, ap, false, [], arith}
 use Rattle.std.specs.Int.{w128}
 use Rattle.std.proofs.lemmas.Int.{ints}
 use Rattle.std.proofs.lemmas.List.{get_or_default}
