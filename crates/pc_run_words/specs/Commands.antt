@@ -4,10 +4,11 @@ use Rattle.pc_run_words.specs.declared.command.Bound.{Bound}
 use Rattle.pc_run_words.specs.declared.command.Check.{Check}
 use Rattle.pc_run_words.specs.declared.command.Show.{Show}
 use Rattle.pc_run_words.specs.declared.command.Conflict.{Conflict}
+use Rattle.pc_run_words.specs.declared.command.Quantile.{Quantile}
 use Rattle.pc_run_words.specs.declared.command.Gen.{Gen}
 use Rattle.pc_run_words.specs.declared.command.Command.{Command}
 use Rattle.pc_run_words.specs.declared.command.Command.TheVariants as commands
-use Rattle.pc_run_words.specs.Words.{BoundNames, CheckNames, ShowNames, ConflictNames, GenNumbers, Asked, bound, prove, check, show, conflict, gen, IsBudget, IsSize}
+use Rattle.pc_run_words.specs.Words.{BoundNames, CheckNames, ShowNames, ConflictNames, QuantileNames, GenNumbers, Asked, bound, prove, check, show, conflict, quantile, gen, IsBudget, IsSize}
 
 abbrev pub bound_names : Bound → BoundNames
 bound_names command = record { nodes = command.nodes; schema = command.schema.now; rows = command.rows.now; constraints = command.constraints.now; queries = map (λ text. text.now) command.queries.items }
@@ -21,6 +22,10 @@ show_names command = record { schema = command.schema.now; constraints = command
 abbrev pub conflict_names : Conflict → ConflictNames
 conflict_names command = record { nodes = command.nodes; files = show_names command.files }
 
+abbrev pub quantile_names : Quantile → QuantileNames
+quantile_names command =
+    record { nodes = command.nodes; schema = command.schema.now; rows = command.rows.now; constraints = command.constraints.now; query = command.query.now }
+
 abbrev pub gen_numbers : Gen → GenNumbers
 gen_numbers command = record { seed = command.seed; size = command.size }
 
@@ -30,6 +35,7 @@ asked_in (commands.Prove command) = prove (bound_names command)
 asked_in (commands.Check command) = check (check_names command)
 asked_in (commands.Show command) = show (show_names command)
 asked_in (commands.Conflict command) = conflict (conflict_names command)
+asked_in (commands.Quantile command) = quantile (quantile_names command)
 asked_in (commands.Gen command) = gen (gen_numbers command)
 
 -- the numbers of a command are ones that words may ask for
@@ -39,4 +45,5 @@ HasNumbers (commands.Prove command) = IsBudget command.nodes
 HasNumbers (commands.Check command) = ⊤
 HasNumbers (commands.Show command) = ⊤
 HasNumbers (commands.Conflict command) = IsBudget command.nodes
+HasNumbers (commands.Quantile command) = IsBudget command.nodes
 HasNumbers (commands.Gen command) = IsSize command.size

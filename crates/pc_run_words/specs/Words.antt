@@ -22,6 +22,14 @@ pub record ConflictNames : Type 0 where
   pub nodes : ℕ
   pub files : ShowNames
 
+-- of `quantile`: how many nodes each search may have, the names of its three files, and the text of its query
+pub record QuantileNames : Type 0 where
+  pub nodes : ℕ
+  pub schema : List ℕ
+  pub rows : List ℕ
+  pub constraints : List ℕ
+  pub query : List ℕ
+
 -- of `check`: the names of its four files
 pub record CheckNames : Type 0 where
   pub schema : List ℕ
@@ -41,6 +49,7 @@ pub data Asked : Type 0 where
   check : CheckNames → Asked
   show : ShowNames → Asked
   conflict : ConflictNames → Asked
+  quantile : QuantileNames → Asked
   gen : GenNumbers → Asked
 
 -- ---- the words after the command
@@ -153,6 +162,15 @@ conflict_at words nodes = None
 abbrev pub conflict_of : Given → Option Asked
 conflict_of words = option_and_then (conflict_at words.plain) (budget_of words.value)
 
+-- three files and one query, and how many nodes each search may have
+abbrev pub quantile_at : List (List ℕ) → ℕ → Option Asked
+quantile_at (schema ∷ rows ∷ constraints ∷ query ∷ []) nodes =
+    Some (quantile (record { nodes = nodes; schema = schema; rows = rows; constraints = constraints; query = query }))
+quantile_at words nodes = None
+
+abbrev pub quantile_of : Given → Option Asked
+quantile_of words = option_and_then (quantile_at words.plain) (budget_of words.value)
+
 -- two numbers
 abbrev pub gen_with : List ℕ → List ℕ → Option Asked
 gen_with seed size =
@@ -173,8 +191,9 @@ command_with name words =
     else (if bytes_eq name (codes "check") then option_and_then check_of (given false words)
     else (if bytes_eq name (codes "show") then option_and_then show_of (given false words)
     else (if bytes_eq name (codes "conflict") then option_and_then conflict_of (given true words)
+    else (if bytes_eq name (codes "quantile") then option_and_then quantile_of (given true words)
     else (if bytes_eq name (codes "gen") then option_and_then gen_of (given false words)
-    else None)))))
+    else None))))))
 
 abbrev pub command_of : List (List ℕ) → Option Asked
 command_of [] = None
@@ -191,13 +210,3 @@ pub record IsBudget (nodes : ℕ) : Type 0 where
 pub record IsSize (size : ℕ) : Type 0 where
   pub some : 1 ≤ size
   pub small : size ≤ most_size
-
--- how many files a command has
-abbrev pub file_count : Option Asked → ℕ
-file_count None = 0
-file_count (Some (bound names)) = 3
-file_count (Some (prove names)) = 3
-file_count (Some (check names)) = 4
-file_count (Some (show names)) = 2
-file_count (Some (conflict names)) = 2
-file_count (Some (gen numbers)) = 0

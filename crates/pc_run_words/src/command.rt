@@ -1,5 +1,5 @@
 ghost use Rattle.std.specs.Prelude.{◌≡◌, map, string_bytes, Some, None, IfOk, IfSome, MatchOption, option_and_then, option_map, true, false};
-ghost use Rattle.pc_run_words.specs.Words.{bound, budget_of, check_at, check_of, command_of, conflict_at, conflict_of, gen_at, gen_of, gen_with, given, names_at, names_of, prove, show_at, show_of, IsBudget};
+ghost use Rattle.pc_run_words.specs.Words.{bound, budget_of, check_at, check_of, command_of, conflict_at, conflict_of, gen_at, gen_of, gen_with, given, names_at, names_of, prove, quantile_at, quantile_of, show_at, show_of, IsBudget};
 ghost use Rattle.pc_run_words.specs.Commands.{asked_in, bound_names, HasNumbers};
 
 use crate::given::{nodes_in, plain_in, words_alone, words_with_nodes};
@@ -44,6 +44,16 @@ pub struct Conflict<'a> {
     pub files: Show<'a>,
 }
 
+/// The command `quantile`: how many nodes each search may have, the names of its files, and its query.
+#[derive(Clone, Copy, Debug)]
+pub struct Quantile<'a> {
+    pub nodes: u32,
+    pub schema: &'a str,
+    pub rows: &'a str,
+    pub constraints: &'a str,
+    pub query: &'a str,
+}
+
 /// The command `gen`: what its draws begin with, and how large its case is.
 #[derive(Clone, Copy, Debug)]
 pub struct Gen {
@@ -59,6 +69,7 @@ pub enum Command<'a> {
     Check(Check<'a>),
     Show(Show<'a>),
     Conflict(Conflict<'a>),
+    Quantile(Quantile<'a>),
     Gen(Gen),
 }
 
@@ -82,6 +93,7 @@ pub fn read_command<'a>(alloc: Global, words: &'a [String]) -> Result<Option<Com
         "check" => read_check(alloc, words),
         "show" => read_show(alloc, words),
         "conflict" => read_conflict(alloc, words),
+        "quantile" => read_quantile(alloc, words),
         "gen" => read_gen(alloc, words),
         _ => Ok(None),
     }
@@ -156,6 +168,19 @@ fn read_conflict<'a>(alloc: Global, words: &'a [String]) -> Result<Option<Comman
         return Ok(None);
     };
     Ok(conflict_at(plain_in(&found), nodes))
+}
+
+fn read_quantile<'a>(alloc: Global, words: &'a [String]) -> Result<Option<Command<'a>>, Memory>
+    ensures reads { IfOk result (λ found. option_map asked_in found ≡ option_and_then quantile_of (given true (map string_bytes words.now))) }
+    ensures numbers { IfOk result (λ found. IfSome found HasNumbers) }
+{
+    let Some(found) = words_with_nodes(alloc, "quantile", words)? else {
+        return Ok(None);
+    };
+    let Some(nodes) = budget_of(nodes_in(&found)) else {
+        return Ok(None);
+    };
+    Ok(quantile_at(plain_in(&found), nodes))
 }
 
 fn read_gen<'a>(alloc: Global, words: &'a [String]) -> Result<Option<Command<'a>>, Memory>
@@ -240,6 +265,23 @@ fn conflict_at<'a>(plain: &[&'a str], nodes: u32) -> Option<Command<'a>>
                 schema: *schema,
                 constraints: *constraints,
             },
+        })),
+        _ => None,
+    }
+}
+
+fn quantile_at<'a>(plain: &[&'a str], nodes: u32) -> Option<Command<'a>>
+    requires { IsBudget nodes }
+    ensures reads { option_map asked_in result ≡ quantile_at (map (λ text. text.now) plain.now) nodes }
+    ensures numbers { IfSome result HasNumbers }
+{
+    match plain {
+        [schema, rows, constraints, query] => Some(Command::Quantile(Quantile {
+            nodes,
+            schema: *schema,
+            rows: *rows,
+            constraints: *constraints,
+            query: *query,
         })),
         _ => None,
     }

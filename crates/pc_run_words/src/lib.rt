@@ -5,4 +5,6 @@ mod command;
 mod given;
 mod number;
 
-pub use command::{Bound, Check, Command, Conflict, Gen, Show, USUAL_NODES, read_command};
+pub use command::{
+    Bound, Check, Command, Conflict, Gen, Quantile, Show, USUAL_NODES, read_command,
+};
