@@ -12,7 +12,7 @@ use std::rt::Files;
 use trouble::Trouble;
 
 /// The folders of the examples.
-const EXAMPLES: [&str; 19] = [
+const EXAMPLES: [&str; 20] = [
     "shop",
     "shop-prove",
     "shop-check",
@@ -27,6 +27,7 @@ const EXAMPLES: [&str; 19] = [
     "observed",
     "overlap",
     "groups",
+    "quantile",
     "always",
     "impossible",
     "conflict",
