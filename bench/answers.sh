@@ -12,6 +12,7 @@
 #   the whole call and of the call less reading;
 # - of an average, the steps that each end takes there, by the method that is ours too;
 # - whether both say the same ends.
+# Of each case it then prints what `pc quantile` takes for the median, as a ratio to `pc bound` for the sum, and its ends.
 # At the end it prints what sixteen questions over the million rows take in one call, as a ratio to one of them, what a
 # generated case takes, and what `pc conflict` takes over twenty constraints of which three contradict each other, as a ratio
 # to a call of `pc bound` for each of its tests.
@@ -82,7 +83,7 @@ agree() {
 
 # answer NAME SCHEMA ROWS CONSTRAINTS COLUMN
 answer() {
-  local name=$1 schema=$2 rows=$3 constraints=$4 column=$5 query asked reading idle whole theirs seen count total scale base peer line
+  local name=$1 schema=$2 rows=$3 constraints=$4 column=$5 query asked reading idle whole summed theirs seen count total scale base peer line
   "$pc" show "$schema" "$constraints" > shown || { echo "$name: $(cat shown)"; return; }
   sed '/^disjoint /d; s/, [0-9]*\.\.[0-9]*$/, 0..0/' shown > idle.constraints
   : > no.constraints
@@ -105,6 +106,7 @@ answer() {
     idle=$took
     measure "$pc" bound "$schema" "$rows" "$constraints" "$query"
     whole=$took
+    case $query in sum*) summed=$whole ;; esac
     line=$(awk -v name="$name" -v query="$query" -v reading="$reading" -v idle="$idle" -v whole="$whole" '
       function share(part) { return sprintf("%.2f", part < 0 ? 0 : part / whole) }
       $1 == "constraints" { constraints = $2 }
@@ -129,6 +131,11 @@ answer() {
     fi
     echo "$line"
   done
+  measure "$pc" quantile "$schema" "$rows" "$constraints" "quantile(1, 2, $column)"
+  awk -v name="$name" -v took="$took" -v summed="${summed:-0}" '
+    $1 == "query" { sub(/^query /, ""); query = $0 }
+    $1 == "relation" && $2 != "possible" || $1 == "none" && $2 == "always" || $1 == "low" || $1 == "high" { ends = ends "; " $0 }
+    END { printf "%s, %s: %.4f s; the sum %.4f s, ratio %.2f%s\n", name, query, took / 1000000, summed / 1000000, (summed ? took / summed : 0), ends }' said
 }
 
 # draw SCHEMA ROWS: so many rows, each number and name of the domain as likely as another

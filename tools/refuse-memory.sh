@@ -93,6 +93,7 @@ try_each prove schema rows constraints 'sum(price) group by branch'
 try_each check schema rows constraints document
 try_each show schema constraints
 try_each conflict schema contrary
+try_each quantile schema rows constraints 'quantile(1, 2, price)'
 try_each bound --nodes 1 schema rows nested 'sum(price)'
 try_each gen 7 3
 echo "$all allocations refused one by one: $refused_all runs ended with status 6 and nothing written, the others as without"
