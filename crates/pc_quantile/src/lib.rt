@@ -9,6 +9,7 @@ mod judged;
 mod laws;
 mod measure;
 mod past;
+mod put;
 mod rungs;
 mod samples;
 mod stand;
@@ -22,3 +23,4 @@ pub use laws::{
     sums_of_lists_are_within_those_of_cells, sums_of_lists_at_an_end_are_those_of_cells,
     sums_tell_on_which_side,
 };
+pub use put::put_quantile;
