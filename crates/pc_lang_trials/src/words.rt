@@ -1,4 +1,4 @@
-use pc_run_words::{Bound, Check, Command, Conflict, read_command};
+use pc_run_words::{Bound, Check, Command, Conflict, Quantile, read_command};
 use std::alloc::Global;
 use std::test::Fail;
 
@@ -192,6 +192,31 @@ fn put_conflict(alloc: Global, told: &mut String, command: &Conflict<'_>) -> Res
     Ok(())
 }
 
+static QUANTILES: [(&str, &str); 13] = [
+    ("quantile s r c q", "quantile 10000 s r c q"),
+    ("quantile --nodes 5 s r c q", "quantile 5 s r c q"),
+    ("quantile s r --nodes=00005 c q", "quantile 5 s r c q"),
+    ("quantile s r c q --nodes 100000", "quantile 100000 s r c q"),
+    ("quantile --nodes 100001 s r c q", "-"),
+    ("quantile --nodes 0 s r c q", "-"),
+    ("quantile --nodes=5 --nodes 5 s r c q", "-"),
+    ("quantile s r c q --nodes", "-"),
+    ("quantile s r c", "-"),
+    ("quantile s r c q q", "-"),
+    ("quantile s r c -q", "-"),
+    ("quantile -- s r c --nodes", "quantile 10000 s r c --nodes"),
+    ("quantiles s r c q", "-"),
+];
+
+fn put_quantile(alloc: Global, told: &mut String, command: &Quantile<'_>) -> Result<(), Fail> {
+    let text = format!(in alloc;
+        "quantile {} {} {} {} {}",
+        command.nodes, command.schema, command.rows, command.constraints, command.query
+    )?;
+    told.push_str(text.as_str())?;
+    Ok(())
+}
+
 fn put_check(alloc: Global, told: &mut String, command: &Check<'_>) -> Result<(), Fail> {
     let text = format!(in alloc;
         "check {} {} {} {}",
@@ -212,6 +237,7 @@ fn told(alloc: Global, command: &Command<'_>) -> Result<String, Fail> {
             told.push_str(text.as_str())?;
         }
         Command::Conflict(command) => put_conflict(alloc, &mut told, command)?,
+        Command::Quantile(command) => put_quantile(alloc, &mut told, command)?,
         Command::Gen(command) => {
             let text = format!(in alloc; "gen {} {}", command.seed, command.size)?;
             told.push_str(text.as_str())?;
@@ -250,6 +276,9 @@ fn calls(rt: HostRuntime) -> Result<(), Fail> {
         assert!(rt; is_told(rt.alloc(), call, want)?, "{call}");
     }
     for (call, want) in CONFLICTS.iter() {
+        assert!(rt; is_told(rt.alloc(), call, want)?, "{call}");
+    }
+    for (call, want) in QUANTILES.iter() {
         assert!(rt; is_told(rt.alloc(), call, want)?, "{call}");
     }
     for (call, want) in DRAWS.iter() {

@@ -5,14 +5,14 @@ use sums::{BELOW_ZERO, SEEN, SIGNS, TWO_TO_FIVE};
 
 pub(super) const NO_SALES: &str = "branch,day,price\n";
 
-const UP_TO_FIVE: &str = "c1: branch = Chicago => price in 0.00..149.99, 0..5\n";
+pub(super) const UP_TO_FIVE: &str = "c1: branch = Chicago => price in 0.00..149.99, 0..5\n";
 
-const PAIRS: &str = "k,cat,ab,bc,ac,d\nn,int,-2,2\n";
+pub(super) const PAIRS: &str = "k,cat,ab,bc,ac,d\nn,int,-2,2\n";
 
-const NO_PAIRS: &str = "k,n\n";
+pub(super) const NO_PAIRS: &str = "k,n\n";
 
 // Twice the rows of the first three would be 3.
-const TRIANGLE: &str =
+pub(super) const TRIANGLE: &str =
     "a: k in {ab, ac} => true, 1..1\nb: k in {ab, bc} => true, 1..1\nc: k in {bc, ac} => true, 1..1\nd: k = d => true, 0..2\n";
 
 // The schema, the rows, the constraints, the query and the report. The rows of runs are the lowest of their cell, with

@@ -7,6 +7,8 @@ const PROVE: [&str; 5] = ["prove", "s", "r", "c", "sum(price)"];
 
 const CONFLICT: [&str; 3] = ["conflict", "s", "c"];
 
+const QUANTILE: [&str; 5] = ["quantile", "s", "r", "c", "quantile(1, 2, price)"];
+
 /// A shelf of the shop and the document of its sum, the load of this number of which fails.
 fn shelf_failing(alloc: Global, load: Option<u64>) -> Result<MemShelf, Fail> {
     let mut shelf = shelf_with(alloc, &[FRONT, HIGH, RUN, BACK, "end\n"])?;
@@ -29,7 +31,7 @@ fn ends_short(
     ends_in(alloc, words, shelf, sink, ending)
 }
 
-static LOADS_THAT_FAIL: [(&[&str], u64, &str); 12] = [
+static LOADS_THAT_FAIL: [(&[&str], u64, &str); 15] = [
     (&BOUND, 0, "read fault: schema\n"),
     (&BOUND, 1, "read fault: rows\n"),
     (&BOUND, 2, "read fault: constraints\n"),
@@ -42,6 +44,9 @@ static LOADS_THAT_FAIL: [(&[&str], u64, &str); 12] = [
     (&CHECK, 3, "read fault: document\n"),
     (&CONFLICT, 0, "read fault: schema\n"),
     (&CONFLICT, 1, "read fault: constraints\n"),
+    (&QUANTILE, 0, "read fault: schema\n"),
+    (&QUANTILE, 1, "read fault: rows\n"),
+    (&QUANTILE, 2, "read fault: constraints\n"),
 ];
 
 #[test]
@@ -79,11 +84,12 @@ fn puts_of_a_read_fault_that_fail(rt: HostRuntime) -> Result<(), Fail> {
 }
 
 /// The words of a command, and the first seven bytes of its report, or all of a shorter one.
-static REPORTS_THAT_ARE_CUT: [(&[&str], &str); 4] = [
+static REPORTS_THAT_ARE_CUT: [(&[&str], &str); 5] = [
     (&BOUND, "query s"),
     (&PROVE, "pc 1\nqu"),
     (&CHECK, "yes\n"),
     (&CONFLICT, "conflic"),
+    (&QUANTILE, "query q"),
 ];
 
 #[test]
@@ -106,7 +112,7 @@ fn puts_of_a_report_that_fail(rt: HostRuntime) -> Result<(), Fail> {
     Ok(())
 }
 
-static COMMANDS: [&[&str]; 4] = [&BOUND, &PROVE, &CHECK, &CONFLICT];
+static COMMANDS: [&[&str]; 5] = [&BOUND, &PROVE, &CHECK, &CONFLICT, &QUANTILE];
 
 /// How many bytes of the line of a refusal its put keeps before it fails, if it fails, and what is then written.
 static REFUSALS_THAT_ARE_CUT: [(Option<u64>, &str); 3] = [

@@ -82,11 +82,6 @@ pub(super) fn without_runs(alloc: Global, text: &str) -> Result<String, AllocErr
     Ok(kept)
 }
 
-/// The words of `bound` with these queries.
-fn words_with<'a>(alloc: Global, queries: &[&'a str]) -> Result<Vec<&'a str>, Fail> {
-    words_of(alloc, "bound", queries)
-}
-
 /// The words of a command with these queries.
 pub(super) fn words_of<'a>(
     alloc: Global,
@@ -122,8 +117,18 @@ fn is_without_runs(rt: &impl Abort, alloc: Global, text: &[u8], want: &str) -> R
 }
 
 pub(super) fn assert_trial(rt: &impl Abort, alloc: Global, trial: &Trial<'_>) -> Result<(), Fail> {
+    assert_trial_of(rt, alloc, "bound", trial)
+}
+
+/// The same of another command.
+pub(super) fn assert_trial_of(
+    rt: &impl Abort,
+    alloc: Global,
+    command: &str,
+    trial: &Trial<'_>,
+) -> Result<(), Fail> {
     let (schema, rows, constraints, queries, want) = *trial;
-    let words = words_with(alloc, queries)?;
+    let words = words_of(alloc, command, queries)?;
     let shelf = shelf_of(alloc, schema, rows, constraints)?;
     let text = answered(alloc, words.as_slice(), shelf)?.expect(rt, "a report");
     assert!(rt;

@@ -16,7 +16,7 @@ fn are_no_command(alloc: Global, words: &[&str]) -> Result<bool, Fail> {
     Ok(sink.kept.as_slice() == USAGE.as_bytes())
 }
 
-static WORDS_CASES: [&[&str]; 15] = [
+static WORDS_CASES: [&[&str]; 17] = [
     &["bound"],
     &[],
     &["show"],
@@ -32,6 +32,8 @@ static WORDS_CASES: [&[&str]; 15] = [
     &["show", "-s", "c"],
     &["conflict", "s"],
     &["conflict", "s", "r", "c"],
+    &["quantile", "s", "r", "c"],
+    &["quantile", "s", "r", "c", "quantile(1, 2, week)", "count"],
 ];
 
 #[test]
