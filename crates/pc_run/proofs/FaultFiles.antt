@@ -17,6 +17,7 @@ use Rattle.pc_schema.specs.SchemaFile.{column_of, column_at, columns_from, schem
 use Rattle.pc_rows.specs.RowFile.{places_from, cells_of, cells_at, rows_from, rows_under, rows_of}
 use Rattle.pc_rows.specs.Stored.{row_limit}
 use Rattle.pc_lang.specs.Files.{with_line_at, constraints_from, constraints_of, lines_of, query_at}
+use Rattle.pc_lang.specs.Quantiles.{quantile_at, quantile_from}
 use Rattle.pc_run.specs.Outcome.{queries_from}
 
 abbrev pub IsOf : {X : Type 0} → FileKind → Result X Fault → Type 0
@@ -104,3 +105,6 @@ queries_of_words schema place [] = tt
 queries_of_words schema place (text ∷ texts) =
     then_of kinds.Query (query_at schema place text) (λ query. (queries_from schema (place + 1) texts >>= λ queries. Ok (query ∷ queries))) (placed_of kinds.Query place _)
     (λ query. then_of kinds.Query (queries_from schema (place + 1) texts) (λ queries. Ok (query ∷ queries)) (queries_of_words schema (place + 1) texts) (λ queries. tt))
+
+pub quantile_of_word : (schema : Schema) (place : ℕ) (text : List ℕ) → IsOf kinds.Query (quantile_at schema place text)
+quantile_of_word schema place text = placed_of kinds.Query place (quantile_from schema text)

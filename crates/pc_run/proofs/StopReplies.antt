@@ -1,5 +1,5 @@
 -- The reply where files give nothing, or an input, is one to the command.
-use Rattle.std.proofs.Common.{◌≡◌, ℕ, inl, inr, List, length, Some, Result, Ok, Err, IfOk, refl, sym}
+use Rattle.std.proofs.Common.{◌≡◌, ℕ, inl, inr, List, Some, Result, Ok, Err, IfOk, refl}
 use Rattle.std.proofs.lemmas.Result.{IfOk-weaker}
 use Rattle.pc_num.specs.declared.memory.Memory.{Memory}
 use Rattle.pc_base.specs.Shelves.{ShelfState}
@@ -8,11 +8,11 @@ use Rattle.pc_base.specs.declared.status.Status.{Status}
 use Rattle.pc_run.specs.declared.input.Input.{Input}
 use Rattle.pc_run.specs.declared.stop.Stop.{Stop}
 use Rattle.pc_run.specs.declared.stop.Stop.TheVariants as stops
-use Rattle.pc_run_words.specs.Words.{Asked, bound, prove, check, show, conflict, gen, command_of, file_count}
+use Rattle.pc_run_words.specs.Words.{Asked, command_of}
 use Rattle.pc_run.specs.declared.reply.Reply.{Reply}
 use Rattle.pc_run.specs.Inputs.{IsSoundInput}
 use Rattle.pc_run.specs.Loading.{IsRead, Reading, reading_of}
-use Rattle.pc_run.specs.Outcome.{refused, files_of, input_in}
+use Rattle.pc_run.specs.Outcome.{refused, files_of, file_count, input_in}
 use Rattle.pc_run.specs.Replies.{AnswersCommand, AnswersWords, Responds, SaysInput, RepliesTo, RepliesToStop, SaysFault, SaysOutcome}
 use Rattle.pc_run.proofs.Chains.{all_in_order, nothing_loaded, order_of_command, until_in_order}
 use Rattle.pc_run.proofs.ReadFiles.{no_loads}
@@ -44,20 +44,11 @@ module _ (reading : Reading) (asked : Asked) (result : Result Reply Memory) wher
     few = read.few;
   }
 
-  -- as many loads as the command has files
-  counted : (asked : Asked) → length (files_of asked) ≡ file_count (Some asked)
-  counted (bound names) = refl
-  counted (prove names) = refl
-  counted (check names) = refl
-  counted (show names) = refl
-  counted (conflict names) = refl
-  counted (gen numbers) = refl
-
   pub for_words : (words : List (List ℕ)) → command_of words ≡ Some asked → AnswersCommand reading asked result → AnswersWords reading words result
   for_words words is answers = record {
     responds = IfOk-weaker result _ _ (λ reply replies. inr (record { asked = asked; command = is; replies = replies })) answers.replies;
     in_order = order_of_command reading asked (command_of words) is answers.in_order;
-    few = rw is (rw (sym (counted asked)) answers.few);
+    few = rw is answers.few;
   }
 
 pub none_answers : {S : Type 0} (told : S → ShelfState) (leads : S → List ℕ → Loaded → S → Type 0) (shelf : S) (words : List (List ℕ)) (result : Result Reply Memory) →

@@ -4,22 +4,25 @@ use Rattle.std.specs.List.{AllPass}
 use Rattle.pc_model.specs.Membership.{in_domain}
 use Rattle.pc_model.specs.Accepted.{AreConstraints, IsQuery}
 use Rattle.pc_model.specs.WellFormed.{IsWellFormed}
+use Rattle.pc_lang.specs.Quantiles.{IsQuantile}
 use Rattle.pc_rows.specs.declared.case.Case.{Case}
 use Rattle.pc_run_words.specs.declared.command.Bound.{Bound}
 use Rattle.pc_run_words.specs.declared.command.Check.{Check}
+use Rattle.pc_run_words.specs.declared.command.Quantile.{Quantile}
 use Rattle.pc_run_words.specs.declared.command.Show.{Show}
 use Rattle.pc_run_words.specs.declared.command.Command.{Command}
 use Rattle.pc_run_words.specs.declared.command.Command.TheVariants as commands
-use Rattle.pc_run_words.specs.Commands.{asked_in, bound_names}
-use Rattle.pc_run_words.specs.Words.{bound, IsBudget, IsSize}
+use Rattle.pc_run_words.specs.Commands.{asked_in, bound_names, quantile_names}
+use Rattle.pc_run_words.specs.Words.{bound, quantile, IsBudget, IsSize}
 use Rattle.pc_run.specs.declared.stop.Stop.{Stop}
 use Rattle.pc_run.specs.declared.input.Claim.{Claim}
 use Rattle.pc_run.specs.declared.input.Input.{Input}
-use Rattle.pc_run.specs.declared.input.Input.TheVariants.{Asks, Proves, Claims, Shows, Contradicts, Makes}
+use Rattle.pc_run.specs.declared.input.Input.TheVariants.{Asks, Proves, Claims, Shows, Contradicts, Measures, Makes}
 use Rattle.pc_run.specs.declared.input.Listing.{Listing}
+use Rattle.pc_run.specs.declared.input.Measured.{Measured}
 use Rattle.pc_run.specs.declared.input.Observed.{Observed}
 use Rattle.pc_run.specs.Loading.{Reading, AreRead, IsRead}
-use Rattle.pc_run.specs.Outcome.{NamedFile, observed_files, listed_files, files_of, Found, case_in, listing_in, input_in}
+use Rattle.pc_run.specs.Outcome.{NamedFile, observed_files, listed_files, files_of, Found, case_in, listing_in, measured_in, input_in}
 
 -- what the answer and its report need of what was read
 pub record IsSound (case : Case) : Type 0 where
@@ -42,6 +45,13 @@ pub record IsShowable (listing : Listing) : Type 0 where
   pub well_formed : IsWellFormed listing.schema
   pub accepted : AreConstraints listing.schema listing.constraints
 
+-- what the answer to a quantile and its text need of what was read
+pub record IsMeasurable (measured : Measured) : Type 0 where
+  pub well_formed : IsWellFormed measured.schema
+  pub seen : AllPass (in_domain measured.schema) measured.rows
+  pub accepted : AreConstraints measured.schema measured.constraints
+  pub asked : IsQuantile measured.schema measured.asked
+
 -- what was read is as its command needs it
 abbrev pub IsSoundInput : Input → Type 0
 IsSoundInput (Asks nodes case) = IsSound case × IsBudget nodes
@@ -49,6 +59,7 @@ IsSoundInput (Proves nodes case) = IsSound case × IsBudget nodes
 IsSoundInput (Claims claim) = IsCheckable claim
 IsSoundInput (Shows listing) = IsShowable listing
 IsSoundInput (Contradicts nodes listing) = IsShowable listing × IsBudget nodes
+IsSoundInput (Measures nodes measured) = IsMeasurable measured × IsBudget nodes
 IsSoundInput (Makes numbers) = IsSize numbers.size
 
 -- the schema, the observed rows and the constraints that were found
@@ -72,3 +83,6 @@ ReadsClaim reading command result = ReadsCommand reading (commands.Check command
 
 abbrev pub ReadsListing : Reading → Show → Result Listing Stop → Type 0
 ReadsListing reading command result = IsRead reading (listed_files command.schema.now command.constraints.now) (λ found. Ok (listing_in found)) result
+
+abbrev pub ReadsMeasured : Reading → Quantile → Result Measured Stop → Type 0
+ReadsMeasured reading command result = IsRead reading (files_of (quantile (quantile_names command))) (measured_in (quantile_names command).query) result

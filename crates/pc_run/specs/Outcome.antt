@@ -15,11 +15,13 @@ use Rattle.pc_base.specs.Files.{Files, file_of}
 use Rattle.pc_schema.specs.SchemaFile.{schema_of}
 use Rattle.pc_rows.specs.RowFile.{rows_of}
 use Rattle.pc_lang.specs.Files.{constraints_of, query_at}
+use Rattle.pc_lang.specs.Quantiles.{quantile_at}
 use Rattle.pc_run.specs.declared.input.Claim.{Claim}
 use Rattle.pc_run.specs.declared.input.Input.{Input}
-use Rattle.pc_run.specs.declared.input.Input.TheVariants.{Asks, Proves, Claims, Shows, Contradicts, Makes}
+use Rattle.pc_run.specs.declared.input.Input.TheVariants.{Asks, Proves, Claims, Shows, Contradicts, Measures, Makes}
 use Rattle.pc_run.specs.declared.input.Listing.{Listing}
-use Rattle.pc_run_words.specs.Words.{GenNumbers, Asked, bound, prove, check, show, conflict, gen}
+use Rattle.pc_run.specs.declared.input.Measured.{Measured}
+use Rattle.pc_run_words.specs.Words.{GenNumbers, Asked, bound, prove, check, show, conflict, quantile, gen}
 
 -- a file or query that is refused, or a file that is not held
 pub data Obstacle : Type 0 where
@@ -65,7 +67,13 @@ files_of (prove names) = observed_files names.schema names.rows names.constraint
 files_of (check names) = observed_files names.schema names.rows names.constraints ++ (kinds.Document, names.document) ∷ []
 files_of (show names) = listed_files names.schema names.constraints
 files_of (conflict names) = listed_files names.files.schema names.files.constraints
+files_of (quantile names) = observed_files names.schema names.rows names.constraints
 files_of (gen numbers) = []
+
+-- how many files a command has
+abbrev pub file_count : Option Asked → ℕ
+file_count None = 0
+file_count (Some asked) = length (files_of asked)
 
 -- ---- what they stand for
 
@@ -142,6 +150,12 @@ claim_in found = record { schema = found.schema; rows = found.rows; constraints 
 abbrev pub listing_in : Found → Listing
 listing_in found = record { schema = found.schema; constraints = found.constraints }
 
+-- a quantile of what was found, and the query of a text
+abbrev pub measured_in : List ℕ → Found → Result Measured Obstacle
+measured_in text found = do
+  asked ← or_refused (quantile_at found.schema 1 text)
+  Ok (record { schema = found.schema; rows = found.rows; constraints = found.constraints; asked = asked })
+
 abbrev pub made : GenNumbers → Input
 made numbers = Makes (record { seed = numbers.seed; size = numbers.size })
 
@@ -152,6 +166,7 @@ input_in (prove names) found = mapped (Proves names.nodes) (case_in names.querie
 input_in (check names) found = Ok (Claims (claim_in found))
 input_in (show names) found = Ok (Shows (listing_in found))
 input_in (conflict names) found = Ok (Contradicts names.nodes (listing_in found))
+input_in (quantile names) found = mapped (Measures names.nodes) (measured_in names.query found)
 input_in (gen numbers) found = Ok (made numbers)
 
 -- what files come to, by what is made of what was found in them

@@ -17,13 +17,17 @@ use Rattle.pc_agg_search.specs.Easy.{IsEasy}
 use Rattle.pc_conflict.specs.declared.conflict.Conflict.{Conflict}
 use Rattle.pc_conflict.specs.Conflicts.{IsConflict, IsDecided}
 use Rattle.pc_conflict.specs.Texts.{conflict_text}
+use Rattle.pc_lang.specs.Quantiles.{quantile_text}
+use Rattle.pc_quantile.specs.declared.answer.QuantileAnswer.{QuantileAnswer}
+use Rattle.pc_quantile.specs.Licensed.{Owes}
+use Rattle.pc_quantile.specs.Texts.{block_text}
 use Rattle.pc_gen.specs.Generated.{generated_case}
 use Rattle.pc_rows.specs.declared.case.Case.{Case}
 use Rattle.pc_run.specs.declared.stop.Stop.{Stop}
 use Rattle.pc_run.specs.declared.stop.Stop.TheVariants as stops
 use Rattle.pc_run_words.specs.declared.command.Gen.{Gen}
-use Rattle.pc_run_words.specs.Words.{Asked, command_of, file_count, usual_nodes}
-use Rattle.pc_run.specs.Outcome.{Obstacle, refused, absent, files_of, ComesTo}
+use Rattle.pc_run_words.specs.Words.{Asked, command_of, usual_nodes}
+use Rattle.pc_run.specs.Outcome.{Obstacle, refused, absent, files_of, file_count, ComesTo}
 use Rattle.pc_run.specs.Inputs.{IsSoundInput}
 use Rattle.pc_run.specs.Loading.{Reading, IsUnread, LoadsAll, EndsAt, AreInOrder, IsInOrder}
 use Rattle.pc_run.specs.declared.reply.Reply.{Reply}
@@ -35,8 +39,9 @@ use Rattle.pc_check.specs.declared.verdict.Verdict.{Verdict}
 use Rattle.pc_check.specs.declared.verdict.Verdict.TheVariants as verdicts
 use Rattle.pc_run.specs.declared.input.Claim.{Claim}
 use Rattle.pc_run.specs.declared.input.Input.{Input}
-use Rattle.pc_run.specs.declared.input.Input.TheVariants.{Asks, Proves, Claims, Shows, Contradicts, Makes}
+use Rattle.pc_run.specs.declared.input.Input.TheVariants.{Asks, Proves, Claims, Shows, Contradicts, Measures, Makes}
 use Rattle.pc_run.specs.declared.input.Listing.{Listing}
+use Rattle.pc_run.specs.declared.input.Measured.{Measured}
 
 -- the reply where files give nothing
 abbrev pub RepliesToStop : Stop → Status → List ℕ → Type 0
@@ -138,12 +143,19 @@ pub record SaysConflict (nodes : ℕ) (listing : Listing) (text : List ℕ) : Ty
   pub decided : IsEasy listing.schema listing.constraints → IsDecided answer
   pub said : text ≡ conflict_text listing.schema listing.constraints answer
 
+-- the text is that of the answer to a quantile, by searches of at most so many nodes each
+pub record SaysQuantile (nodes : ℕ) (measured : Measured) (text : List ℕ) : Type 0 where
+  pub answer : QuantileAnswer
+  pub owes : Owes measured.schema measured.rows measured.constraints measured.asked nodes answer
+  pub said : text ≡ block_text measured.schema (quantile_text measured.schema measured.asked) measured.asked answer
+
 abbrev pub SaysInput : Input → Status → List ℕ → Type 0
 SaysInput (Asks nodes case) status text = (status ≡ ended.Done) × SaysReport nodes case text
 SaysInput (Proves nodes case) status text = (status ≡ ended.Done) × SaysProof nodes case text
 SaysInput (Claims claim) status text = SaysVerdict claim status text
 SaysInput (Shows listing) status text = (status ≡ ended.Done) × SaysListing listing text
 SaysInput (Contradicts nodes listing) status text = (status ≡ ended.Done) × SaysConflict nodes listing text
+SaysInput (Measures nodes measured) status text = (status ≡ ended.Done) × SaysQuantile nodes measured text
 SaysInput (Makes numbers) status text = (status ≡ ended.Done) × SaysSummary (made_case numbers) text
 
 -- the reply to files that are accepted, or refused

@@ -5,16 +5,16 @@ ghost use Rattle.pc_model.specs.WellFormed.{IsWellFormed};
 ghost use Rattle.pc_run_words.specs.Commands.{HasNumbers};
 ghost use Rattle.pc_run.specs.Loading.{reading_of};
 ghost use Rattle.pc_run.specs.Outcome.{queries_of};
-ghost use Rattle.pc_run.specs.Inputs.{IsUsable, IsShowable, IsSound, IsSoundInput, ReadsCase, ReadsClaim, ReadsCommand, ReadsListing, ReadsObserved};
+ghost use Rattle.pc_run.specs.Inputs.{IsMeasurable, IsUsable, IsShowable, IsSound, IsSoundInput, ReadsCase, ReadsClaim, ReadsCommand, ReadsListing, ReadsMeasured, ReadsObserved};
 
 use crate::loading::{load_bytes, load_constraints, load_rows, load_schema};
 use crate::stop::Stop;
 use pc_base::Shelf;
-use pc_lang::read_query;
+use pc_lang::{Quantile, read_quantile, read_query};
 use pc_list::Seq;
 use pc_model::{Constraint, FileKind, Query, Refusal, Schema};
 use pc_rows::{Case, Rows};
-use pc_run_words::{Bound, Check, Command, Gen, Show};
+use pc_run_words::{Bound, Check, Command, Gen, Quantile as QuantileWords, Show};
 use std::alloc::Global;
 
 /// What is checked: the bytes of a document, and the schema, the observed rows and the constraints that it is for.
@@ -33,6 +33,15 @@ pub(crate) struct Listing {
     pub constraints: Seq<Constraint>,
 }
 
+/// What a quantile is asked of: the schema, the observed rows and the constraints, and the query.
+#[derive(Debug, Drop)]
+pub(crate) struct Measured {
+    pub schema: Schema,
+    pub rows: Rows,
+    pub constraints: Seq<Constraint>,
+    pub asked: Quantile,
+}
+
 /// The schema, the observed rows and the constraints of a command.
 #[derive(Debug, Drop)]
 pub(crate) struct Observed {
@@ -42,8 +51,8 @@ pub(crate) struct Observed {
 }
 
 /// What a command comes to with its files: a case that is asked about, or answered with proofs, by searches of at most so
-/// many nodes each; a document that is checked; constraints that are shown, or asked whether they contradict each other; or a
-/// case that is made.
+/// many nodes each; a document that is checked; constraints that are shown, or asked whether they contradict each other; a
+/// quantile that is asked for; or a case that is made.
 #[derive(Debug, Drop)]
 pub(crate) enum Input {
     Asks { nodes: u32, case: Case },
@@ -51,6 +60,7 @@ pub(crate) enum Input {
     Claims(Claim),
     Shows(Listing),
     Contradicts { nodes: u32, listing: Listing },
+    Measures { nodes: u32, measured: Measured },
     Makes(Gen),
 }
 
@@ -88,6 +98,13 @@ pub(crate) fn read_input<F: Shelf>(
             Ok(listing) => Ok(Input::Contradicts {
                 nodes: command.nodes,
                 listing,
+            }),
+            Err(stop) => Err(stop),
+        },
+        Command::Quantile(command) => match read_measured(alloc, files, command) {
+            Ok(measured) => Ok(Input::Measures {
+                nodes: command.nodes,
+                measured,
             }),
             Err(stop) => Err(stop),
         },
@@ -147,6 +164,31 @@ fn read_listing<F: Shelf>(alloc: Global, files: &mut F, command: &Show) -> Resul
     Ok(Listing {
         schema,
         constraints,
+    })
+}
+
+/// Reads the files of `quantile`, and then its query.
+fn read_measured<F: Shelf>(
+    alloc: Global,
+    files: &mut F,
+    command: &QuantileWords,
+) -> Result<Measured, Stop>
+    ensures read { ReadsMeasured (reading_of F.told F.leads files.old files.new) command.now result }
+    ensures sound { IfOk result IsMeasurable }
+{
+    let observed = read_observed(
+        alloc,
+        files,
+        command.schema,
+        command.rows,
+        command.constraints,
+    )?;
+    let asked = read_quantile(alloc, &observed.schema, command.query, 1)?;
+    Ok(Measured {
+        schema: observed.schema,
+        rows: observed.rows,
+        constraints: observed.constraints,
+        asked,
     })
 }
 

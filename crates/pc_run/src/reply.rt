@@ -1,11 +1,11 @@
 ghost use Rattle.std.specs.Prelude.{◌≡◌, map, IfOk, string_bytes};
 ghost use Rattle.pc_run_words.specs.Commands.{asked_in, HasNumbers};
 ghost use Rattle.pc_run_words.specs.Words.{IsBudget};
-ghost use Rattle.pc_run.specs.Inputs.{IsSound, IsSoundInput};
+ghost use Rattle.pc_run.specs.Inputs.{IsMeasurable, IsSound, IsSoundInput};
 ghost use Rattle.pc_run.specs.Loading.{reading_of};
-ghost use Rattle.pc_run.specs.Replies.{AnswersWords, AnswersCommand, RepliesToStop, SaysInput, SaysProof, SaysReport};
+ghost use Rattle.pc_run.specs.Replies.{AnswersWords, AnswersCommand, RepliesToStop, SaysInput, SaysProof, SaysQuantile, SaysReport};
 
-use crate::input::{Input, read_input};
+use crate::input::{Input, Measured, read_input};
 use crate::line::{fault_line, malformed_line, usage_line};
 use crate::making::summarize;
 use crate::show::{report_conflict, report_listing};
@@ -15,6 +15,7 @@ use pc_base::{Shelf, Status};
 use pc_document::put_document;
 use pc_group::answer_all;
 use pc_num::Memory;
+use pc_quantile::{bound_quantile, put_quantile};
 use pc_report::put_report;
 use pc_rows::Case;
 use pc_run_words::{Command, read_command};
@@ -79,6 +80,10 @@ fn reply_with(alloc: Global, input: &Input) -> Result<Reply, Memory>
             status: Status::Done,
             text: report_conflict(alloc, listing, *nodes)?,
         }),
+        Input::Measures { nodes, measured } => Ok(Reply {
+            status: Status::Done,
+            text: report_quantile(alloc, measured, *nodes)?,
+        }),
         Input::Makes(numbers) => Ok(Reply {
             status: Status::Done,
             text: summarize(alloc, numbers)?,
@@ -124,5 +129,20 @@ fn prove_case(alloc: Global, case: &Case, nodes: u32) -> Result<Vec<u8>, Memory>
     let document = answer_all(alloc, case, nodes)?;
     let mut text = Vec::new(alloc);
     put_document(alloc, &case.schema, &mut text, &document)?;
+    Ok(text)
+}
+
+/// The text of the answer to a quantile.
+fn report_quantile(alloc: Global, measured: &Measured, nodes: u32) -> Result<Vec<u8>, Memory>
+    requires measurable { IsMeasurable measured.now }
+    requires budget { IsBudget nodes }
+    ensures { IfOk result (λ text. SaysQuantile nodes measured.now text.items) }
+{
+    let schema = &measured.schema;
+    let asked = &measured.asked;
+    let constraints = measured.constraints.as_slice();
+    let answer = bound_quantile(alloc, schema, &measured.rows, constraints, asked, nodes)?;
+    let mut text = Vec::new(alloc);
+    put_quantile(alloc, schema, &mut text, asked, &answer)?;
     Ok(text)
 }

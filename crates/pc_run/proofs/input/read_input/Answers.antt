@@ -1,9 +1,9 @@
 use Rattle.std.proofs.Common.{Ok, Err}
-use Rattle.pc_run_words.specs.Commands.{bound_names, show_names, conflict_names}
-use Rattle.pc_run_words.specs.Words.{bound}
-use Rattle.pc_run.specs.declared.input.Input.TheVariants.{Asks, Proves, Shows, Contradicts, Makes}
+use Rattle.pc_run_words.specs.Commands.{bound_names, show_names, conflict_names, quantile_names}
+use Rattle.pc_run_words.specs.Words.{bound, quantile}
+use Rattle.pc_run.specs.declared.input.Input.TheVariants.{Asks, Proves, Shows, Contradicts, Measures, Makes}
 use Rattle.pc_run.specs.Loading.{reading_of}
-use Rattle.pc_run.specs.Outcome.{case_in, files_of, listed_files, listing_in}
+use Rattle.pc_run.specs.Outcome.{case_in, files_of, listed_files, listing_in, measured_in}
 use Rattle.pc_run.proofs.ReadFiles.{none_to_read, read_as}
 use Rattle.pc_run.proofs.input.read_input.Goals as goal
 
@@ -33,6 +33,12 @@ returns-in-Err-read_listing-2-clause-read g c =
     let names = conflict_names c.in-Conflict.command in
     let reading = reading_of g.F.Shelf.told g.F.Shelf.leads c.args.files.now c.read_listing-in-Conflict.new.files in
     rw c.in-Conflict.is (read_as (Contradicts names.nodes) (listed_files names.files.schema names.files.constraints) (λ found. Ok (listing_in found)) reading (Err c.in-Err-read_listing-2.stop) c.in-Err-read_listing-2.ensures.read)
+
+pub returns-in-Err-read_measured-clause-read : goal.returns-in-Err-read_measured-clause-read
+returns-in-Err-read_measured-clause-read g c =
+    let names = quantile_names c.in-Quantile.command in
+    let reading = reading_of g.F.Shelf.told g.F.Shelf.leads c.args.files.now c.read_measured.new.files in
+    rw c.in-Quantile.is (read_as (Measures names.nodes) (files_of (quantile names)) (measured_in names.query) reading (Err c.in-Err-read_measured.stop) c.in-Err-read_measured.ensures.read)
 
 pub returns-in-Gen-clause-read : goal.returns-in-Gen-clause-read
 returns-in-Gen-clause-read g c = rw c.in-Gen.is (none_to_read g.F.Shelf.told g.F.Shelf.leads c.args.files.now (Makes c.in-Gen.command))
