@@ -1,5 +1,5 @@
 -- The rows of counts that attain an end have its quantile.
-use Rattle.std.proofs.Common.{◌≡◌, ℕ, suc, ◌*◌, ◌+◌, ◌^◌, ◌<◌, ◌≤◌, ◌==◌, ℤ, pos, ◌+ℤ◌, ◌-ℤ◌, ◌≤ℤ◌, Bool, true, false, not, ◌⊎◌, inl, inr, List, [], ◌∷◌, length, map, filter, get_or, All, IsSome, Some, None, refl, sym, ap, subst, ◌∙◌, true≢false, arith}
+use Rattle.std.proofs.Common.{◌≡◌, ℕ, suc, ◌+◌, ◌^◌, ◌<◌, ◌≤◌, ℤ, Bool, true, false, not, inl, inr, List, length, filter, get_or, IsSome, Some, None, refl, sym, ap, subst, ◌∙◌, arith}
 use Rattle.std.specs.List.{AllZip}
 use Rattle.std.proofs.lemmas.Int.{ints}
 use Rattle.std.proofs.lemmas.List.{length-append, length-map}
@@ -20,8 +20,7 @@ use Rattle.pc_program_bound.specs.CellPrograms.{counts_of}
 use Rattle.pc_witness.proofs.Checks.{All-rows_of}
 use Rattle.pc_witness.proofs.RunsFrom.{All-runs_from}
 use Rattle.pc_witness.proofs.Zipped.{AllZip-weaker, All-from_zip}
-use Rattle.pc_proof.specs.Setting.{Setting, area_of, cells, high_in, low_in, seen, seen_count, seen_greatest, seen_least, seen_numbers, seen_sum}
-use Rattle.pc_proof.specs.Unbroken.{GivesSome}
+use Rattle.pc_proof.specs.Setting.{Setting, cells, seen, seen_greatest, seen_least, seen_numbers, seen_sum}
 use Rattle.pc_proof.proofs.FewRows.{possible_few}
 use Rattle.pc_proof.proofs.Seen.{keeps, lost_numbers, numbers_split}
 use Rattle.pc_branch_licences.specs.Pools.{AreLawful}
@@ -30,7 +29,6 @@ use Rattle.pc_agg.specs.Settling.{AreRowsOfCells}
 use Rattle.pc_agg.proofs.Attained.{counted_runs, lawful_runs}
 use Rattle.pc_agg_search.specs.declared.extreme.Extreme.{Extreme}
 use Rattle.pc_agg_search.specs.declared.extreme.Extreme.TheVariants.{Low, High}
-use Rattle.pc_agg_search.specs.declared.want.Want.TheVariants as wants
 use Rattle.pc_agg_search.specs.Asked.{Asking}
 use Rattle.pc_agg_search.specs.Ends.{signed}
 use Rattle.pc_agg_search.specs.Keys.{IsAtEnd, key_of}

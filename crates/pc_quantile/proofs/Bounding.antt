@@ -1,10 +1,9 @@
 -- The answers of the calls that lead to a quantile's range owe what they must.
-use Rattle.std.proofs.Common.{◌≡◌, ℕ, ◌<◌, ◌≤◌, ◌^◌, ℤ, Bool, true, false, inl, inr, List, [], ◌∷◌, ◌++◌, length, map, All, Any, IsSomeAnd, None, refl, sym, ap, subst, ◌∙◌, arith, get_or, ◌&&◌}
+use Rattle.std.proofs.Common.{◌≡◌, ℕ, ◌<◌, ◌≤◌, ◌^◌, Bool, List, [], length, map, All, Any, IsSomeAnd, None, refl, sym, ap, subst, ◌∙◌, arith, get_or, ◌&&◌}
 use Rattle.std.specs.Prelude.{nat_abs}
-use Rattle.std.specs.List.{AllPass, AllZip}
+use Rattle.std.specs.List.{AllPass}
 use Rattle.std.proofs.lemmas.List.{length-append}
 use Rattle.std.proofs.lemmas.List.Elements.{All-append, All-map}
-use Rattle.std.proofs.lemmas.Slice.Zip.{AllZip-long}
 use Rattle.pc_model.specs.declared.schema.Schema.{Schema}
 use Rattle.pc_model.specs.declared.row.Row.{Row}
 use Rattle.pc_model.specs.declared.constraint.Constraint.{Constraint}
@@ -18,11 +17,10 @@ use Rattle.pc_model.specs.WellFormed.{IsWellFormed}
 use Rattle.pc_proof.proofs.Numbers.{All-kept}
 use Rattle.pc_proof.proofs.RowNumbers.{asked_small}
 use Rattle.pc_model.specs.Cells.{IsSettledTree}
-use Rattle.pc_model.specs.Right.{IsPossibleFor}
 use Rattle.pc_proof.specs.declared.answer.Lack.{Lack}
 use Rattle.pc_proof.specs.declared.answer.Why.{Why}
 use Rattle.pc_proof.specs.declared.answer.AlwaysBy.TheVariants as alwayses
-use Rattle.pc_proof.specs.Setting.{Setting, cells, seen_numbers}
+use Rattle.pc_proof.specs.Setting.{Setting, seen_numbers}
 use Rattle.pc_proof.specs.Table.{ShowsImpossible}
 use Rattle.pc_proof.proofs.Shown.{always_holds, impossible_holds}
 use Rattle.pc_branch_licences.specs.Licensed.{IsSettledLack}
@@ -33,8 +31,7 @@ use Rattle.pc_agg.specs.Grounds.{AreAlways, AreGrounds, AreGroundsSurely, IsLack
 use Rattle.pc_agg.specs.Settling.{AreRowsOfCells, IsOfCells}
 use Rattle.pc_agg.proofs.Lacks.{IsObserving, any_grown, doubt_grown, lack_done, lack_settled, lacking_grown, surely_grown, unlisted_grown}
 use Rattle.pc_agg.proofs.Owing.{IsLackDone, impossible_here}
-use Rattle.pc_agg_search.specs.declared.extreme.Extreme.{Extreme}
-use Rattle.pc_agg_search.specs.declared.extreme.Extreme.TheVariants.{Low, High}
+use Rattle.pc_agg_search.specs.declared.extreme.Extreme.TheVariants.{Low}
 use Rattle.pc_agg_search.specs.Easy.{IsEasy}
 use Rattle.pc_agg_search.specs.Problem.{IsEasyFor}
 use Rattle.pc_agg_search.specs.Settings.{unseen}
@@ -50,7 +47,7 @@ use Rattle.pc_quantile.specs.Climbing.{AllowsNone, HaveValue}
 use Rattle.pc_quantile.specs.Licensed.{IsOwed}
 use Rattle.pc_quantile.specs.Measure.{IsMeasured, cells_for, has_numbers}
 use Rattle.pc_lang.specs.Quantiles.{IsQuantile}
-use Rattle.pc_quantile.specs.Measured.{least_of, quantile_of}
+use Rattle.pc_quantile.specs.Measured.{least_of}
 use Rattle.pc_quantile.proofs.Attained.{asking, at_cells, folded, is_asked, s}
 use Rattle.pc_quantile.proofs.Marked.{count_none, count_some}
 use Rattle.pc_quantile.proofs.Owed.{no_counts, no_quantile, owed_always, owed_impossible, owed_judged}

@@ -1,5 +1,5 @@
 -- The keys of the chosen cells, as far as a loop over the cells has come.
-use Rattle.std.proofs.Common.{◌≡◌, ℕ, ◌+◌, ◌<◌, ℤ, pos, Bool, true, false, true≢false, cond, List, [], ◌∷◌, ◌++◌, get_or, All, Contains, inl, inr, refl, sym, ap, subst, ◌∙◌, arith}
+use Rattle.std.proofs.Common.{◌≡◌, ℕ, ◌+◌, ℤ, pos, Bool, true, false, true≢false, cond, List, [], ◌∷◌, ◌++◌, get_or, All, Contains, inl, inr, refl, sym, ap, subst, ◌∙◌, arith}
 use Rattle.std.proofs.lemmas.Bool.{cases_lt}
 use Rattle.std.proofs.lemmas.List.Elements.{All-push, All-weaker, Contains-push, Contains-append_left}
 use Rattle.pc_cells.specs.declared.cells.Cell.{Cell}

@@ -1,5 +1,5 @@
 -- What a test of the rung after the one in the middle leaves of a span.
-use Rattle.std.proofs.Common.{◌≡◌, ℕ, suc, ◌+◌, ◌<◌, ◌≤◌, ℤ, pos, ◌+ℤ◌, ◌-ℤ◌, ◌≤ℤ◌, inl, inr, List, length, ◌++◌, All, Any, Option, Some, None, MatchOption, refl, sym, ap, subst, ◌∙◌, arith}
+use Rattle.std.proofs.Common.{◌≡◌, ℕ, suc, ◌+◌, ◌<◌, ◌≤◌, ℤ, pos, ◌+ℤ◌, ◌-ℤ◌, ◌≤ℤ◌, inr, List, length, ◌++◌, All, Any, Option, Some, None, MatchOption, sym, ap, subst, ◌∙◌, arith}
 use Rattle.std.specs.Prelude.{⊤}
 use Rattle.std.proofs.lemmas.Int.{ints}
 use Rattle.std.proofs.lemmas.List.{append_assoc}
@@ -23,7 +23,7 @@ use Rattle.pc_agg_search.specs.Wants.{IsDoubt, IsFound, IsMet, IsProbed, IsSure,
 use Rattle.pc_agg.proofs.Lacks.{any_grown, doubt_grown}
 use Rattle.pc_quantile.specs.declared.climb.Span.{Span}
 use Rattle.pc_lang.specs.declared.quantile.Quantile.{Quantile}
-use Rattle.pc_quantile.specs.Climbing.{AllowsNone, IsHalved, IsHeldAt, IsSpan, IsStanding, IsSureHalf, IsSureSpan, MayStandOn, StandsOn, number_on, program_after, want_after}
+use Rattle.pc_quantile.specs.Climbing.{AllowsNone, IsHalved, IsSpan, IsStanding, IsSureHalf, IsSureSpan, MayStandOn, StandsOn, number_on, program_after, want_after}
 use Rattle.pc_quantile.specs.Halving.{halved}
 use Rattle.pc_quantile.specs.Past.{IsBounded, gain_past, program_past, sum_past}
 

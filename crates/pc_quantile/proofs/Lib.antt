@@ -13,7 +13,6 @@ pub mod Owed
 pub mod Pairs
 pub mod Passed
 pub mod PastPrograms
-pub mod Reached
 pub mod RungKeys
 pub mod SeenKeys
 pub mod Shares

@@ -1,7 +1,6 @@
 -- The end of a stand is right where it is exact, and licensed where it is outer.
-use Rattle.std.proofs.Common.{◌≡◌, ℕ, suc, ◌<◌, ◌≤◌, ◌^◌, ℤ, pos, ◌+ℤ◌, ◌-ℤ◌, ◌≤ℤ◌, ◌<ℤ◌, Bool, true, false, not, ◌⊎◌, inl, inr, List, [], ◌∷◌, length, get_or, All, Any, Contains, IfSome, Some, refl, sym, ap, subst, ◌∙◌, true≢false, arith}
+use Rattle.std.proofs.Common.{◌≡◌, ℕ, suc, ◌≤◌, ◌^◌, ℤ, pos, ◌≤ℤ◌, ◌<ℤ◌, Bool, true, false, ◌⊎◌, inl, inr, List, [], ◌∷◌, length, All, Any, Contains, IfSome, refl, sym, ap, subst, ◌∙◌, arith}
 use Rattle.std.specs.Prelude.{nat_abs}
-use Rattle.std.specs.List.{AllZip}
 use Rattle.std.proofs.lemmas.Int.{ints}
 use Rattle.std.proofs.lemmas.List.{length-map}
 use Rattle.std.proofs.lemmas.List.Elements.{All-contains, All-cons, All-head, All-nil}
@@ -22,7 +21,6 @@ use Rattle.pc_proof.specs.declared.answer.Answer.{Answer}
 use Rattle.pc_proof.specs.declared.answer.Mark.{Mark}
 use Rattle.pc_proof.specs.declared.answer.Mark.TheVariants as marks
 use Rattle.pc_proof.specs.Setting.{Setting, seen, seen_count, seen_numbers}
-use Rattle.pc_proof.specs.Table.{one}
 use Rattle.pc_proof.specs.Unbroken.{IsExact, plain_mark}
 use Rattle.pc_branch_licences.specs.Licensed.{BothTotals, IfOuter, IsSpent, MayGive}
 use Rattle.pc_branch_licences.specs.Pools.{AreLawful, ShownFrom}
@@ -38,10 +36,9 @@ use Rattle.pc_agg_search.specs.declared.want.Want.TheVariants as wants
 use Rattle.pc_agg_search.specs.Ends.{signed}
 use Rattle.pc_agg_search.specs.Settings.{unseen}
 use Rattle.pc_agg_search.specs.Wants.{IsDoubt, IsFound, Reaches, most_chosen, want_for, wanted_of}
-use Rattle.pc_quantile.specs.declared.answer.QuantileEnd.{QuantileEnd}
 use Rattle.pc_lang.specs.declared.quantile.Quantile.{Quantile}
 use Rattle.pc_quantile.specs.declared.stand.Stand.{Stand}
-use Rattle.pc_quantile.specs.Answered.{IsEndAt, IsMarkedBy}
+use Rattle.pc_quantile.specs.Answered.{IsMarkedBy}
 use Rattle.pc_quantile.specs.Climbing.{AreRungs, AreWanted, IsStand, number_on, program_after, want_after}
 use Rattle.pc_quantile.specs.Licensed.{IsInnermost, LicensedEnd, MayPass}
 use Rattle.pc_quantile.specs.Measure.{has_numbers}

@@ -1,7 +1,6 @@
 -- What an answer to a quantile is made of owes what it must.
-use Rattle.std.proofs.Common.{◌≡◌, ℕ, ◌<◌, ◌≤◌, ◌==◌, ℤ, pos, neg_ℤ, ◌≤ℤ◌, ◌<ℤ◌, Bool, true, false, cond, ◌||◌, inl, inr, List, [], ◌∷◌, ◌++◌, length, All, Any, Contains, Option, Some, None, IfSome, IsSome, IsNone, refl, sym, ap, ap₂, subst, ◌∙◌, true≢false, arith}
+use Rattle.std.proofs.Common.{◌≡◌, ℕ, ◌<◌, ◌≤◌, ℤ, neg_ℤ, ◌≤ℤ◌, ◌<ℤ◌, Bool, true, false, cond, ◌||◌, List, [], ◌∷◌, ◌++◌, length, All, Any, Contains, Option, Some, None, IfSome, IsSome, IsNone, refl, sym, ap, ap₂, subst, ◌∙◌, true≢false, arith}
 use Rattle.std.specs.Prelude.{int_le}
-use Rattle.std.specs.List.{AllZip}
 use Rattle.std.proofs.lemmas.Int.{ints}
 use Rattle.std.proofs.lemmas.List.{length-append}
 use Rattle.std.proofs.lemmas.List.Elements.{All-append, All-cons, All-head, All-nil}
@@ -28,7 +27,7 @@ use Rattle.pc_proof.proofs.Seen.{lost_numbers, numbers_split}
 use Rattle.pc_proof.proofs.Shown.{never_holds}
 use Rattle.pc_branch_licences.specs.Licensed.{IfOuter, IsSettledLack, LicensedLack, LicensedRelation}
 use Rattle.pc_branch_licences.specs.Pools.{AreLawful, ShownFrom}
-use Rattle.pc_branch_licences.specs.Shown.{counts_of_runs, runs_of_lack, runs_of_mark, runs_of_relation, shown_runs}
+use Rattle.pc_branch_licences.specs.Shown.{counts_of_runs, runs_of_lack, runs_of_mark, runs_of_relation}
 use Rattle.pc_agg.specs.Extremes.{relation_from}
 use Rattle.pc_agg.specs.Grounds.{IsUnlistedIfNone}
 use Rattle.pc_agg.specs.Settling.{AreRowsOfCells}
@@ -36,7 +35,6 @@ use Rattle.pc_agg.proofs.Attained.{counted_runs}
 use Rattle.pc_agg.proofs.Owing.{IsLackDone, both_totals}
 use Rattle.pc_agg_search.specs.declared.extreme.Extreme.TheVariants.{Low, High}
 use Rattle.pc_agg_search.specs.Easy.{IsEasy}
-use Rattle.pc_agg_search.specs.Ends.{signed}
 use Rattle.pc_agg_search.specs.Settings.{unseen}
 use Rattle.pc_agg_search.specs.Wants.{IsFound}
 use Rattle.pc_quantile.specs.declared.answer.QuantileAnswer.{QuantileAnswer}

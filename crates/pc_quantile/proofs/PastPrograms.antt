@@ -1,5 +1,5 @@
 -- The gains that the code finds by keys are those of how far rows pass a number.
-use Rattle.std.proofs.Common.{◌≡◌, ℕ, ◌<◌, ◌≤◌, ◌^◌, ℤ, pos, neg_ℤ, ◌+ℤ◌, ◌-ℤ◌, ◌*ℤ◌, nat_abs, Bool, true, false, cond, List, length, map, get_or, All, refl, sym, ap, ap₂, subst, ◌∙◌, true≢false, arith}
+use Rattle.std.proofs.Common.{◌≡◌, ℕ, ◌<◌, ◌≤◌, ℤ, pos, neg_ℤ, ◌+ℤ◌, ◌-ℤ◌, ◌*ℤ◌, nat_abs, Bool, true, false, cond, List, length, map, get_or, All, refl, sym, ap, subst, ◌∙◌, true≢false, arith}
 use Rattle.std.specs.Prelude.{int_le, int_lt}
 use Rattle.std.proofs.lemmas.Int.{ints}
 use Rattle.std.proofs.lemmas.List.{length-map}
@@ -22,7 +22,7 @@ use Rattle.pc_agg_search.specs.Targets.{cell_at}
 use Rattle.pc_agg_search.proofs.ListedPrograms.{no_cell, gains_are}
 use Rattle.pc_agg_search.proofs.PosedPrograms.{own_classes}
 use Rattle.pc_agg_search.proofs.UnseenPrograms.{tested_small}
-use Rattle.pc_agg.proofs.Ladders.{class_is, key_is, long}
+use Rattle.pc_agg.proofs.Ladders.{class_is, key_is}
 use Rattle.pc_lang.specs.declared.quantile.Quantile.{Quantile}
 use Rattle.pc_quantile.specs.Passing.{inner_gain, outer_gain, passing_gain, IsShare}
 use Rattle.pc_quantile.specs.Past.{gain_past}

@@ -1,5 +1,5 @@
 -- The keys that the code gathers are those of the candidates.
-use Rattle.std.proofs.Common.{◌≡◌, ℕ, ◌<◌, ◌≤◌, ◌^◌, ℤ, pos, neg_ℤ, nat_abs, true, inl, inr, ◌⊎◌, List, ◌++◌, length, map, get_or, All, Contains, refl, sym, ap, subst, ◌∙◌, arith}
+use Rattle.std.proofs.Common.{◌≡◌, ℕ, ◌<◌, ◌≤◌, ◌^◌, ℤ, pos, nat_abs, true, inl, inr, List, ◌++◌, length, map, get_or, All, Contains, refl, sym, ap, subst, ◌∙◌, arith}
 use Rattle.std.proofs.lemmas.Int.{ints}
 use Rattle.std.proofs.lemmas.List.{length-map, get_or-map, get_or_default}
 use Rattle.std.proofs.lemmas.List.Elements.{All-append, All-map, All-weaker, All-contains, Contains-append_left, Contains-append_right, Contains-get_or}
@@ -19,7 +19,6 @@ use Rattle.pc_agg_search.specs.Targets.{cell_at}
 use Rattle.pc_agg_search.proofs.CellNumbers.{keys_small}
 use Rattle.pc_agg.specs.Falling.{IsFallingOf}
 use Rattle.pc_agg.proofs.Ladders.{class_is, key_is, long}
-use Rattle.pc_quantile.specs.Candidates.{IsOfCell}
 use Rattle.pc_quantile.specs.Climbing.{AreRungs}
 use Rattle.pc_quantile.specs.Past.{IsCandidateBeside, end_in}
 use Rattle.pc_quantile.specs.Rungs.{AreKeysOf, HasKeyBefore}

@@ -1,23 +1,21 @@
 -- The stand on the rung that halving left.
-use Rattle.std.proofs.Common.{◌≡◌, ℕ, suc, ◌<◌, ◌≤◌, ℤ, Bool, true, false, inl, inr, ◌⊎◌, List, [], ◌∷◌, length, All, Any, Contains, Result, Ok, Err, IfOk, refl, sym, subst, true≢false, arith}
+use Rattle.std.proofs.Common.{◌≡◌, ℕ, suc, ◌<◌, ◌≤◌, ℤ, Bool, true, false, inl, inr, ◌⊎◌, List, [], ◌∷◌, length, Any, Contains, Result, Ok, Err, IfOk, refl, sym, subst, true≢false, arith}
 use Rattle.std.specs.List.{AllZip}
 use Rattle.std.proofs.lemmas.Bool.{cases_lt}
 use Rattle.pc_model.specs.declared.row.Row.{Row}
-use Rattle.pc_model.specs.Cells.{Class}
 use Rattle.pc_program_bound.specs.declared.program.Program.{Program}
 use Rattle.pc_proof.specs.Setting.{Setting, cells}
 use Rattle.pc_agg.specs.Grounds.{HasValues}
 use Rattle.pc_agg.proofs.Lacks.{any_grown, doubt_grown}
 use Rattle.pc_agg_search.specs.declared.extreme.Extreme.{Extreme}
 use Rattle.pc_agg_search.specs.declared.want.Want.{Want}
-use Rattle.pc_agg_search.specs.Ends.{signed}
 use Rattle.pc_agg_search.specs.Keys.{IsAtEnd}
 use Rattle.pc_agg_search.specs.Wants.{IsDoubt, IsFound, most_chosen, want_for}
 use Rattle.pc_quantile.specs.declared.climb.Passing.{Passing}
 use Rattle.pc_quantile.specs.declared.climb.Standing.{Standing}
 use Rattle.pc_quantile.specs.declared.measure.Measure.{Measure}
 use Rattle.pc_quantile.specs.declared.stand.Stand.{Stand}
-use Rattle.pc_quantile.specs.Climbing.{AreRungs, AreWanted, HaveValue, IsStand, IsStanding, IsStoodAt, IsStoodOn, MayHaveValue, StandsOn, program_after, want_after}
+use Rattle.pc_quantile.specs.Climbing.{AreRungs, AreWanted, HaveValue, IsStanding, IsStoodAt, IsStoodOn, MayHaveValue, StandsOn, program_after, want_after}
 use Rattle.pc_quantile.specs.Measure.{cells_for, has_numbers}
 use Rattle.pc_quantile.specs.Past.{IsCandidateBeside, end_in}
 

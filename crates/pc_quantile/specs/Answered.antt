@@ -1,5 +1,5 @@
 -- The answer that the cells, what was found and both ends give.
-use Rattle.std.specs.Prelude.{◌≡◌, ⊤, ℕ, ◌≤◌, ◌^◌, ℤ, nat_abs, int_le, Bool, cond, List, ◌++◌, length, All, Any, Option, Some, None}
+use Rattle.std.specs.Prelude.{◌≡◌, ⊤, ℕ, ◌≤◌, ◌^◌, ℤ, nat_abs, int_le, Bool, cond, List, ◌++◌, length, All, Any, Some, None}
 use Rattle.pc_model.specs.declared.row.Row.{Row}
 use Rattle.pc_model.specs.Runs.{runs_from}
 use Rattle.pc_program_bound.specs.Allocation.{IsProgram, cells_of}

@@ -16,15 +16,12 @@ pub record IsOfCell (s : Setting) (end : Class → ℤ) (number : ℤ) : Type 0 
 abbrev pub IsCandidate : Setting → (Class → ℤ) → ℤ → Type 0
 IsCandidate s end number = IsOfCell s end number ⊎ Contains (seen_numbers s.question) number
 
--- none is below a number, none is above it, and none lies between two
+-- none is below a number, and none is above it
 abbrev pub AreFrom : Setting → (Class → ℤ) → ℤ → Type 0
 AreFrom s end number = (other : ℤ) → IsCandidate s end other → number ≤ℤ other
 
 abbrev pub AreUpTo : Setting → (Class → ℤ) → ℤ → Type 0
 AreUpTo s end number = (other : ℤ) → IsCandidate s end other → other ≤ℤ number
-
-abbrev pub AreBeside : Setting → (Class → ℤ) → ℤ → ℤ → Type 0
-AreBeside s end low high = (other : ℤ) → IsCandidate s end other → (other ≤ℤ low) ⊎ (high ≤ℤ other)
 
 -- each lost row of a chosen cell has the cell's number
 abbrev pub StandAt : Setting → (Class → ℤ) → List Row → Type 0

@@ -1,7 +1,6 @@
 pub mod Answered
 pub mod Candidates
 pub mod Climbing
-pub mod Ends
 pub mod Gains
 pub mod Halving
 pub mod Licensed

@@ -1,12 +1,9 @@
 -- What is asked for, and the numbers that it is asked of.
-use Rattle.std.specs.Prelude.{◌≡◌, ◌≤◌, ℤ, List, ◌++◌, map, Option, Some, None}
-use Rattle.pc_model.specs.declared.schema.Schema.{Schema}
+use Rattle.std.specs.Prelude.{◌≡◌, ℤ, List, ◌++◌, map, Option, Some, None}
 use Rattle.pc_model.specs.declared.row.Row.{Row}
 use Rattle.pc_model.specs.declared.query.Agg.TheVariants.{Min}
 use Rattle.pc_model.specs.declared.query.Query.{Query}
-use Rattle.pc_model.specs.Accepted.{IsNumeric, IsColumnWhere}
 use Rattle.pc_model.specs.Aggregate.{asked as asked_of, kept}
-use Rattle.pc_model.specs.Boxes.{IsAreaOf}
 use Rattle.pc_model.specs.Cells.{IsSettledTree}
 use Rattle.pc_model.specs.Right.{Question, IsPossibleFor}
 use Rattle.pc_proof.specs.Setting.{Setting, area_of}

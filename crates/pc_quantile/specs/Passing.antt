@@ -1,5 +1,5 @@
 -- What the rows of cells add to how far numbers pass a number, by the keys of the cells.
-use Rattle.std.specs.Prelude.{◌≤◌, ◌&&◌, ℕ, ℤ, pos, ◌+ℤ◌, ◌-ℤ◌, ◌*ℤ◌, int_lt, cond, List, slice_index_or}
+use Rattle.std.specs.Prelude.{◌≤◌, ℕ, ℤ, pos, ◌+ℤ◌, ◌-ℤ◌, ◌*ℤ◌, int_lt, cond, List, slice_index_or}
 use Rattle.pc_cells.specs.declared.cells.Cell.{Cell}
 use Rattle.pc_agg_search.specs.declared.extreme.Extreme.{Extreme}
 use Rattle.pc_agg_search.specs.declared.extreme.Extreme.TheVariants.{Low, High}

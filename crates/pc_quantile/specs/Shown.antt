@@ -1,5 +1,5 @@
 -- An answer to a quantile as one to the least number of the same rows, whose proofs say nothing.
-use Rattle.std.specs.Prelude.{ℕ, pos, [], Option, Some, None}
+use Rattle.std.specs.Prelude.{pos, [], Option, Some, None}
 use Rattle.pc_proof.specs.declared.answer.Proof.TheVariants.{Rows}
 use Rattle.pc_proof.specs.declared.answer.Why.TheVariants.{Void}
 use Rattle.pc_proof.specs.declared.answer.NeverBy.TheVariants as nevers

@@ -5,7 +5,6 @@ ghost use Rattle.pc_model.specs.Right.{value_for};
 ghost use Rattle.pc_proof.specs.Setting.{Setting, high_in, low_in};
 ghost use Rattle.pc_lang.specs.declared.quantile.Quantile.{Quantile};
 ghost use Rattle.pc_quantile.specs.Candidates.{AreFrom, AreUpTo, IsCandidate, StandAt};
-ghost use Rattle.pc_quantile.specs.Ends.{ReachesHigh, ReachesLow};
 ghost use Rattle.pc_quantile.specs.Gains.{BoundsAbove, BoundsBelow, first_most, first_sum, second_most, second_sum};
 ghost use Rattle.pc_quantile.specs.Measured.{IsAskedIn, IsListIn, numbers_of, quantile_of};
 ghost use Rattle.pc_quantile.specs.Quantile.{at_most, quantile};
@@ -74,10 +73,4 @@ pub fn numbers_are_within_the_candidates()
 /// Where each lost row has its cell's number at an end, all numbers are candidates of that end.
 pub fn numbers_at_an_end_are_candidates()
     ensures { (s : Setting) (asked : Quantile) (lost : List Row) (end : Class → ℤ) → IsListIn s asked lost → StandAt s end lost → All (IsCandidate s end) (numbers_of s.question lost) }
-{}
-
-/// A possible list that reaches a number as an end has it for its quantile.
-pub fn lists_reach_their_ends()
-    ensures high { (s : Setting) (asked : Quantile) (lost : List Row) (number : ℤ) → IsListIn s asked lost → ReachesHigh s asked lost number → quantile_of s.question asked lost ≡ Some number }
-    ensures low { (s : Setting) (asked : Quantile) (lost : List Row) (number : ℤ) → IsListIn s asked lost → ReachesLow s asked lost number → quantile_of s.question asked lost ≡ Some number }
 {}

@@ -1,7 +1,5 @@
-use Rattle.std.proofs.Common.{sym, subst}
 use Rattle.std.proofs.lemmas.Result.{IfOk-weaker}
 use Rattle.pc_quantile.specs.declared.bounds.Pair.TheVariants as pairs
-use Rattle.pc_quantile.specs.Answered.{IsPairOf, IsPairSurely}
 use Rattle.pc_quantile.specs.Measure.{cells_for}
 use Rattle.pc_quantile.proofs.Pairs.{can_high, can_low, lawful_both}
 use Rattle.pc_quantile.proofs.bounds.between.Goals as goal

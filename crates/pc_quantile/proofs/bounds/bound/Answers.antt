@@ -1,4 +1,3 @@
-use Rattle.std.proofs.Common.{sym, subst}
 use Rattle.std.proofs.lemmas.Result.{IfOk-weaker}
 use Rattle.pc_quantile.proofs.Bounding.{owes_always, owes_between, owes_impossible}
 use Rattle.pc_quantile.proofs.bounds.bound.Goals as goal

@@ -1,5 +1,4 @@
-use Rattle.std.proofs.Common.{All, IsSomeAnd, None, length, map, sym, ap, subst, ◌∙◌, ◌≤◌, ◌^◌}
-use Rattle.std.specs.Prelude.{nat_abs}
+use Rattle.std.proofs.Common.{IsSomeAnd, None, map, sym, ap, subst, ◌∙◌}
 use Rattle.std.proofs.lemmas.Result.{IfOk-weaker}
 use Rattle.pc_model.specs.declared.query.Query.{Query}
 use Rattle.pc_model.specs.Accepted.{IsColumnWhere, IsNumeric}

@@ -1,4 +1,3 @@
-use Rattle.std.proofs.Common.{Any, sym, subst}
 use Rattle.pc_quantile.specs.Measure.{cells_for, has_numbers}
 use Rattle.pc_quantile.proofs.Pairs.{chosen_first, doubt_first, lawful_first, pair_from, pair_surely}
 use Rattle.pc_quantile.proofs.bounds.stand_both.Goals as goal

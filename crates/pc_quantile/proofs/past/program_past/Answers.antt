@@ -1,7 +1,7 @@
 use Rattle.std.specs.Int.{w128}
 use Rattle.std.proofs.lemmas.Int.{to_z-of_z}
 use Rattle.std.proofs.lemmas.Result.{IfOk-weaker}
-use Rattle.std.proofs.Common.{map, ap, ◌∙◌}
+use Rattle.std.proofs.Common.{ap, ◌∙◌}
 use Rattle.pc_proof.specs.Setting.{cells}
 use Rattle.pc_program_bound.specs.CellPrograms.{program_with}
 use Rattle.pc_quantile.proofs.Measured.{share}
