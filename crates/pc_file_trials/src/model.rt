@@ -119,6 +119,7 @@ fn printed_names(rt: HostRuntime) {
         (FileKind::Constraints, "constraints"),
         (FileKind::Query, "query"),
         (FileKind::Document, "document"),
+        (FileKind::Script, "script"),
     ];
     for (file, name) in files {
         assert!(rt; file.name() == name, "the file {name}");

@@ -1,4 +1,5 @@
-ghost use Rattle.std.specs.Prelude.{◌≡◌, ◌==◌, ℕ, ◌<◌, List, [], ◌∷◌, ◌++◌, length, OnOk, OnErr, IfOk, vec_len};
+ghost use Rattle.std.specs.Prelude.{◌≡◌, ◌==◌, ℕ, ◌<◌, List, [], ◌∷◌, ◌++◌, length, get_or, OnOk, OnErr, IfOk, vec_len};
+ghost use Rattle.std.specs.List.{remove};
 
 use std::alloc::{AllocError, AllocFailed, Global};
 use std::marker::Model;
@@ -77,6 +78,15 @@ impl<T> Seq<T> {
         ensures err { OnErr result (self.new ≡ self.old) }
     {
         self.items.insert(0, item)
+    }
+
+    /// Takes the item at a place out, and moves those after it down.
+    pub fn remove(&mut self, at: usize) -> T
+        requires there { at < length self.old }
+        ensures item { result ≡ get_or self.old at result }
+        ensures left { self.new ≡ remove self.old at }
+    {
+        self.items.remove(at)
     }
 
     /// The allocator that the items' memory comes from.

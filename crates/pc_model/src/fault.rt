@@ -5,7 +5,7 @@ use pc_num::Memory;
 use std::alloc::{AllocError, AllocFailed};
 use thiserror::Error;
 
-/// What is read: one of the files, or the text of a query.
+/// What is read: one of the files, the text of a query, or a line of a script.
 #[derive(Clone, Copy, Debug, PartialEq, Eq)]
 pub enum FileKind {
     Schema,
@@ -13,6 +13,7 @@ pub enum FileKind {
     Constraints,
     Query,
     Document,
+    Script,
 }
 
 /// Why something is refused. `number` gives the number under which it is printed.
@@ -109,6 +110,17 @@ impl From<Reason> for ReadStop {
     }
 }
 
+impl From<Memory> for ReadStop {
+    ghost use Rattle.std.specs.Prelude.{◌≡◌};
+    ghost use Rattle.pc_model.specs.declared.fault.ReadStop.TheVariants.{Memory};
+
+    ghost from_gives = { λ _ stop. stop ≡ Memory };
+
+    fn from(_memory: Memory) -> ReadStop {
+        ReadStop::Memory
+    }
+}
+
 impl From<AllocError> for ReadStop {
     ghost use Rattle.std.specs.Prelude.{◌≡◌};
     ghost use Rattle.pc_model.specs.declared.fault.ReadStop.TheVariants.{Memory};
@@ -142,6 +154,7 @@ impl FileKind {
             FileKind::Constraints => "constraints",
             FileKind::Query => "query",
             FileKind::Document => "document",
+            FileKind::Script => "script",
         }
     }
 }
