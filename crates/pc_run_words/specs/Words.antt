@@ -37,6 +37,14 @@ pub record CheckNames : Type 0 where
   pub constraints : List ℕ
   pub document : List ℕ
 
+-- of `session`: how many nodes each search may have, and the names of its four files
+pub record SessionNames : Type 0 where
+  pub nodes : ℕ
+  pub schema : List ℕ
+  pub rows : List ℕ
+  pub constraints : List ℕ
+  pub script : List ℕ
+
 -- of `gen`: what its draws begin with, and how large its case is
 pub record GenNumbers : Type 0 where
   pub seed : ℕ
@@ -50,6 +58,7 @@ pub data Asked : Type 0 where
   show : ShowNames → Asked
   conflict : ConflictNames → Asked
   quantile : QuantileNames → Asked
+  session : SessionNames → Asked
   gen : GenNumbers → Asked
 
 -- ---- the words after the command
@@ -171,6 +180,15 @@ quantile_at words nodes = None
 abbrev pub quantile_of : Given → Option Asked
 quantile_of words = option_and_then (quantile_at words.plain) (budget_of words.value)
 
+-- four files, and how many nodes each search may have
+abbrev pub session_at : List (List ℕ) → ℕ → Option Asked
+session_at (schema ∷ rows ∷ constraints ∷ script ∷ []) nodes =
+    Some (session (record { nodes = nodes; schema = schema; rows = rows; constraints = constraints; script = script }))
+session_at words nodes = None
+
+abbrev pub session_of : Given → Option Asked
+session_of words = option_and_then (session_at words.plain) (budget_of words.value)
+
 -- two numbers
 abbrev pub gen_with : List ℕ → List ℕ → Option Asked
 gen_with seed size =
@@ -192,8 +210,9 @@ command_with name words =
     else (if bytes_eq name (codes "show") then option_and_then show_of (given false words)
     else (if bytes_eq name (codes "conflict") then option_and_then conflict_of (given true words)
     else (if bytes_eq name (codes "quantile") then option_and_then quantile_of (given true words)
+    else (if bytes_eq name (codes "session") then option_and_then session_of (given true words)
     else (if bytes_eq name (codes "gen") then option_and_then gen_of (given false words)
-    else None))))))
+    else None)))))))
 
 abbrev pub command_of : List (List ℕ) → Option Asked
 command_of [] = None

@@ -1,5 +1,5 @@
 ghost use Rattle.std.specs.Prelude.{◌≡◌, map, string_bytes, Some, None, IfOk, IfSome, MatchOption, option_and_then, option_map, true, false};
-ghost use Rattle.pc_run_words.specs.Words.{bound, budget_of, check_at, check_of, command_of, conflict_at, conflict_of, gen_at, gen_of, gen_with, given, names_at, names_of, prove, quantile_at, quantile_of, show_at, show_of, IsBudget};
+ghost use Rattle.pc_run_words.specs.Words.{bound, budget_of, check_at, check_of, command_of, conflict_at, conflict_of, gen_at, gen_of, gen_with, given, names_at, names_of, prove, quantile_at, quantile_of, session_at, session_of, show_at, show_of, IsBudget};
 ghost use Rattle.pc_run_words.specs.Commands.{asked_in, bound_names, HasNumbers};
 
 use crate::given::{nodes_in, plain_in, words_alone, words_with_nodes};
@@ -54,6 +54,16 @@ pub struct Quantile<'a> {
     pub query: &'a str,
 }
 
+/// The command `session`: how many nodes each search may have, and the names of its files.
+#[derive(Clone, Copy, Debug)]
+pub struct Session<'a> {
+    pub nodes: u32,
+    pub schema: &'a str,
+    pub rows: &'a str,
+    pub constraints: &'a str,
+    pub script: &'a str,
+}
+
 /// The command `gen`: what its draws begin with, and how large its case is.
 #[derive(Clone, Copy, Debug)]
 pub struct Gen {
@@ -70,6 +80,7 @@ pub enum Command<'a> {
     Show(Show<'a>),
     Conflict(Conflict<'a>),
     Quantile(Quantile<'a>),
+    Session(Session<'a>),
     Gen(Gen),
 }
 
@@ -94,6 +105,7 @@ pub fn read_command<'a>(alloc: Global, words: &'a [String]) -> Result<Option<Com
         "show" => read_show(alloc, words),
         "conflict" => read_conflict(alloc, words),
         "quantile" => read_quantile(alloc, words),
+        "session" => read_session(alloc, words),
         "gen" => read_gen(alloc, words),
         _ => Ok(None),
     }
@@ -181,6 +193,19 @@ fn read_quantile<'a>(alloc: Global, words: &'a [String]) -> Result<Option<Comman
         return Ok(None);
     };
     Ok(quantile_at(plain_in(&found), nodes))
+}
+
+fn read_session<'a>(alloc: Global, words: &'a [String]) -> Result<Option<Command<'a>>, Memory>
+    ensures reads { IfOk result (λ found. option_map asked_in found ≡ option_and_then session_of (given true (map string_bytes words.now))) }
+    ensures numbers { IfOk result (λ found. IfSome found HasNumbers) }
+{
+    let Some(found) = words_with_nodes(alloc, "session", words)? else {
+        return Ok(None);
+    };
+    let Some(nodes) = budget_of(nodes_in(&found)) else {
+        return Ok(None);
+    };
+    Ok(session_at(plain_in(&found), nodes))
 }
 
 fn read_gen<'a>(alloc: Global, words: &'a [String]) -> Result<Option<Command<'a>>, Memory>
@@ -282,6 +307,23 @@ fn quantile_at<'a>(plain: &[&'a str], nodes: u32) -> Option<Command<'a>>
             rows: *rows,
             constraints: *constraints,
             query: *query,
+        })),
+        _ => None,
+    }
+}
+
+fn session_at<'a>(plain: &[&'a str], nodes: u32) -> Option<Command<'a>>
+    requires { IsBudget nodes }
+    ensures reads { option_map asked_in result ≡ session_at (map (λ text. text.now) plain.now) nodes }
+    ensures numbers { IfSome result HasNumbers }
+{
+    match plain {
+        [schema, rows, constraints, script] => Some(Command::Session(Session {
+            nodes,
+            schema: *schema,
+            rows: *rows,
+            constraints: *constraints,
+            script: *script,
         })),
         _ => None,
     }

@@ -6,5 +6,5 @@ mod given;
 mod number;
 
 pub use command::{
-    Bound, Check, Command, Conflict, Gen, Quantile, Show, USUAL_NODES, read_command,
+    Bound, Check, Command, Conflict, Gen, Quantile, Session, Show, USUAL_NODES, read_command,
 };
