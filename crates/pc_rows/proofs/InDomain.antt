@@ -12,6 +12,7 @@ use Rattle.pc_model.specs.declared.fault.FileKind.TheVariants as files
 use Rattle.pc_model.specs.declared.fault.Fault.{Fault}
 use Rattle.pc_model.specs.declared.fault.Reason.{Reason}
 use Rattle.pc_model.specs.declared.fault.Reason.TheVariants as reasons
+use Rattle.pc_model.specs.declared.fault.ReadStop.{ReadStop}
 use Rattle.pc_model.specs.declared.fault.Refusal.{Refusal}
 use Rattle.pc_model.specs.declared.row.Row.{Row}
 use Rattle.pc_model.specs.declared.schema.Kind.{Kind}
@@ -21,10 +22,11 @@ use Rattle.pc_model.specs.declared.schema.Schema.{Schema}
 use Rattle.pc_model.specs.Membership.{allows, in_domain, is_between, row_from as row}
 use Rattle.pc_model.specs.Places.{is_below}
 use Rattle.pc_model.specs.Numbers.{number_of}
-use Rattle.pc_model.specs.Refusals.{◌>>=◌, Gives, fault_at, placed}
+use Rattle.pc_model.specs.Refusals.{◌>>=◌, Answers, Gives, fault_at, placed}
 use Rattle.pc_model.specs.Texts.{text_of}
 use Rattle.pc_rows.specs.Stored.{row_limit}
 use Rattle.pc_records.specs.Fields.{field}
+use Rattle.pc_rows.specs.Record.{only_record, places_below, row_of}
 use Rattle.pc_rows.specs.RowFile.{without_spaces, in_span, place_number, cell_of, cells_from, cells_of, cells_at, places_from, rows_from, rows_under, rows_of}
 
 -- one number per column, each allowed by its kind
@@ -121,3 +123,20 @@ file_inside schema bytes rows found = text_inside schema rows (placed files.Rows
 pub read_in_domain : (schema : Schema) (bytes : List ℕ) (result : Result (List Row) Refusal) → Gives result (rows_of schema bytes) → IfOk result (AllPass (in_domain schema))
 read_in_domain schema bytes (Ok rows) gives = file_inside schema bytes rows gives
 read_in_domain schema bytes (Err refusal) gives = tt
+
+-- a row of one record is
+record_allowed : (schema : Schema) (found : Row) (fields : Result (List (List ℕ)) Reason) → (fields >>= (λ fields. cells_of schema.columns (places_below (length schema.columns)) (length schema.columns) fields >>= λ cells. Ok (row cells))) ≡ Ok found → in_domain schema found ≡ true
+unfolding in_domain
+record_allowed schema found (Err reason) e = cc
+record_allowed schema found (Ok fields) e = of_cells (cells_of schema.columns (places_below (length schema.columns)) (length schema.columns) fields) refl e
+  where
+    of_cells : (cells : Result (List ℤ) Reason) → cells_of schema.columns (places_below (length schema.columns)) (length schema.columns) fields ≡ cells → (cells >>= λ cells. Ok (row cells)) ≡ Ok found → in_domain schema found ≡ true
+    of_cells (Err reason) is e = cc
+    of_cells (Ok cells) is e =
+        let same : row cells ≡ found = cc in
+        rw (← same) (cells_allowed schema.columns (places_below (length schema.columns)) (length schema.columns) fields cells is)
+
+pub record_in_domain : (schema : Schema) (bytes : List ℕ) (result : Result Row ReadStop) → Answers result (row_of schema bytes) → IfOk result (λ found. in_domain schema found ≡ true)
+unfolding row_of
+record_in_domain schema bytes (Ok found) answers = record_allowed schema found (only_record (records default_config (strip_bom bytes))) answers
+record_in_domain schema bytes (Err stop) answers = tt

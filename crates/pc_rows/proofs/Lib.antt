@@ -10,4 +10,5 @@ pub mod PlainFields
 pub mod PlainHeader
 pub mod PlainText
 pub mod Reading
+pub mod Removing
 pub mod Storing

@@ -2,5 +2,6 @@ pub mod Finding
 pub mod Folds
 pub mod Groups
 pub mod Plain
+pub mod Record
 pub mod RowFile
 pub mod Stored

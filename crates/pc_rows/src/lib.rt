@@ -11,9 +11,11 @@ mod header;
 mod numbers;
 mod plain;
 mod read;
+mod record;
 mod rows;
 
 pub use case::Case;
 pub use plain::{reads_plain_fields, reads_plain_text};
 pub use read::read_rows;
+pub use record::{read_row, row_of};
 pub use rows::Rows;

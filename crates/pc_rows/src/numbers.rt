@@ -1,4 +1,5 @@
-ghost use Rattle.std.specs.Prelude.{◌≡◌, ◌<◌, ◌^◌, pos, [], ◌++◌, length, slice_index_or, if◌then◌else◌, OnOk, OnErr, IfOk};
+ghost use Rattle.std.specs.Prelude.{◌≡◌, ◌<◌, ◌≤◌, ◌+◌, ◌^◌, pos, [], ◌++◌, length, slice_index_or, if◌then◌else◌, OnOk, OnErr, IfOk};
+ghost use Rattle.std.specs.List.{remove_range};
 
 use pc_num::Memory;
 use std::alloc::Global;
@@ -68,6 +69,26 @@ impl Numbers {
             return i64::from(self.narrow[place]);
         }
         self.wide[place - narrow]
+    }
+
+    /// Takes so many numbers from a place on out of the list.
+    #[tactic(auto, using(crate::proofs::Storing::short_together, crate::proofs::Removing::ranges))]
+    pub(crate) fn remove(&mut self, from: usize, count: usize)
+        requires there { from + count ≤ length self.old }
+        ensures removed { self.new ≡ remove_range self.old from (from + count) }
+    {
+        let narrow = self.narrow.len();
+        let end = from + count;
+        if end <= narrow {
+            self.narrow.drain(from..end);
+            return;
+        }
+        if narrow <= from {
+            self.wide.drain(from - narrow..end - narrow);
+            return;
+        }
+        self.narrow.truncate(from);
+        self.wide.drain(0..end - narrow);
     }
 }
 

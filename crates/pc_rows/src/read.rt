@@ -112,8 +112,9 @@ fn read_row(
     }
 }
 
+/// The numbers of a record of so many fields, in the place of `cells`.
 #[tactic(auto, unfolding(crate::specs::RowFile::cells_of))]
-fn read_cells(
+pub(crate) fn read_cells(
     columns: &[ColumnReader<'_>],
     places: &[usize],
     width: usize,

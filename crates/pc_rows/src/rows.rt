@@ -1,4 +1,5 @@
 ghost use Rattle.std.specs.Prelude.{◌≡◌, ◌<◌, ◌≤◌, List, [], ◌∷◌, ◌++◌, length, OnOk, OnErr, All, None, nat_abs, ◌^◌};
+ghost use Rattle.std.specs.List.{remove};
 ghost use Rattle.pc_model.specs.Aggregate.{number_at};
 ghost use Rattle.pc_model.specs.Membership.{has, is_in, row_from as row};
 ghost use Rattle.pc_model.specs.Folds.{IsFold};
@@ -75,6 +76,15 @@ impl Rows {
         self.width = cells.len();
         self.count += 1;
         Ok(())
+    }
+
+    /// Takes the row at a place, from 0, out of the list.
+    pub fn remove(&mut self, at: u64)
+        requires there { at < length self.old }
+        ensures removed { self.new ≡ remove self.old at }
+    {
+        self.numbers.remove(at as usize * self.width, self.width);
+        self.count -= 1;
     }
 
     pub fn count(&self) -> u64
