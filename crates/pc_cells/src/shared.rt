@@ -1,8 +1,9 @@
-ghost use Rattle.std.specs.Prelude.{◌≡◌, ◌∷◌, [], IfOk, OnErr};
+ghost use Rattle.std.specs.Prelude.{◌≡◌, ◌∷◌, [], IfOk, OnErr, OnOk};
 ghost use Rattle.pc_model.specs.declared.tree.LeafMark.TheVariants.{Barren};
 ghost use Rattle.pc_model.specs.declared.tree.CutNode.TheVariants as forms;
 ghost use Rattle.pc_model.specs.WellFormed.{IsWellFormed};
-ghost use Rattle.pc_cells_tree.specs.Linked.{CanBeDivided, IsTree, IsCutOn, IsDividedFor};
+ghost use Rattle.pc_cells_tree.specs.Linked.{CanBeDivided, IsTree, IsCutOn, IsDividedFor, KeepsInner};
+ghost use Rattle.pc_cells_tree.specs.Owned.{HasOwnCuts};
 ghost use Rattle.pc_cells_tree.specs.Walking.{HasCutsOf};
 ghost use Rattle.pc_cells.specs.Found.{AreCellsFor};
 
@@ -27,6 +28,7 @@ impl Shared {
         requires well_formed { IsWellFormed schema.now }
         ensures tree { IfOk result (λ shared. IsTree schema.now shared.nodes) }
         ensures one { IfOk result (λ shared. shared.nodes ≡ forms.Leaf Barren ∷ []) }
+        ensures own { IfOk result (λ shared. HasOwnCuts schema.now shared.nodes) }
     {
         let _schema = schema;
         let leaf = CutNode::Leaf {
@@ -48,6 +50,8 @@ impl Shared {
         requires asked { CanBeDivided schema.now constraints.now chosen.now }
         requires tree { IsTree schema.now self.old.nodes }
         ensures cut_on { IfOk result (IsCutOn schema.now constraints.now chosen.now self.old.nodes self.new.nodes) }
+        ensures inner { OnOk result (KeepsInner self.old.nodes self.new.nodes) }
+        ensures own { OnOk result (HasOwnCuts schema.now self.old.nodes → HasOwnCuts schema.now self.new.nodes) }
         ensures memory { OnErr result (self.new ≡ self.old) }
     {
         let alloc = self.nodes.allocator();

@@ -6,7 +6,9 @@ pub mod Decisions
 pub mod Ends
 pub mod Faces
 pub mod Grown
+pub mod Inner
 pub mod Lists
+pub mod OwnCuts
 pub mod Parts
 pub mod Passes
 pub mod Peeled

@@ -17,7 +17,7 @@ use Rattle.pc_box.proofs.Likeness.{are_all_like, as_many_sides}
 use Rattle.pc_box.proofs.Rows.{apart_from_test, test_from_apart, inside_means}
 use Rattle.pc_cells_tree.specs.declared.stance.Stance.{Stance}
 use Rattle.pc_cells_tree.specs.declared.stance.Stance.TheVariants.{Inside, Apart, Across}
-use Rattle.pc_cells_tree.specs.Stances.{column_limit, side_faces, faces_of, open_faces, stance_of, HasMet, IsAcross, IsStance}
+use Rattle.pc_cells_tree.specs.Stances.{column_limit, side_faces, faces_of, open_faces, stance_of, HasMet, IsStance}
 
 -- ---- one side
 

@@ -16,8 +16,9 @@ use Rattle.pc_box.specs.Cuts.{is_first, Divides}
 use Rattle.pc_box.proofs.CutRows.{first_rows, second_rows}
 use Rattle.pc_box.proofs.Proper.{Divides-from_proper}
 use Rattle.pc_cells_tree.specs.Decisions.{IsComparable, CanBeSettled}
-use Rattle.pc_cells_tree.specs.Linked.{node_at, box_at, IsCutInto, IsNodeAt, IsParentOf, AreBoxesOf, IsTree, IsDone, AreDoneBelow, IsDividedFor, HasKept, is_leaf_node}
+use Rattle.pc_cells_tree.specs.Linked.{node_at, box_at, IsCutInto, IsNodeAt, IsParentOf, AreBoxesOf, IsTree, IsDone, AreDoneBelow, IsDividedFor, HasKept, IsInnerNode, KeepsInner, is_leaf_node}
 use Rattle.pc_cells_tree.proofs.Grown.{first_comparable, second_comparable}
+use Rattle.pc_cells_tree.proofs.Inner.{keeps_inner}
 use Rattle.pc_cells_tree.proofs.Parts.{parts_can_be_settled}
 
 -- ---- parts
@@ -95,10 +96,10 @@ pub leaf_done : (constraints : List Constraint) (chosen : Area) (box : Region) (
 leaf_done constraints chosen box (forms.Leaf mark) leaf done = done
 leaf_done constraints chosen box (forms.Inner cut first second) leaf done = absurd (true≢false (sym leaf))
 
--- ---- a tree that was cut on for others
+-- ---- a tree whose inner nodes stay
 
-module _ (schema : Schema) (constraints others : List Constraint) (chosen other : Area) (before after : List CutNode) (boxes_before boxes : List Region)
-    (old : AreBoxesOf (whole_region schema) before boxes_before) (tree : AreBoxesOf (whole_region schema) after boxes) (kept : HasKept schema constraints chosen before after)
+module _ (schema : Schema) (others : List Constraint) (other : Area) (before after : List CutNode) (boxes_before boxes : List Region)
+    (old : AreBoxesOf (whole_region schema) before boxes_before) (tree : AreBoxesOf (whole_region schema) after boxes) (kept : KeepsInner before after)
     (divided : IsDividedFor schema others other before) where
   -- a box that can be settled, or that of an old node
   abbrev IsKnown : ℕ → Type 0
@@ -111,7 +112,7 @@ module _ (schema : Schema) (constraints others : List Constraint) (chosen other 
 
   -- .. and an old cut stays
   old_cut : (k : ℕ) → k < length before → (cut : Cut) (first second : ℕ) → node_at before k ≡ forms.Inner cut first second → node_at after k ≡ forms.Inner cut first second
-  old_cut k there cut first second e = kept.same boxes_before old k there (subst (IsDone constraints chosen (box_at boxes_before k)) (sym e) tt) ∙ e
+  old_cut k there cut first second e = kept.same k there (subst IsInnerNode (sym e) tt) ∙ e
 
   settled_parts : (k : ℕ) (cut : Cut) (first second : ℕ) → IsCutInto boxes k cut first second → CanBeSettled others other (box_at boxes k) → IsKnown first × IsKnown second
   settled_parts k cut first second is settled =
@@ -144,7 +145,12 @@ module _ (schema : Schema) (constraints others : List Constraint) (chosen other 
   still_done k inside =
       known_done k (node_at before k) refl (each_node (whole_region schema) after boxes tree IsKnown (inr (old.some, tree.root ∙ sym old.root)) known_parts k inside)
 
+pub kept_stays_divided : (schema : Schema) (others : List Constraint) (other : Area) (before after : List CutNode) → IsTree schema before →
+    KeepsInner before after → IsDividedFor schema others other before → IsDividedFor schema others other after
+kept_stays_divided schema others other before after old kept divided boxes tree = still_done schema others other before after old.0 boxes old.1 tree kept divided
+
+-- so does one that was cut on for others
 pub refined_stays_divided : (schema : Schema) (constraints others : List Constraint) (chosen other : Area) (before after : List CutNode) → IsTree schema before →
     HasKept schema constraints chosen before after → IsDividedFor schema others other before → IsDividedFor schema others other after
-refined_stays_divided schema constraints others chosen other before after old kept divided boxes tree =
-    still_done schema constraints others chosen other before after old.0 boxes old.1 tree kept divided
+refined_stays_divided schema constraints others chosen other before after old kept divided =
+    kept_stays_divided schema others other before after old (keeps_inner schema constraints chosen before after old kept) divided

@@ -2,6 +2,7 @@ pub mod Decisions
 pub mod Faces
 pub mod Growing
 pub mod Linked
+pub mod Owned
 pub mod Refining
 pub mod Rooms
 pub mod Stances

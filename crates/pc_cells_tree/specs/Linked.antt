@@ -85,6 +85,15 @@ pub record HasKept (schema : Schema) (constraints : List Constraint) (chosen : A
   pub same : (boxes : List Region) → AreBoxesOf (whole_region schema) before boxes →
       (k : ℕ) → k < length before → IsDone constraints chosen (box_at boxes k) (node_at before k) → node_at after k ≡ node_at before k
 
+abbrev pub IsInnerNode : CutNode → Type 0
+IsInnerNode (forms.Leaf mark) = ⊥
+IsInnerNode (forms.Inner cut first second) = ⊤
+
+-- the inner nodes have their numbers, cuts and parts still
+pub record KeepsInner (before after : List CutNode) : Type 0 where
+  pub longer : length before ≤ length after
+  pub same : (k : ℕ) → k < length before → IsInnerNode (node_at before k) → node_at after k ≡ node_at before k
+
 abbrev pub is_leaf_node : CutNode → Bool
 is_leaf_node (forms.Leaf mark) = true
 is_leaf_node (forms.Inner cut first second) = false

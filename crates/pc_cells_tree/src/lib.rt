@@ -13,7 +13,7 @@ mod standing;
 mod walk;
 
 pub use growth::Growth;
-pub use laws::{parts_can_be_settled, refined_trees_stay_divided};
+pub use laws::{kept_trees_stay_divided, parts_can_be_settled, refined_trees_stay_divided};
 pub use marks::marked_trees_have_the_same_cuts;
 pub use refine::{Refinement, refined};
 pub use walk::marked;

@@ -37,7 +37,8 @@ use Rattle.pc_proof.specs.Setting.{allows_name, area_of}
 use Rattle.pc_proof.specs.Unbroken.{AllowsName, HasForm, IsUnbroken}
 use Rattle.pc_agg_search.specs.Settings.{question_in, setting_in}
 use Rattle.pc_group.specs.Answers.{AnswersWanted}
-use Rattle.pc_group.specs.Trees.{Told, AreOfTree, HasOwnCuts, HasOwnShape, told, told_after, told_with}
+use Rattle.pc_cells_tree.specs.Owned.{HasOwnCuts}
+use Rattle.pc_group.specs.Trees.{Told, AreOfTree, HasOwnShape, told, told_after, told_with}
 use Rattle.pc_group.specs.Wanted.{Wanted}
 use Rattle.pc_group.proofs.FormedCuts.{own_shape, tree_formed}
 

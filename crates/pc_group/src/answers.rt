@@ -4,11 +4,12 @@ ghost use Rattle.pc_model.specs.Accepted.{AreConstraints, IsQuery};
 ghost use Rattle.pc_model.specs.CutTrees.{shape_of};
 ghost use Rattle.pc_model.specs.Membership.{in_domain};
 ghost use Rattle.pc_model.specs.WellFormed.{IsWellFormed};
-ghost use Rattle.pc_cells_tree.specs.Linked.{IsTree};
+ghost use Rattle.pc_cells_tree.specs.Linked.{IsTree, KeepsInner};
+ghost use Rattle.pc_cells_tree.specs.Owned.{HasOwnCuts};
 ghost use Rattle.pc_cells_tree.specs.Walking.{bare};
 ghost use Rattle.pc_proof.specs.Form.{IsInForm};
 ghost use Rattle.pc_group.specs.Answers.{AnswersWanted};
-ghost use Rattle.pc_group.specs.Trees.{Told, HasOwnCuts, KeepsInner, AreDividedFor, AreOfTree, AreWritten, told};
+ghost use Rattle.pc_group.specs.Trees.{Told, AreDividedFor, AreOfTree, AreWritten, told};
 ghost use Rattle.pc_group.specs.Wanted.{wanted};
 
 use crate::answering::answer_queries;

@@ -3,8 +3,8 @@ ghost use Rattle.pc_model.specs.declared.area.Area.{Area};
 ghost use Rattle.pc_model.specs.Accepted.{constraint_limit};
 ghost use Rattle.pc_model.specs.Boxes.{IsAreaOf, IsServable};
 ghost use Rattle.pc_model.specs.WellFormed.{IsWellFormed};
-ghost use Rattle.pc_cells_tree.specs.Linked.{IsTree, IsDividedFor};
-ghost use Rattle.pc_group.specs.Trees.{HasOwnCuts, KeepsInner};
+ghost use Rattle.pc_cells_tree.specs.Linked.{IsTree, IsDividedFor, KeepsInner};
+ghost use Rattle.pc_cells_tree.specs.Owned.{HasOwnCuts};
 
 use pc_cells::Shared;
 use pc_model::{Area, Constraint, Schema};

@@ -1,10 +1,9 @@
-use Rattle.std.proofs.Common.{List, All, sym, subst, arith}
+use Rattle.std.proofs.Common.{List, All, subst, arith}
 use Rattle.std.proofs.lemmas.List.{take_all}
 use Rattle.pc_model.specs.declared.area.Area.{Area}
-use Rattle.pc_model.specs.Boxes.{IsAreaOf}
 use Rattle.pc_cells_tree.specs.Linked.{IsDividedFor}
-use Rattle.pc_group.proofs.FormedCuts.{own_more}
-use Rattle.pc_group.proofs.Inner.{divided_more, keeps_more}
+use Rattle.pc_cells_tree.proofs.Inner.{keeps_on}
+use Rattle.pc_group.proofs.Inner.{divided_more}
 use Rattle.pc_group.proofs.refining.refine_for_all.Goals as goal
 
 pub loop-area-preserved : goal.loop-area-preserved
@@ -14,12 +13,12 @@ loop-area-preserved c =
     let before = c.loop-area.shared.nodes in
     let area = c.area-item.result in
     let so_far = c.loop-area.invariant in
-    let done = c.in_ok-refine.ensures.cut_on in
+    let done = c.in_ok-refine.ensures in
     record {
-      tree = done.tree;
-      kept = keeps_more schema constraints area c.args.shared.now.nodes before c.refine.new.self.nodes so_far.tree so_far.kept done.kept;
-      own = λ first. own_more schema constraints area c.requires.servable (subst (λ (r : Area). IsAreaOf schema r) (sym c.area-item.is) (c.requires.areas c.loop-area.area-index area c.loop-area-test.true)) before c.refine.new.self.nodes so_far.tree done.tree done.kept done.needed (so_far.own first);
-      divided = divided_more schema constraints c.args.areas.now c.loop-area.area-index area before c.refine.new.self.nodes c.loop-area-test.true c.area-item.is so_far.tree done.kept done.divided so_far.divided;
+      tree = done.cut_on.tree;
+      kept = keeps_on c.args.shared.now.nodes before c.refine.new.self.nodes so_far.kept done.inner;
+      own = λ first. done.own (so_far.own first);
+      divided = divided_more schema constraints c.args.areas.now c.loop-area.area-index area before c.refine.new.self.nodes c.loop-area-test.true c.area-item.is so_far.tree done.inner done.cut_on.divided so_far.divided;
     }
 
 pub returns-clause-divided : goal.returns-clause-divided

@@ -1,7 +1,7 @@
 use Rattle.std.proofs.Common.{All, take}
 use Rattle.pc_model.specs.declared.area.Area.{Area}
-use Rattle.pc_cells_tree.specs.Linked.{IsTree, IsDividedFor}
-use Rattle.pc_group.specs.Trees.{HasOwnCuts, KeepsInner}
+use Rattle.pc_cells_tree.specs.Linked.{IsTree, IsDividedFor, KeepsInner}
+use Rattle.pc_cells_tree.specs.Owned.{HasOwnCuts}
 use Rattle.pc_group.proofs.refining.refine_for_all.Given as goal
 
 -- divided for the areas before the present one
