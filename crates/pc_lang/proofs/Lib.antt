@@ -1,4 +1,5 @@
-pub mod Lines
+pub mod TextLines
+pub mod FileLines
 pub mod NamedSets
 pub mod SidesAgain
 pub mod RegionsAgain

@@ -12,7 +12,7 @@ use Rattle.pc_model.specs.Texts.{text_of}
 use Rattle.pc_lang_tokens.specs.Lexing.{is_blank, tokens_of}
 use Rattle.pc_lang_grammar.specs.declared.syntax.Line.{Line}
 use Rattle.pc_lang_grammar.specs.declared.syntax.Question.{Question}
-use Rattle.pc_lang_grammar.specs.Parsing.{line_of, question_of}
+use Rattle.pc_lang_grammar.specs.Parsing.{line_of, question_of, rule_of}
 use Rattle.pc_lang.specs.Meaning.{constraint_of, query_of}
 
 -- what stands between the line feeds, without a carriage return at the end
@@ -33,6 +33,10 @@ line_from text = tokens_of text >>= line_of
 
 unfoldable pub question_from : List ℕ → Result Question Reason
 question_from text = tokens_of text >>= question_of
+
+-- .. or the name of a constraint, which `outside` has empty
+unfoldable pub rule_from : List ℕ → Result (List ℕ) Reason
+rule_from text = tokens_of text >>= rule_of
 
 -- the constraint that the text of a line spells, after those before it
 unfoldable pub constraint_from : Schema → List Constraint → List ℕ → Result Constraint Reason

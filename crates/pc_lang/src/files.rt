@@ -1,11 +1,11 @@
-ghost use Rattle.std.specs.Prelude.{◌≡◌, ◌<◌, ◌≤◌, get_or, ◌∷◌, ◌++◌, [], true, length, IfOk, IfSome, MatchOption};
+ghost use Rattle.std.specs.Prelude.{◌≡◌, ◌≤◌, get_or, ◌∷◌, ◌++◌, [], true, length, IfOk};
 ghost use Rattle.pc_model.specs.Accepted.{AreConstraints, IsQuery};
 ghost use Rattle.pc_model.specs.Refusals.{Answers, Gives};
 ghost use Rattle.pc_model.specs.WellFormed.{IsWellFormed};
-ghost use Rattle.pc_lang.specs.Files.{without_return, is_passed_over, line_from, question_from, constraint_from, with_line, with_line_at, constraints_from, lines_of, constraints_of, query_from, query_at, line_number, constraint_lines, left_after};
+ghost use Rattle.pc_lang.specs.Files.{line_from, question_from, constraint_from, with_line, with_line_at, constraints_from, lines_of, constraints_of, query_from, query_at, line_number, constraint_lines, left_after};
 ghost use Rattle.pc_lang.specs.Meaning.{IsNamed};
-ghost use Rattle.pc_lang_tokens.specs.Lexing.{is_blank};
 
+use crate::lines::{first_line, is_passed_over, without_return};
 use crate::meaning::constraint_of;
 use crate::query::query_of;
 use pc_lang_grammar::{Line, Question, read_line, read_question};
@@ -15,7 +15,7 @@ use pc_model::{Constraint, FileKind, Query, ReadStop, Refusal, Schema, text_of};
 use std::alloc::Global;
 
 /// Reads the constraints of a file. The place of a fault is the number of its line, and 0 for the file as a whole.
-#[tactic(auto, using(crate::proofs::Lines::texts))]
+#[tactic(auto, using(crate::proofs::FileLines::texts))]
 pub fn read_constraints(
     alloc: Global,
     schema: &Schema,
@@ -53,7 +53,7 @@ pub fn line_number(bytes: &[u8], place: usize) -> u64
     }
 }
 
-#[tactic(auto, using(crate::proofs::Lines::numbers))]
+#[tactic(auto, using(crate::proofs::FileLines::numbers))]
 fn number_in(text: &[u8], place: usize) -> u64
     ensures { result ≡ get_or (constraint_lines 1 (lines_of text.now)) place 0 }
 {
@@ -105,20 +105,6 @@ fn constraints_of_text(
     with_line_at(alloc, schema, place, constraints, rest)
 }
 
-// What stands before the first line feed, and what stands after it.
-#[tactic(auto, using(crate::proofs::Lines::pieces))]
-fn first_line(text: &[u8]) -> Option<(&[u8], &[u8])>
-    ensures pieces { MatchOption result (lines_of text.now ≡ text.now ∷ []) (λ cut. lines_of text.now ≡ cut.0.now ∷ lines_of cut.1.now) }
-    ensures shorter { IfSome result (λ cut. length cut.1.now < length text.now) }
-{
-    for (place, byte) in text.iter().enumerate() {
-        if *byte == b'\n' {
-            return Some((&text[..place], &text[place + 1..]));
-        }
-    }
-    None
-}
-
 fn with_line_at(
     alloc: Global,
     schema: &Schema,
@@ -157,9 +143,9 @@ fn with_line(
     Ok(before)
 }
 
-// The constraint that the text of a line spells.
+/// Reads the constraint that all of a text spells, after those before it.
 #[tactic(auto, unfolding(crate::specs::Files::constraint_from))]
-fn constraint_from(
+pub fn constraint_from(
     alloc: Global,
     schema: &Schema,
     before: &[Constraint],
@@ -192,41 +178,13 @@ fn question_from(alloc: Global, text: &[u8]) -> Result<Question, ReadStop>
     read_question(alloc, tokens.as_slice())
 }
 
+/// Reads the query that all of a text spells.
 #[tactic(auto, unfolding(crate::specs::Files::query_from))]
-fn query_from(alloc: Global, schema: &Schema, text: &[u8]) -> Result<Query, ReadStop>
+pub fn query_from(alloc: Global, schema: &Schema, text: &[u8]) -> Result<Query, ReadStop>
     requires well_formed { IsWellFormed schema.now }
     ensures answers { Answers result (query_from schema.now text.now) }
     ensures accepted { IfOk result (IsQuery schema.now) }
 {
     let question = question_from(alloc, text)?;
     query_of(alloc, schema, &question)
-}
-
-#[tactic(auto, unfolding(crate::specs::Files::without_return))]
-fn without_return(line: &[u8]) -> &[u8]
-    ensures { result.now ≡ without_return line.now }
-{
-    match line {
-        [front @ .., b'\r'] => front,
-        _ => line,
-    }
-}
-
-// Whether the line has blanks alone, or `#` as its first other byte.
-#[tactic(auto, using(crate::proofs::Lines::blanks))]
-fn is_passed_over(line: &[u8]) -> bool
-    ensures { result ≡ is_passed_over line.now }
-{
-    for byte in line {
-        if !is_blank(*byte) {
-            return *byte == b'#';
-        }
-    }
-    true
-}
-
-fn is_blank(byte: u8) -> bool
-    ensures { result ≡ is_blank byte }
-{
-    byte == b' ' || byte == b'\t'
 }

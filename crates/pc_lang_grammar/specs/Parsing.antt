@@ -128,6 +128,12 @@ line_from body frequency = do
 unfoldable pub line_of : List Token → Found Line
 line_of list = line_from (take (length list - 4) list) (drop (length list - 4) list)
 
+-- what a constraint is called by, if that is all of the tokens: its name, which `outside` has empty
+unfoldable pub rule_of : List Token → Found (List ℕ)
+rule_of (tokens.Name name ∷ []) = Ok name
+rule_of (tokens.Reserved words.Outside ∷ []) = Ok []
+rule_of other = Err reasons.Unexpected
+
 -- the measure of a column that a word names
 unfoldable pub aggregate : Word → List ℕ → Found Measure
 aggregate words.Sum column = Ok (measures.Sum column)

@@ -1,4 +1,4 @@
-//! The grammar of the constraint language: what lists of tokens are a constraint's line or a query.
+//! The grammar of the constraint language: what lists of tokens are a constraint's line, its name or a query.
 #![tactic(auto)]
 
 mod claim;
@@ -8,6 +8,7 @@ mod line;
 mod part;
 mod quantile;
 mod question;
+mod rule;
 mod spell;
 mod syntax;
 mod ways;
@@ -18,5 +19,6 @@ pub use law::{
 pub use line::read_line;
 pub use quantile::read_quantile_question;
 pub use question::read_question;
+pub use rule::read_rule;
 pub use spell::{spell_line, spell_quantile, spell_question};
 pub use syntax::{Atom, Claim, Head, Line, Measure, Part, QuantileQuestion, Question, Ways};

@@ -1,6 +1,6 @@
 use Rattle.std.proofs.Common.{◌∙◌, sym, arith}
 use Rattle.std.proofs.lemmas.Result.{err_from_is_err_and}
-use Rattle.pc_lang.proofs.Lines.{file_step, file_last, refusal_step}
+use Rattle.pc_lang.proofs.FileLines.{file_step, file_last, refusal_step}
 use Rattle.pc_lang.proofs.files.constraints_of_text.Goals as goal
 
 pub returns-in_err-constraints-clause-gives : goal.returns-in_err-constraints-clause-gives

@@ -1,6 +1,6 @@
 use Rattle.std.proofs.Common.{◌≡◌, drop}
 use Rattle.pc_lang.specs.Files.{is_passed_over}
-use Rattle.pc_lang.proofs.files.is_passed_over.Given as goal
+use Rattle.pc_lang.proofs.lines.is_passed_over.Given as goal
 
 -- what is left decides
 abbrev pub invariant-loop-byte : goal.invariant-loop-byte

@@ -1,5 +1,5 @@
 use Rattle.std.proofs.Common.{◌≡◌, ℕ, ◌<◌, get_or}
-use Rattle.pc_lang.proofs.files.first_line.Given as goal
+use Rattle.pc_lang.proofs.lines.first_line.Given as goal
 
 abbrev pub invariant-loop-place : goal.invariant-loop-place
 invariant-loop-place l = (k : ℕ) → k < l.place → get_or l.text k 0 ≡ 10 → ⊥
