@@ -1,4 +1,4 @@
-ghost use Rattle.std.specs.Prelude.{◌≡◌, ◌≤◌, get_or, ◌∷◌, ◌++◌, [], true, length, IfOk};
+ghost use Rattle.std.specs.Prelude.{◌≡◌, get_or, ◌∷◌, ◌++◌, [], IfOk};
 ghost use Rattle.pc_model.specs.Accepted.{AreConstraints, IsQuery};
 ghost use Rattle.pc_model.specs.Refusals.{Answers, Gives};
 ghost use Rattle.pc_model.specs.WellFormed.{IsWellFormed};

@@ -1,4 +1,4 @@
-ghost use Rattle.std.specs.Prelude.{◌≡◌, ◌<◌, get_or, ◌∷◌, [], true, length, IfSome, MatchOption};
+ghost use Rattle.std.specs.Prelude.{◌≡◌, ◌<◌, ◌∷◌, [], length, IfSome, MatchOption};
 ghost use Rattle.pc_lang.specs.Files.{is_passed_over, lines_of, without_return};
 ghost use Rattle.pc_lang_tokens.specs.Lexing.{is_blank};
 
