@@ -1,6 +1,6 @@
 -- What is held stays well-formed when a row or a constraint is added or taken out.
 use Rattle.std.proofs.Common.{◌≡◌, ◌≢◌, ℕ, suc, ◌<◌, ◌≤◌, true, List, [], ◌∷◌, length, take, drop, All, refl, arith}
-use Rattle.std.specs.List.{remove}
+use Rattle.std.specs.List.{AllPass, remove}
 use Rattle.std.proofs.lemmas.List.{length-append}
 use Rattle.std.proofs.lemmas.List.Edits.{length-remove}
 use Rattle.std.proofs.lemmas.List.Elements.{All-nil, All-cons, All-append, All-drop, All-push, All-take}
@@ -21,8 +21,12 @@ use Rattle.pc_session.specs.HeldWell.{IsAskedWell, IsHeldWell}
 all_but_one : {X : Type 0} (P : X → Type 0) (xs : List X) (at : ℕ) → All P xs → All P (remove xs at)
 all_but_one P xs at all = All-append P (take at xs) (drop (suc at) xs) (All-take P at xs all) (All-drop P (suc at) xs all)
 
+-- rows without one of them
+pub row_less : (schema : Schema) (rows : List Row) (at : ℕ) → AllPass (in_domain schema) rows → AllPass (in_domain schema) (remove rows at)
+row_less schema rows at seen = all_but_one (λ (r : Row). in_domain schema r ≡ true) rows at seen
+
 -- constraints without one of them
-fewer_constraints : (schema : Schema) (constraints : List Constraint) (at : ℕ) → at < length constraints → AreConstraints schema constraints → AreConstraints schema (remove constraints at)
+pub fewer_constraints : (schema : Schema) (constraints : List Constraint) (at : ℕ) → at < length constraints → AreConstraints schema constraints → AreConstraints schema (remove constraints at)
 fewer_constraints schema constraints at inside are = record {
   few = omega (arith, length-remove constraints at inside, are.few);
   servable = all_but_one (IsServable schema) constraints at are.servable;
@@ -39,7 +43,7 @@ edit_keeps schema held (AddRow row) well can = record {
 }
 edit_keeps schema held (DropRow at) well can = record {
   few = omega (arith, length-remove held.rows at can, well.few);
-  seen = all_but_one (λ (r : Row). in_domain schema r ≡ true) held.rows at well.seen;
+  seen = row_less schema held.rows at well.seen;
   accepted = well.accepted;
 }
 edit_keeps schema held (AddRule c) well can = record { few = well.few; seen = well.seen; accepted = can }

@@ -1,2 +1,3 @@
 pub mod Edited
 pub mod HeldWell
+pub mod Sessions
