@@ -1,0 +1,3 @@
+pub mod FirstBlank
+pub mod OneMore
+pub mod ScriptLines
