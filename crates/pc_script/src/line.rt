@@ -2,7 +2,7 @@ ghost use Rattle.std.specs.Prelude.{◌≡◌, ◌≤◌, drop, length, IfOk};
 ghost use Rattle.pc_model.specs.declared.schema.Schema.{Schema};
 ghost use Rattle.pc_model.specs.Accepted.{AreConstraints};
 ghost use Rattle.pc_model.specs.Refusals.{Answers};
-ghost use Rattle.pc_model.specs.WellFormed.{IsWellFormed, HaveFewNames};
+ghost use Rattle.pc_model.specs.WellFormed.{IsWellFormed};
 ghost use Rattle.pc_script.specs.Reading.{CanTake};
 ghost use Rattle.pc_script.specs.Script.{added, added_row, added_rule, asked, dropped, dropped_row, dropped_rule, line_of};
 
@@ -28,7 +28,6 @@ pub(crate) fn line_of(
     text: &[u8],
 ) -> Result<Line, ReadStop>
     requires well_formed { IsWellFormed schema.now }
-    requires few_names { HaveFewNames schema.now.columns }
     requires accepted { AreConstraints schema.now known.now.constraints }
     ensures answers { Answers result (line_of schema.now known.now text.now) }
     ensures can { IfOk result (CanTake schema.now known.now) }
@@ -62,7 +61,6 @@ fn asked(alloc: Global, schema: &Schema, known: &Known, text: &[u8]) -> Result<L
 #[tactic(auto, unfolding(crate::specs::Script::added))]
 fn added(alloc: Global, schema: &Schema, known: &Known, text: &[u8]) -> Result<Line, ReadStop>
     requires well_formed { IsWellFormed schema.now }
-    requires few_names { HaveFewNames schema.now.columns }
     requires accepted { AreConstraints schema.now known.now.constraints }
     ensures answers { Answers result (added schema.now known.now text.now) }
     ensures can { IfOk result (CanTake schema.now known.now) }
@@ -93,9 +91,9 @@ fn dropped(alloc: Global, schema: &Schema, known: &Known, text: &[u8]) -> Result
     Err(ReadStop::Reason(Reason::Unexpected))
 }
 
-#[tactic(auto, unfolding(crate::specs::Script::added_row))]
+#[tactic(auto, using(pc_model::proofs::FewNames::have_few_names), unfolding(crate::specs::Script::added_row))]
 fn added_row(alloc: Global, schema: &Schema, known: &Known, text: &[u8]) -> Result<Line, ReadStop>
-    requires { HaveFewNames schema.now.columns }
+    requires { IsWellFormed schema.now }
     ensures answers { Answers result (added_row schema.now known.now.rows text.now) }
     ensures can { IfOk result (CanTake schema.now known.now) }
 {

@@ -1,7 +1,7 @@
 ghost use Rattle.std.specs.Prelude.{◌≡◌, ◌≤◌, [], length, IfOk};
 ghost use Rattle.pc_model.specs.Accepted.{AreConstraints};
 ghost use Rattle.pc_model.specs.Refusals.{Answers, Gives, placed};
-ghost use Rattle.pc_model.specs.WellFormed.{IsWellFormed, HaveFewNames};
+ghost use Rattle.pc_model.specs.WellFormed.{IsWellFormed};
 ghost use Rattle.pc_model.specs.declared.fault.FileKind.TheVariants as files;
 ghost use Rattle.pc_lang.specs.Files.{lines_of, without_return};
 ghost use Rattle.pc_session.specs.Edited.{CanFollowAll, Held};
@@ -38,7 +38,6 @@ pub fn read_script(
     bytes: &[u8],
 ) -> Result<Seq<Line>, Refusal>
     requires well_formed { IsWellFormed schema.now }
-    requires few_names { HaveFewNames schema.now.columns }
     requires accepted { AreConstraints schema.now constraints.now }
     ensures gives { Gives result (script_of schema.now (record { rows = rows.now; constraints = constraints.now }) bytes.now) }
     ensures can { IfOk result (CanFollowAll schema.now (record { rows = rows.now; constraints = constraints.now })) }
@@ -57,7 +56,6 @@ fn lines_of_text(
     text: &[u8],
 ) -> Result<Seq<Line>, Refusal>
     requires well_formed { IsWellFormed schema.now }
-    requires few_names { HaveFewNames schema.now.columns }
     requires accepted { AreConstraints schema.now constraints.now }
     ensures gives { Gives result (lines_from schema.now (record { rows = rows.now; constraints = constraints.now }) 1 [] (lines_of text.now)) }
     ensures can { IfOk result (CanFollowAll schema.now (record { rows = rows.now; constraints = constraints.now })) }
@@ -97,7 +95,6 @@ fn with_line_at(
     line: &[u8],
 ) -> Result<Reading, Refusal>
     requires well_formed { IsWellFormed schema.now }
-    requires few_names { HaveFewNames schema.now.columns }
     requires accepted { AreConstraints schema.now before.known.constraints }
     ensures gives { (start : Held) → IsReadingOf schema.now start before → GivesLines schema.now start result (placed files.Script place (with_line schema.now start before.lines (without_return line.now))) }
     ensures accepted { IfOk result (λ after. AreConstraints schema.now after.known.constraints) }
@@ -116,7 +113,6 @@ fn with_line(
     text: &[u8],
 ) -> Result<Reading, ReadStop>
     requires well_formed { IsWellFormed schema.now }
-    requires few_names { HaveFewNames schema.now.columns }
     requires accepted { AreConstraints schema.now before.known.constraints }
     ensures reads { (start : Held) → IsReadingOf schema.now start before → ReadsOn schema.now start result (with_line schema.now start before.lines text.now) }
     ensures accepted { IfOk result (λ after. AreConstraints schema.now after.known.constraints) }
@@ -148,7 +144,6 @@ fn line_at(
     text: &[u8],
 ) -> Result<Line, ReadStop>
     requires well_formed { IsWellFormed schema.now }
-    requires few_names { HaveFewNames schema.now.columns }
     requires accepted { AreConstraints schema.now known.now.constraints }
     ensures answers { Answers result (line_at schema.now count known.now text.now) }
     ensures can { IfOk result (CanTake schema.now known.now) }
