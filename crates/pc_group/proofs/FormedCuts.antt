@@ -1,5 +1,5 @@
 -- The cuts of a tree that is cut along boxes are in form.
-use Rattle.std.proofs.Common.{◌≡◌, ℕ, zero, suc, ◌+◌, ◌≤◌, ◌^◌, ◌&&◌, nat_lt, not, true, false, true≢false, List, [], ◌∷◌, ◌++◌, length, All, refl, sym, subst, ◌∙◌, arith, ltb-true}
+use Rattle.std.proofs.Common.{◌≡◌, ℕ, zero, suc, ◌+◌, ◌≤◌, ◌^◌, ◌&&◌, nat_lt, not, true, true≢false, List, [], ◌∷◌, ◌++◌, length, All, refl, sym, subst, ◌∙◌, arith, ltb-true}
 use Rattle.std.specs.Prelude.{ℤ, ◌≤ℤ◌, int_le, int_lt, nat_abs, slice_get, IfSome, IsSomeAnd}
 use Rattle.std.specs.Cmp.Lexicographic.{pointwise}
 use Rattle.std.specs.Int.Bits.{bit_and}

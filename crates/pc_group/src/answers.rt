@@ -41,6 +41,7 @@ pub fn answer_with(
     requires tree { IsTree schema.now shared.old.nodes }
     ensures tree { IsTree schema.now shared.new.nodes }
     ensures kept { KeepsInner shared.old.nodes shared.new.nodes }
+    ensures own { HasOwnCuts schema.now shared.old.nodes → HasOwnCuts schema.now shared.new.nodes }
     ensures divided { OnOk result (AreDividedFor schema.now constraints.now shared.new.nodes (wanted schema.now queries.now)) }
     ensures answers { IfOk result (λ document. AllZip (AnswersWanted nodes schema.now rows.now constraints.now) (wanted schema.now queries.now) (told document.blocks)) }
     ensures shared { IfOk result (λ document. AreOfTree shared.new.nodes (told document.blocks)) }

@@ -1,8 +1,9 @@
-//! The answers to several queries, grouped or not, over one tree of cuts.
+//! The answers to several queries, grouped or not, over one tree of cuts: one of their own, or that of a session.
 #![tactic(auto)]
 
 mod answering;
 mod answers;
+mod asking;
 mod blocks;
 mod narrowing;
 mod refining;
@@ -10,4 +11,5 @@ mod scope;
 mod wanted;
 
 pub use answers::{answer_all, answer_with};
+pub use asking::ask;
 pub use refining::refine_for_all;
