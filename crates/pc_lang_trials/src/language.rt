@@ -4,3 +4,4 @@ mod files;
 mod meaning;
 mod put;
 mod quantiles;
+mod scripts;
