@@ -12,10 +12,11 @@ use Rattle.pc_base.specs.Files.{Files, IsAbsent, file_of}
 use Rattle.pc_schema.specs.SchemaFile.{schema_of}
 use Rattle.pc_rows.specs.RowFile.{rows_of}
 use Rattle.pc_lang.specs.Files.{constraints_of}
-use Rattle.pc_run_words.specs.Words.{Asked, bound, prove, check, show, conflict, quantile, gen, command_of}
+use Rattle.pc_script.specs.Script.{script_of}
+use Rattle.pc_run_words.specs.Words.{Asked, bound, prove, check, show, conflict, quantile, session, gen, command_of}
 use Rattle.pc_run.specs.declared.input.Input.{Input}
-use Rattle.pc_run.specs.declared.input.Input.TheVariants.{Asks, Proves, Shows, Contradicts, Measures}
-use Rattle.pc_run.specs.Outcome.{Obstacle, refused, absent, NamedFile, files_of, Found, nothing, value_under, with_file, found_after, found_in, mapped, made, case_in, listing_in, measured_in, input_in, outcome_of, accepted_under, needed, whole}
+use Rattle.pc_run.specs.declared.input.Input.TheVariants.{Asks, Proves, Shows, Contradicts, Measures, Follows}
+use Rattle.pc_run.specs.Outcome.{Obstacle, refused, absent, NamedFile, files_of, Found, nothing, value_under, with_file, found_after, found_in, held_in, mapped, made, case_in, listing_in, measured_in, scripted_in, input_in, outcome_of, accepted_under, needed, whole}
 use Rattle.pc_run.specs.Replies.{SaysInput}
 use Rattle.pc_run.specs.Meaning.{Call, HasEnded, IsRefused, HasReadFault, Means, IsAnswer, IsAnswerable, IsAnswerUnlessMemory}
 use Rattle.pc_run.proofs.ReadFiles.{joined, needs}
@@ -31,6 +32,7 @@ absent_file found kinds.Schema name shelf none = rw (absent_value kinds.Schema n
 absent_file found kinds.Rows name shelf none = rw (absent_value kinds.Rows name (rows_of found.schema) shelf none) refl
 absent_file found kinds.Constraints name shelf none = rw (absent_value kinds.Constraints name (constraints_of found.schema) shelf none) refl
 absent_file found kinds.Document name shelf none = rw (absent_value kinds.Document name whole shelf none) refl
+absent_file found kinds.Script name shelf none = rw (absent_value kinds.Script name (script_of found.schema (held_in found)) shelf none) refl
 absent_file found kinds.Query name shelf none = refl
 
 stops_there : (read : Result Found Obstacle) (kind : FileKind) (name : List ℕ) (rest : List NamedFile) (shelf : Files) → file_of shelf name ≡ None → IsOk (read >>= λ found. found_after found ((kind, name) ∷ rest) shelf) → ⊥
@@ -87,6 +89,7 @@ is_done (check names) = inl refl
 is_done (show names) = refl
 is_done (conflict names) = refl
 is_done (quantile names) = refl
+is_done (session names) = refl
 is_done (gen numbers) = refl
 
 no_done : ended.SaidNo ≡ ended.Done → ⊥
@@ -106,6 +109,7 @@ said_of (check names) found said text is says = inr refl
 said_of (show names) found said text is says = absurd (not_said Shows (Ok (listing_in found)) said text (λ listing says. no_done says.0) is says)
 said_of (conflict names) found said text is says = absurd (not_said (Contradicts names.nodes) (Ok (listing_in found)) said text (λ listing says. no_done says.0) is says)
 said_of (quantile names) found said text is says = absurd (not_said (Measures names.nodes) (measured_in names.query found) said text (λ measured says. no_done says.0) is says)
+said_of (session names) found said text is says = absurd (not_said (Follows names.nodes) (Ok (scripted_in found)) said text (λ scripted says. no_done says.0) is says)
 said_of (gen numbers) found said text is says = absurd (not_said made (Ok numbers) said text (λ made says. no_done says.0) is says)
 
 said_after : (asked : Asked) (read : Result Found Obstacle) (said : Input) (text : List ℕ) → (read >>= input_in asked) ≡ Ok said → SaysInput said ended.SaidNo text → IsAnswer asked ended.SaidNo

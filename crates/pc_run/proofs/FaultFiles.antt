@@ -18,6 +18,9 @@ use Rattle.pc_rows.specs.RowFile.{places_from, cells_of, cells_at, rows_from, ro
 use Rattle.pc_rows.specs.Stored.{row_limit}
 use Rattle.pc_lang.specs.Files.{with_line_at, constraints_from, constraints_of, lines_of, query_at}
 use Rattle.pc_lang.specs.Quantiles.{quantile_at, quantile_from}
+use Rattle.pc_session.specs.declared.line.Line.{Line}
+use Rattle.pc_session.specs.Edited.{Held}
+use Rattle.pc_script.specs.Script.{lines_from, script_of}
 use Rattle.pc_run.specs.Outcome.{queries_from}
 
 abbrev pub IsOf : {X : Type 0} → FileKind → Result X Fault → Type 0
@@ -108,3 +111,17 @@ queries_of_words schema place (text ∷ texts) =
 
 pub quantile_of_word : (schema : Schema) (place : ℕ) (text : List ℕ) → IsOf kinds.Query (quantile_at schema place text)
 quantile_of_word schema place text = placed_of kinds.Query place (quantile_from schema text)
+
+-- ---- the script
+
+lines_of_script : (schema : Schema) (start : Held) (place : ℕ) (before : List Line) (texts : List (List ℕ)) → IsOf kinds.Script (lines_from schema start place before texts)
+unfolding lines_from
+lines_of_script schema start place before [] = tt
+lines_of_script schema start place before (text ∷ rest) =
+    then_of kinds.Script _ (λ after. lines_from schema start (place + 1) after rest) (placed_of kinds.Script place _) (λ after. lines_of_script schema start (place + 1) after rest)
+
+pub script_of_file : (schema : Schema) (start : Held) (bytes : List ℕ) → IsOf kinds.Script (script_of schema start bytes)
+unfolding script_of
+script_of_file schema start bytes =
+    then_of kinds.Script (placed kinds.Script 0 (text_of bytes)) (λ text. lines_from schema start 1 [] (lines_of text)) (placed_of kinds.Script 0 (text_of bytes))
+    (λ text. lines_of_script schema start 1 [] (lines_of text))

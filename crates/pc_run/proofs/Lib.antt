@@ -5,6 +5,7 @@ pub mod Chains
 pub mod Documents
 pub mod FaultFiles
 pub mod Files
+pub mod Following
 pub mod MadeCases
 pub mod Meanings
 pub mod Promises

@@ -8,7 +8,7 @@ use Rattle.pc_run_words.specs.Words.{Asked, command_of}
 use Rattle.pc_check.specs.declared.verdict.Verdict.{Verdict}
 use Rattle.pc_check.specs.declared.verdict.Verdict.TheVariants as verdicts
 use Rattle.pc_run.specs.declared.input.Input.{Input}
-use Rattle.pc_run.specs.declared.input.Input.TheVariants.{Asks, Proves, Claims, Shows, Contradicts, Measures, Makes}
+use Rattle.pc_run.specs.declared.input.Input.TheVariants.{Asks, Proves, Claims, Shows, Contradicts, Measures, Follows, Makes}
 use Rattle.pc_run.specs.Outcome.{Obstacle, refused, absent, files_of, ComesTo}
 use Rattle.pc_model.specs.declared.fault.Fault.{Fault}
 use Rattle.pc_run.specs.Reports.{malformed_line}
@@ -63,6 +63,7 @@ ends (Claims claim) status text says = subst IsEnd (sym says.ended) (verdict_end
 ends (Shows listing) status text says = inl says.0
 ends (Contradicts nodes listing) status text says = inl says.0
 ends (Measures nodes measured) status text says = inl says.0
+ends (Follows nodes scripted) status text says = inl says.0
 ends (Makes numbers) status text says = inl says.0
 
 ended_whole : (call : Call) (status : Status) → HasEnded call status → IsEnd status → Means call status

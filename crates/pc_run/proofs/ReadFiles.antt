@@ -10,6 +10,7 @@ use Rattle.pc_model.specs.declared.fault.FileKind.{FileKind}
 use Rattle.pc_model.specs.declared.fault.FileKind.TheVariants as kinds
 use Rattle.pc_model.specs.declared.fault.Refusal.{Refusal}
 use Rattle.pc_model.specs.declared.fault.Refusal.TheVariants as refusals
+use Rattle.pc_session.specs.declared.line.Line.{Line}
 use Rattle.pc_base.specs.Files.{Files}
 use Rattle.pc_base.specs.Loads.{Load}
 use Rattle.pc_base.specs.Shelves.{ShelfState, AreLoads}
@@ -54,6 +55,9 @@ with_constraints found constraints = record found { constraints = constraints }
 
 abbrev pub with_bytes : Found → List ℕ → Found
 with_bytes found bytes = record found { bytes = bytes }
+
+abbrev pub with_lines : Found → List Line → Found
+with_lines found lines = record found { lines = lines }
 
 -- what is made of what the file holds
 abbrev Holds : {X : Type 0} → Found → FileKind → List ℕ → (List ℕ → Result X Fault) → (X → Found) → Type 0

@@ -27,7 +27,7 @@ then_same (Err e) f g same = refl
 module _ (schema_name rows_name constraints_name : List ℕ) (shelf : Files) where
   -- three files, those after them, and what is made of all
   observed_is : (rest : List NamedFile) (meaning : Found → Result Input Obstacle) (last : Schema → List Row → List Constraint → Result Input Obstacle) →
-      ((schema : Schema) (rows : List Row) (constraints : List Constraint) → (found_after (record { schema = schema; rows = rows; constraints = constraints; bytes = [] }) rest shelf >>= meaning) ≡ last schema rows constraints) →
+      ((schema : Schema) (rows : List Row) (constraints : List Constraint) → (found_after (record { schema = schema; rows = rows; constraints = constraints; bytes = []; lines = [] }) rest shelf >>= meaning) ≡ last schema rows constraints) →
       (found_after nothing (observed_files schema_name rows_name constraints_name ++ rest) shelf >>= meaning) ≡ do
         schema ← value_under kinds.Schema schema_name schema_of shelf
         rows ← value_under kinds.Rows rows_name (rows_of schema) shelf
@@ -46,7 +46,7 @@ pub bound_is : (names : BoundNames) (shelf : Files) → accepted_under (bound na
   schema ← value_under kinds.Schema names.schema schema_of shelf
   rows ← value_under kinds.Rows names.rows (rows_of schema) shelf
   constraints ← value_under kinds.Constraints names.constraints (constraints_of schema) shelf
-  mapped (Asks names.nodes) (case_in names.queries (record { schema = schema; rows = rows; constraints = constraints; bytes = [] }))
+  mapped (Asks names.nodes) (case_in names.queries (record { schema = schema; rows = rows; constraints = constraints; bytes = []; lines = [] }))
 unfolding found_after
 bound_is names shelf = observed_is names.schema names.rows names.constraints shelf [] (input_in (bound names)) _ (λ schema rows constraints. refl)
 
@@ -59,7 +59,7 @@ pub check_is : (names : CheckNames) (shelf : Files) → accepted_under (check na
 unfolding found_after
 check_is names shelf =
     observed_is names.schema names.rows names.constraints shelf ((kinds.Document, names.document) ∷ []) (input_in (check names)) _ (λ schema rows constraints.
-    read_on (value_under kinds.Document names.document whole shelf) (with_bytes (record { schema = schema; rows = rows; constraints = constraints; bytes = [] })) (λ found. found_after found [] shelf) (input_in (check names)))
+    read_on (value_under kinds.Document names.document whole shelf) (with_bytes (record { schema = schema; rows = rows; constraints = constraints; bytes = []; lines = [] })) (λ found. found_after found [] shelf) (input_in (check names)))
 
 pub show_is : (names : ShowNames) (shelf : Files) → accepted_under (show names) shelf ≡ do
   schema ← value_under kinds.Schema names.schema schema_of shelf

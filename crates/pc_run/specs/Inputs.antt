@@ -6,9 +6,11 @@ use Rattle.pc_model.specs.Accepted.{AreConstraints, IsQuery}
 use Rattle.pc_model.specs.WellFormed.{IsWellFormed}
 use Rattle.pc_lang.specs.Quantiles.{IsQuantile}
 use Rattle.pc_rows.specs.declared.case.Case.{Case}
+use Rattle.pc_session.specs.Edited.{Held, CanFollowAll}
 use Rattle.pc_run_words.specs.declared.command.Bound.{Bound}
 use Rattle.pc_run_words.specs.declared.command.Check.{Check}
 use Rattle.pc_run_words.specs.declared.command.Quantile.{Quantile}
+use Rattle.pc_run_words.specs.declared.command.Session.{Session}
 use Rattle.pc_run_words.specs.declared.command.Show.{Show}
 use Rattle.pc_run_words.specs.declared.command.Command.{Command}
 use Rattle.pc_run_words.specs.declared.command.Command.TheVariants as commands
@@ -17,10 +19,11 @@ use Rattle.pc_run_words.specs.Words.{bound, quantile, IsBudget, IsSize}
 use Rattle.pc_run.specs.declared.stop.Stop.{Stop}
 use Rattle.pc_run.specs.declared.input.Claim.{Claim}
 use Rattle.pc_run.specs.declared.input.Input.{Input}
-use Rattle.pc_run.specs.declared.input.Input.TheVariants.{Asks, Proves, Claims, Shows, Contradicts, Measures, Makes}
+use Rattle.pc_run.specs.declared.input.Input.TheVariants.{Asks, Proves, Claims, Shows, Contradicts, Measures, Follows, Makes}
 use Rattle.pc_run.specs.declared.input.Listing.{Listing}
 use Rattle.pc_run.specs.declared.input.Measured.{Measured}
 use Rattle.pc_run.specs.declared.input.Observed.{Observed}
+use Rattle.pc_run.specs.declared.input.Scripted.{Scripted}
 use Rattle.pc_run.specs.Loading.{Reading, AreRead, IsRead}
 use Rattle.pc_run.specs.Outcome.{NamedFile, observed_files, listed_files, files_of, Found, case_in, listing_in, measured_in, input_in}
 
@@ -52,6 +55,17 @@ pub record IsMeasurable (measured : Measured) : Type 0 where
   pub accepted : AreConstraints measured.schema measured.constraints
   pub asked : IsQuantile measured.schema measured.asked
 
+-- what is held before the first line
+abbrev pub start_of : Scripted → Held
+start_of scripted = record { rows = scripted.rows; constraints = scripted.constraints }
+
+-- what a session and its reports need of what was read
+pub record IsFollowable (scripted : Scripted) : Type 0 where
+  pub well_formed : IsWellFormed scripted.schema
+  pub seen : AllPass (in_domain scripted.schema) scripted.rows
+  pub accepted : AreConstraints scripted.schema scripted.constraints
+  pub can : CanFollowAll scripted.schema (start_of scripted) scripted.lines
+
 -- what was read is as its command needs it
 abbrev pub IsSoundInput : Input → Type 0
 IsSoundInput (Asks nodes case) = IsSound case × IsBudget nodes
@@ -60,11 +74,12 @@ IsSoundInput (Claims claim) = IsCheckable claim
 IsSoundInput (Shows listing) = IsShowable listing
 IsSoundInput (Contradicts nodes listing) = IsShowable listing × IsBudget nodes
 IsSoundInput (Measures nodes measured) = IsMeasurable measured × IsBudget nodes
+IsSoundInput (Follows nodes scripted) = IsFollowable scripted × IsBudget nodes
 IsSoundInput (Makes numbers) = IsSize numbers.size
 
 -- the schema, the observed rows and the constraints that were found
 abbrev pub found_of : Observed → Found
-found_of observed = record { schema = observed.schema; rows = observed.rows; constraints = observed.constraints; bytes = [] }
+found_of observed = record { schema = observed.schema; rows = observed.rows; constraints = observed.constraints; bytes = []; lines = [] }
 
 -- what reading the first files of a command answers: what was found in them, or why they give nothing, whatever files follow
 abbrev pub ReadsObserved : Reading → List ℕ → List ℕ → List ℕ → Result Observed Stop → Type 0
@@ -80,6 +95,9 @@ ReadsCommand reading command result = IsRead reading (files_of (asked_in command
 
 abbrev pub ReadsClaim : Reading → Check → Result Input Stop → Type 0
 ReadsClaim reading command result = ReadsCommand reading (commands.Check command) result
+
+abbrev pub ReadsScripted : Reading → Session → Result Input Stop → Type 0
+ReadsScripted reading command result = ReadsCommand reading (commands.Session command) result
 
 abbrev pub ReadsListing : Reading → Show → Result Listing Stop → Type 0
 ReadsListing reading command result = IsRead reading (listed_files command.schema.now command.constraints.now) (λ found. Ok (listing_in found)) result

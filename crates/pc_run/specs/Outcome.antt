@@ -16,12 +16,16 @@ use Rattle.pc_schema.specs.SchemaFile.{schema_of}
 use Rattle.pc_rows.specs.RowFile.{rows_of}
 use Rattle.pc_lang.specs.Files.{constraints_of, query_at}
 use Rattle.pc_lang.specs.Quantiles.{quantile_at}
+use Rattle.pc_session.specs.declared.line.Line.{Line}
+use Rattle.pc_session.specs.Edited.{Held}
+use Rattle.pc_script.specs.Script.{script_of}
 use Rattle.pc_run.specs.declared.input.Claim.{Claim}
 use Rattle.pc_run.specs.declared.input.Input.{Input}
-use Rattle.pc_run.specs.declared.input.Input.TheVariants.{Asks, Proves, Claims, Shows, Contradicts, Measures, Makes}
+use Rattle.pc_run.specs.declared.input.Input.TheVariants.{Asks, Proves, Claims, Shows, Contradicts, Measures, Follows, Makes}
 use Rattle.pc_run.specs.declared.input.Listing.{Listing}
 use Rattle.pc_run.specs.declared.input.Measured.{Measured}
-use Rattle.pc_run_words.specs.Words.{GenNumbers, Asked, bound, prove, check, show, conflict, quantile, gen}
+use Rattle.pc_run.specs.declared.input.Scripted.{Scripted}
+use Rattle.pc_run_words.specs.Words.{GenNumbers, Asked, bound, prove, check, show, conflict, quantile, session, gen}
 
 -- a file or query that is refused, or a file that is not held
 pub data Obstacle : Type 0 where
@@ -41,6 +45,7 @@ limit_of kinds.Schema = file_limit
 limit_of kinds.Rows = file_limit
 limit_of kinds.Constraints = file_limit
 limit_of kinds.Query = file_limit
+limit_of kinds.Script = file_limit
 limit_of kinds.Document = document_limit
 
 -- the bytes of a file that is held and not too long
@@ -68,6 +73,7 @@ files_of (check names) = observed_files names.schema names.rows names.constraint
 files_of (show names) = listed_files names.schema names.constraints
 files_of (conflict names) = listed_files names.files.schema names.files.constraints
 files_of (quantile names) = observed_files names.schema names.rows names.constraints
+files_of (session names) = observed_files names.schema names.rows names.constraints ++ (kinds.Script, names.script) ∷ []
 files_of (gen numbers) = []
 
 -- how many files a command has
@@ -93,11 +99,16 @@ pub record Found : Type 0 where
   pub rows : List Row
   pub constraints : List Constraint
   pub bytes : List ℕ
+  pub lines : List Line
 
 abbrev pub nothing : Found
-nothing = record { schema = record { columns = [] }; rows = []; constraints = []; bytes = [] }
+nothing = record { schema = record { columns = [] }; rows = []; constraints = []; bytes = []; lines = [] }
 
--- one more file: rows and constraints are read with the schema that was found before them; no file is for queries
+abbrev pub held_in : Found → Held
+held_in found = record { rows = found.rows; constraints = found.constraints }
+
+-- One more file: rows and constraints are read with the schema that was found before them, and a script with all three; no file is
+-- for queries.
 abbrev pub with_file : Found → FileKind → List ℕ → Files → Result Found Obstacle
 with_file found kinds.Schema name shelf = do
   schema ← value_under kinds.Schema name schema_of shelf
@@ -111,6 +122,9 @@ with_file found kinds.Constraints name shelf = do
 with_file found kinds.Document name shelf = do
   bytes ← value_under kinds.Document name whole shelf
   Ok (record found { bytes = bytes })
+with_file found kinds.Script name shelf = do
+  lines ← value_under kinds.Script name (script_of found.schema (held_in found)) shelf
+  Ok (record found { lines = lines })
 with_file found kinds.Query name shelf = Err (absent kinds.Query)
 
 -- what these files give after what was found, or the first obstacle in their order
@@ -156,6 +170,9 @@ measured_in text found = do
   asked ← or_refused (quantile_at found.schema 1 text)
   Ok (record { schema = found.schema; rows = found.rows; constraints = found.constraints; asked = asked })
 
+abbrev pub scripted_in : Found → Scripted
+scripted_in found = record { schema = found.schema; rows = found.rows; constraints = found.constraints; lines = found.lines }
+
 abbrev pub made : GenNumbers → Input
 made numbers = Makes (record { seed = numbers.seed; size = numbers.size })
 
@@ -167,6 +184,7 @@ input_in (check names) found = Ok (Claims (claim_in found))
 input_in (show names) found = Ok (Shows (listing_in found))
 input_in (conflict names) found = Ok (Contradicts names.nodes (listing_in found))
 input_in (quantile names) found = mapped (Measures names.nodes) (measured_in names.query found)
+input_in (session names) found = Ok (Follows names.nodes (scripted_in found))
 input_in (gen numbers) found = Ok (made numbers)
 
 -- what files come to, by what is made of what was found in them

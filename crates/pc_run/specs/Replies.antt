@@ -1,5 +1,6 @@
 -- With which status and text a run replies to the files of a command.
 use Rattle.std.specs.Prelude.{◌≡◌, ◌↔◌, ℕ, ◌⊎◌, ⊤, Bool, false, IsTrue, List, [], length, All, Some, None, Result, Ok, Err, IfOk}
+use Rattle.std.specs.List.{AllZip, concat}
 use Rattle.pc_model.specs.declared.fault.FileKind.{FileKind}
 use Rattle.pc_model.specs.Membership.{AreDisjoint}
 use Rattle.pc_model.specs.Right.{is_impossible}
@@ -23,12 +24,13 @@ use Rattle.pc_quantile.specs.Licensed.{Owes}
 use Rattle.pc_quantile.specs.Texts.{block_text}
 use Rattle.pc_gen.specs.Generated.{generated_case}
 use Rattle.pc_rows.specs.declared.case.Case.{Case}
+use Rattle.pc_session.specs.Edited.{cases_of}
 use Rattle.pc_run.specs.declared.stop.Stop.{Stop}
 use Rattle.pc_run.specs.declared.stop.Stop.TheVariants as stops
 use Rattle.pc_run_words.specs.declared.command.Gen.{Gen}
 use Rattle.pc_run_words.specs.Words.{Asked, command_of, usual_nodes}
 use Rattle.pc_run.specs.Outcome.{Obstacle, refused, absent, files_of, file_count, ComesTo}
-use Rattle.pc_run.specs.Inputs.{IsSoundInput}
+use Rattle.pc_run.specs.Inputs.{IsSoundInput, start_of}
 use Rattle.pc_run.specs.Loading.{Reading, IsUnread, LoadsAll, EndsAt, AreInOrder, IsInOrder}
 use Rattle.pc_run.specs.declared.reply.Reply.{Reply}
 use Rattle.pc_num.specs.declared.memory.Memory.{Memory}
@@ -39,7 +41,7 @@ use Rattle.pc_check.specs.declared.verdict.Verdict.{Verdict}
 use Rattle.pc_check.specs.declared.verdict.Verdict.TheVariants as verdicts
 use Rattle.pc_run.specs.declared.input.Claim.{Claim}
 use Rattle.pc_run.specs.declared.input.Input.{Input}
-use Rattle.pc_run.specs.declared.input.Input.TheVariants.{Asks, Proves, Claims, Shows, Contradicts, Measures, Makes}
+use Rattle.pc_run.specs.declared.input.Input.TheVariants.{Asks, Proves, Claims, Shows, Contradicts, Measures, Follows, Makes}
 use Rattle.pc_run.specs.declared.input.Listing.{Listing}
 use Rattle.pc_run.specs.declared.input.Measured.{Measured}
 
@@ -149,6 +151,12 @@ pub record SaysQuantile (nodes : ℕ) (measured : Measured) (text : List ℕ) : 
   pub owes : Owes measured.schema measured.rows measured.constraints measured.asked nodes answer
   pub said : text ≡ block_text measured.schema (quantile_text measured.schema measured.asked) measured.asked answer
 
+-- the text is that of the reports of the cases, one after the other, and nothing else
+pub record SaysReports (nodes : ℕ) (cases : List Case) (text : List ℕ) : Type 0 where
+  pub texts : List (List ℕ)
+  pub each : AllZip (SaysReport nodes) cases texts
+  pub joined : text ≡ concat texts
+
 abbrev pub SaysInput : Input → Status → List ℕ → Type 0
 SaysInput (Asks nodes case) status text = (status ≡ ended.Done) × SaysReport nodes case text
 SaysInput (Proves nodes case) status text = (status ≡ ended.Done) × SaysProof nodes case text
@@ -156,6 +164,7 @@ SaysInput (Claims claim) status text = SaysVerdict claim status text
 SaysInput (Shows listing) status text = (status ≡ ended.Done) × SaysListing listing text
 SaysInput (Contradicts nodes listing) status text = (status ≡ ended.Done) × SaysConflict nodes listing text
 SaysInput (Measures nodes measured) status text = (status ≡ ended.Done) × SaysQuantile nodes measured text
+SaysInput (Follows nodes scripted) status text = (status ≡ ended.Done) × SaysReports nodes (cases_of scripted.schema (start_of scripted) scripted.lines) text
 SaysInput (Makes numbers) status text = (status ≡ ended.Done) × SaysSummary (made_case numbers) text
 
 -- the reply to files that are accepted, or refused

@@ -13,7 +13,7 @@ line_break = 10 ∷ []
 
 -- the commands of the whole language
 abbrev pub usage_line : List ℕ
-usage_line = codes "usage: pc bound|prove [--nodes N] SCHEMA ROWS CONSTRAINTS QUERY... | pc check SCHEMA ROWS CONSTRAINTS DOCUMENT | pc show SCHEMA CONSTRAINTS | pc gen SEED SIZE | pc conflict [--nodes N] SCHEMA CONSTRAINTS | pc quantile [--nodes N] SCHEMA ROWS CONSTRAINTS QUERY" ++ line_break
+usage_line = codes "usage: pc bound|prove [--nodes N] SCHEMA ROWS CONSTRAINTS QUERY... | pc check SCHEMA ROWS CONSTRAINTS DOCUMENT | pc show SCHEMA CONSTRAINTS | pc gen SEED SIZE | pc conflict [--nodes N] SCHEMA CONSTRAINTS | pc quantile [--nodes N] SCHEMA ROWS CONSTRAINTS QUERY | pc session [--nodes N] SCHEMA ROWS CONSTRAINTS SCRIPT" ++ line_break
 
 abbrev pub fault_line : FileKind → List ℕ
 fault_line file = concat (codes "read fault: " ∷ file_name_of file ∷ line_break ∷ [])

@@ -3,18 +3,22 @@ ghost use Rattle.pc_model.specs.Accepted.{IsQuery};
 ghost use Rattle.pc_model.specs.Refusals.{Gives};
 ghost use Rattle.pc_model.specs.WellFormed.{IsWellFormed};
 ghost use Rattle.pc_run_words.specs.Commands.{HasNumbers};
+ghost use Rattle.pc_run_words.specs.Words.{IsBudget};
 ghost use Rattle.pc_run.specs.Loading.{reading_of};
 ghost use Rattle.pc_run.specs.Outcome.{queries_of};
-ghost use Rattle.pc_run.specs.Inputs.{IsMeasurable, IsUsable, IsShowable, IsSound, IsSoundInput, ReadsCase, ReadsClaim, ReadsCommand, ReadsListing, ReadsMeasured, ReadsObserved};
+ghost use Rattle.pc_run.specs.Inputs.{IsMeasurable, IsUsable, IsShowable, IsSound, IsSoundInput, ReadsCase, ReadsClaim, ReadsCommand, ReadsListing, ReadsMeasured, ReadsObserved, ReadsScripted};
 
-use crate::loading::{load_bytes, load_constraints, load_rows, load_schema};
+use crate::loading::{load_bytes, load_constraints, load_rows, load_schema, load_script};
 use crate::stop::Stop;
 use pc_base::Shelf;
 use pc_lang::{Quantile, read_quantile, read_query};
 use pc_list::Seq;
 use pc_model::{Constraint, FileKind, Query, Refusal, Schema};
 use pc_rows::{Case, Rows};
-use pc_run_words::{Bound, Check, Command, Gen, Quantile as QuantileWords, Show};
+use pc_run_words::{
+    Bound, Check, Command, Gen, Quantile as QuantileWords, Session as SessionWords, Show,
+};
+use pc_session::Line;
 use std::alloc::Global;
 
 /// What is checked: the bytes of a document, and the schema, the observed rows and the constraints that it is for.
@@ -42,6 +46,15 @@ pub(crate) struct Measured {
     pub asked: Quantile,
 }
 
+/// What a session begins with: the schema, the observed rows and the constraints; and the lines that it follows.
+#[derive(Debug, Drop)]
+pub(crate) struct Scripted {
+    pub schema: Schema,
+    pub rows: Rows,
+    pub constraints: Seq<Constraint>,
+    pub lines: Seq<Line>,
+}
+
 /// The schema, the observed rows and the constraints of a command.
 #[derive(Debug, Drop)]
 pub(crate) struct Observed {
@@ -52,7 +65,7 @@ pub(crate) struct Observed {
 
 /// What a command comes to with its files: a case that is asked about, or answered with proofs, by searches of at most so
 /// many nodes each; a document that is checked; constraints that are shown, or asked whether they contradict each other; a
-/// quantile that is asked for; or a case that is made.
+/// quantile that is asked for; a script that is followed; or a case that is made.
 #[derive(Debug, Drop)]
 pub(crate) enum Input {
     Asks { nodes: u32, case: Case },
@@ -61,6 +74,7 @@ pub(crate) enum Input {
     Shows(Listing),
     Contradicts { nodes: u32, listing: Listing },
     Measures { nodes: u32, measured: Measured },
+    Follows { nodes: u32, scripted: Scripted },
     Makes(Gen),
 }
 
@@ -108,6 +122,7 @@ pub(crate) fn read_input<F: Shelf>(
             }),
             Err(stop) => Err(stop),
         },
+        Command::Session(command) => read_scripted(alloc, files, command),
         Command::Gen(command) => Ok(Input::Makes(*command)),
     }
 }
@@ -189,6 +204,36 @@ fn read_measured<F: Shelf>(
         rows: observed.rows,
         constraints: observed.constraints,
         asked,
+    })
+}
+
+/// Reads the files of `session`, the last of which is the script.
+fn read_scripted<F: Shelf>(
+    alloc: Global,
+    files: &mut F,
+    command: &SessionWords,
+) -> Result<Input, Stop>
+    requires { IsBudget command.now.nodes }
+    ensures read { ReadsScripted (reading_of F.told F.leads files.old files.new) command.now result }
+    ensures sound { IfOk result IsSoundInput }
+{
+    let observed = read_observed(
+        alloc,
+        files,
+        command.schema,
+        command.rows,
+        command.constraints,
+    )?;
+    let lines = load_script(alloc, files, command.script, &observed)?;
+    let scripted = Scripted {
+        schema: observed.schema,
+        rows: observed.rows,
+        constraints: observed.constraints,
+        lines,
+    };
+    Ok(Input::Follows {
+        nodes: command.nodes,
+        scripted,
     })
 }
 

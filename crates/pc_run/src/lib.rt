@@ -6,6 +6,7 @@ ghost use Rattle.pc_run.specs.Replies.{AreLoadsFor};
 ghost use Rattle.pc_run.specs.Meaning.{KeepsPromise, call_of, writing_of, after_failed_put};
 ghost use Rattle.pc_run.specs.Loading.{reading_of};
 
+mod follow;
 mod input;
 mod laws;
 mod line;

@@ -9,9 +9,13 @@ ghost use Rattle.pc_model.specs.WellFormed.{IsWellFormed, HaveFewNames};
 ghost use Rattle.pc_schema.specs.SchemaFile.{schema_of};
 ghost use Rattle.pc_rows.specs.RowFile.{rows_of};
 ghost use Rattle.pc_lang.specs.Files.{constraints_of};
-ghost use Rattle.pc_run.specs.Outcome.{limit_of, whole};
+ghost use Rattle.pc_session.specs.Edited.{CanFollowAll};
+ghost use Rattle.pc_script.specs.Script.{script_of};
+ghost use Rattle.pc_run.specs.Outcome.{held_in, limit_of, whole};
+ghost use Rattle.pc_run.specs.Inputs.{IsUsable, found_of};
 ghost use Rattle.pc_run.specs.Loading.{reading_of, IsLoaded};
 
+use crate::input::Observed;
 use crate::stop::Stop;
 use pc_base::{Loaded, Shelf};
 use pc_lang::read_constraints;
@@ -19,6 +23,8 @@ use pc_list::Seq;
 use pc_model::{Constraint, FILE_LIMIT, Fault, FileKind, Reason, Schema};
 use pc_rows::{Rows, read_rows};
 use pc_schema::read_schema;
+use pc_script::read_script;
+use pc_session::Line;
 use std::alloc::Global;
 
 /// The greatest number of bytes of a document.
@@ -103,4 +109,26 @@ pub(crate) fn load_constraints<F: Shelf>(
 {
     let bytes = load_bytes(alloc, files, FileKind::Constraints, name)?;
     Ok(read_constraints(alloc, schema, bytes.as_slice())?)
+}
+
+/// Loads and reads the lines of a script, which begin with what was observed.
+pub(crate) fn load_script<F: Shelf>(
+    alloc: Global,
+    files: &mut F,
+    name: &str,
+    observed: &Observed,
+) -> Result<Seq<Line>, Stop>
+    requires { IsUsable observed.now }
+    ensures loaded { IsLoaded (reading_of F.told F.leads files.old files.new) kinds.Script name.now (script_of observed.now.schema (held_in (found_of observed.now))) result }
+    ensures can { IfOk result (CanFollowAll observed.now.schema (held_in (found_of observed.now))) }
+{
+    let bytes = load_bytes(alloc, files, FileKind::Script, name)?;
+    let constraints = observed.constraints.as_slice();
+    Ok(read_script(
+        alloc,
+        &observed.schema,
+        &observed.rows,
+        constraints,
+        bytes.as_slice(),
+    )?)
 }

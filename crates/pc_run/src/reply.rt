@@ -5,6 +5,7 @@ ghost use Rattle.pc_run.specs.Inputs.{IsMeasurable, IsSound, IsSoundInput};
 ghost use Rattle.pc_run.specs.Loading.{reading_of};
 ghost use Rattle.pc_run.specs.Replies.{AnswersWords, AnswersCommand, RepliesToStop, SaysInput, SaysProof, SaysQuantile, SaysReport};
 
+use crate::follow::report_script;
 use crate::input::{Input, Measured, read_input};
 use crate::line::{fault_line, malformed_line, usage_line};
 use crate::making::summarize;
@@ -52,41 +53,45 @@ fn reply_to<F: Shelf>(alloc: Global, files: &mut F, command: &Command) -> Result
     ensures { AnswersCommand (reading_of F.told F.leads files.old files.new) (asked_in command.now) result }
 {
     match read_input(alloc, files, command) {
-        Ok(input) => reply_with(alloc, &input),
+        Ok(input) => reply_with(alloc, input),
         Err(stop) => reply_to_stop(alloc, stop),
     }
 }
 
 /// The reply where files give an input.
-fn reply_with(alloc: Global, input: &Input) -> Result<Reply, Memory>
-    requires { IsSoundInput input.now }
-    ensures { IfOk result (λ reply. SaysInput input.now reply.status reply.text.items) }
+fn reply_with(alloc: Global, input: Input) -> Result<Reply, Memory>
+    requires { IsSoundInput input }
+    ensures { IfOk result (λ reply. SaysInput input reply.status reply.text.items) }
 {
     match input {
         Input::Asks { nodes, case } => Ok(Reply {
             status: Status::Done,
-            text: report_case(alloc, case, *nodes)?,
+            text: report_case(alloc, &case, nodes)?,
         }),
         Input::Proves { nodes, case } => Ok(Reply {
             status: Status::Done,
-            text: prove_case(alloc, case, *nodes)?,
+            text: prove_case(alloc, &case, nodes)?,
         }),
-        Input::Claims(claim) => report_verdict(alloc, claim),
+        Input::Claims(claim) => report_verdict(alloc, &claim),
         Input::Shows(listing) => Ok(Reply {
             status: Status::Done,
-            text: report_listing(alloc, listing)?,
+            text: report_listing(alloc, &listing)?,
         }),
         Input::Contradicts { nodes, listing } => Ok(Reply {
             status: Status::Done,
-            text: report_conflict(alloc, listing, *nodes)?,
+            text: report_conflict(alloc, &listing, nodes)?,
         }),
         Input::Measures { nodes, measured } => Ok(Reply {
             status: Status::Done,
-            text: report_quantile(alloc, measured, *nodes)?,
+            text: report_quantile(alloc, &measured, nodes)?,
+        }),
+        Input::Follows { nodes, scripted } => Ok(Reply {
+            status: Status::Done,
+            text: report_script(alloc, scripted, nodes)?,
         }),
         Input::Makes(numbers) => Ok(Reply {
             status: Status::Done,
-            text: summarize(alloc, numbers)?,
+            text: summarize(alloc, &numbers)?,
         }),
     }
 }
