@@ -57,6 +57,7 @@ printf 'c1: branch = Chicago => price in 0.00..149.99, 0..5\n' >constraints
 printf 'a: day in 1..10 => true, 2..9\nb: branch = Chicago => true, 0..0\nc: day in 1..20 and branch in {NewYork, Trenton} => true, 0..1\n' >contrary
 printf 'a: day in 1..20 => price in 0.00..10.00, 3..10\nb: day in 5..10 => true, 2..4\n' >nested
 : >none
+printf 'ask sum(price)\nadd rule c2: true => price in 0.00..100.00, 0..3\nask sum(price)\nadd row Trenton,9,10.00\ndrop rule c1\nask sum(price)\n' >script
 "$pc" prove schema rows constraints 'sum(price)' >document
 
 all=0
@@ -94,6 +95,7 @@ try_each check schema rows constraints document
 try_each show schema constraints
 try_each conflict schema contrary
 try_each quantile schema rows constraints 'quantile(1, 2, price)'
+try_each session schema rows constraints script
 try_each bound --nodes 1 schema rows nested 'sum(price)'
 try_each gen 7 3
 echo "$all allocations refused one by one: $refused_all runs ended with status 6 and nothing written, the others as without"

@@ -10,4 +10,6 @@ mod first_cuts;
 #[cfg(test)]
 mod runs;
 #[cfg(test)]
+mod sessions;
+#[cfg(test)]
 mod trees;

@@ -12,7 +12,7 @@ use std::rt::Files;
 use trouble::Trouble;
 
 /// The folders of the examples.
-const EXAMPLES: [&str; 20] = [
+const EXAMPLES: [&str; 21] = [
     "shop",
     "shop-prove",
     "shop-check",
@@ -28,6 +28,7 @@ const EXAMPLES: [&str; 20] = [
     "overlap",
     "groups",
     "quantile",
+    "session",
     "always",
     "impossible",
     "conflict",

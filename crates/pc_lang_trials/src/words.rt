@@ -1,4 +1,4 @@
-use pc_run_words::{Bound, Check, Command, Conflict, Quantile, read_command};
+use pc_run_words::{Bound, Check, Command, Conflict, Quantile, Session, read_command};
 use std::alloc::Global;
 use std::test::Fail;
 
@@ -217,6 +217,32 @@ fn put_quantile(alloc: Global, told: &mut String, command: &Quantile<'_>) -> Res
     Ok(())
 }
 
+static SESSIONS: [(&str, &str); 14] = [
+    ("session s r c t", "session 10000 s r c t"),
+    ("session --nodes 5 s r c t", "session 5 s r c t"),
+    ("session s r --nodes=00005 c t", "session 5 s r c t"),
+    ("session s r c t --nodes 1", "session 1 s r c t"),
+    ("session --nodes 100001 s r c t", "-"),
+    ("session --nodes 0 s r c t", "-"),
+    ("session --nodes=5 --nodes 5 s r c t", "-"),
+    ("session s r c t --nodes", "-"),
+    ("session", "-"),
+    ("session s r c", "-"),
+    ("session s r c t t", "-"),
+    ("session s r c -t", "-"),
+    ("session -- s r c -t", "session 10000 s r c -t"),
+    ("sessions s r c t", "-"),
+];
+
+fn put_session(alloc: Global, told: &mut String, command: &Session<'_>) -> Result<(), Fail> {
+    let text = format!(in alloc;
+        "session {} {} {} {} {}",
+        command.nodes, command.schema, command.rows, command.constraints, command.script
+    )?;
+    told.push_str(text.as_str())?;
+    Ok(())
+}
+
 fn put_check(alloc: Global, told: &mut String, command: &Check<'_>) -> Result<(), Fail> {
     let text = format!(in alloc;
         "check {} {} {} {}",
@@ -238,6 +264,7 @@ fn told(alloc: Global, command: &Command<'_>) -> Result<String, Fail> {
         }
         Command::Conflict(command) => put_conflict(alloc, &mut told, command)?,
         Command::Quantile(command) => put_quantile(alloc, &mut told, command)?,
+        Command::Session(command) => put_session(alloc, &mut told, command)?,
         Command::Gen(command) => {
             let text = format!(in alloc; "gen {} {}", command.seed, command.size)?;
             told.push_str(text.as_str())?;
@@ -279,6 +306,9 @@ fn calls(rt: HostRuntime) -> Result<(), Fail> {
         assert!(rt; is_told(rt.alloc(), call, want)?, "{call}");
     }
     for (call, want) in QUANTILES.iter() {
+        assert!(rt; is_told(rt.alloc(), call, want)?, "{call}");
+    }
+    for (call, want) in SESSIONS.iter() {
         assert!(rt; is_told(rt.alloc(), call, want)?, "{call}");
     }
     for (call, want) in DRAWS.iter() {

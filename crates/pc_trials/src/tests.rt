@@ -16,6 +16,7 @@ mod nested;
 mod overlaps;
 mod quantiles;
 mod refused;
+mod sessions;
 mod shown;
 mod small_averages;
 mod sums;
@@ -36,7 +37,7 @@ const WORDS: [&str; 5] = ["bound", "s", "r", "c", "count"];
 const SHOW: [&str; 3] = ["show", "s", "c"];
 
 const USAGE: &str =
-    "usage: pc bound|prove [--nodes N] SCHEMA ROWS CONSTRAINTS QUERY... | pc check SCHEMA ROWS CONSTRAINTS DOCUMENT | pc show SCHEMA CONSTRAINTS | pc gen SEED SIZE | pc conflict [--nodes N] SCHEMA CONSTRAINTS | pc quantile [--nodes N] SCHEMA ROWS CONSTRAINTS QUERY\n";
+    "usage: pc bound|prove [--nodes N] SCHEMA ROWS CONSTRAINTS QUERY... | pc check SCHEMA ROWS CONSTRAINTS DOCUMENT | pc show SCHEMA CONSTRAINTS | pc gen SEED SIZE | pc conflict [--nodes N] SCHEMA CONSTRAINTS | pc quantile [--nodes N] SCHEMA ROWS CONSTRAINTS QUERY | pc session [--nodes N] SCHEMA ROWS CONSTRAINTS SCRIPT\n";
 
 /// A shelf that holds a schema, rows and constraints under the names of `WORDS`.
 fn shelf_of(alloc: Global, schema: &str, rows: &str, constraints: &str) -> Result<MemShelf, Fail> {

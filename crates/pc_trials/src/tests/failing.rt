@@ -9,9 +9,12 @@ const CONFLICT: [&str; 3] = ["conflict", "s", "c"];
 
 const QUANTILE: [&str; 5] = ["quantile", "s", "r", "c", "quantile(1, 2, price)"];
 
-/// A shelf of the shop and the document of its sum, the load of this number of which fails.
+const SESSION: [&str; 5] = ["session", "s", "r", "c", "t"];
+
+/// A shelf of the shop, the document of its sum and a script, the load of this number of which fails.
 fn shelf_failing(alloc: Global, load: Option<u64>) -> Result<MemShelf, Fail> {
     let mut shelf = shelf_with(alloc, &[FRONT, HIGH, RUN, BACK, "end\n"])?;
+    shelf.add("t", b"ask sum(price)\ndrop row 1\n")?;
     if let Some(number) = load {
         shelf.fail(number)?;
     }
@@ -31,7 +34,7 @@ fn ends_short(
     ends_in(alloc, words, shelf, sink, ending)
 }
 
-static LOADS_THAT_FAIL: [(&[&str], u64, &str); 15] = [
+static LOADS_THAT_FAIL: [(&[&str], u64, &str); 19] = [
     (&BOUND, 0, "read fault: schema\n"),
     (&BOUND, 1, "read fault: rows\n"),
     (&BOUND, 2, "read fault: constraints\n"),
@@ -47,6 +50,10 @@ static LOADS_THAT_FAIL: [(&[&str], u64, &str); 15] = [
     (&QUANTILE, 0, "read fault: schema\n"),
     (&QUANTILE, 1, "read fault: rows\n"),
     (&QUANTILE, 2, "read fault: constraints\n"),
+    (&SESSION, 0, "read fault: schema\n"),
+    (&SESSION, 1, "read fault: rows\n"),
+    (&SESSION, 2, "read fault: constraints\n"),
+    (&SESSION, 3, "read fault: script\n"),
 ];
 
 #[test]
@@ -56,7 +63,13 @@ fn loads_that_fail(rt: HostRuntime) -> Result<(), Fail> {
         let shelf = shelf_failing(rt.alloc(), Some(load))?;
         let ending = (line, Status::ReadFault);
         assert!(rt;
-            ends_after(rt.alloc(), words, shelf, ending, (load + 1, 1))?,
+            ends_after(
+                rt.alloc(),
+                words,
+                shelf,
+                ending,
+                (load.saturating_add(1), 1)
+            )?,
             "at {line}"
         );
     }
@@ -84,12 +97,13 @@ fn puts_of_a_read_fault_that_fail(rt: HostRuntime) -> Result<(), Fail> {
 }
 
 /// The words of a command, and the first seven bytes of its report, or all of a shorter one.
-static REPORTS_THAT_ARE_CUT: [(&[&str], &str); 5] = [
+static REPORTS_THAT_ARE_CUT: [(&[&str], &str); 6] = [
     (&BOUND, "query s"),
     (&PROVE, "pc 1\nqu"),
     (&CHECK, "yes\n"),
     (&CONFLICT, "conflic"),
     (&QUANTILE, "query q"),
+    (&SESSION, "query s"),
 ];
 
 #[test]
@@ -112,7 +126,7 @@ fn puts_of_a_report_that_fail(rt: HostRuntime) -> Result<(), Fail> {
     Ok(())
 }
 
-static COMMANDS: [&[&str]; 5] = [&BOUND, &PROVE, &CHECK, &CONFLICT, &QUANTILE];
+static COMMANDS: [&[&str]; 6] = [&BOUND, &PROVE, &CHECK, &CONFLICT, &QUANTILE, &SESSION];
 
 /// How many bytes of the line of a refusal its put keeps before it fails, if it fails, and what is then written.
 static REFUSALS_THAT_ARE_CUT: [(Option<u64>, &str); 3] = [

@@ -16,7 +16,7 @@ fn are_no_command(alloc: Global, words: &[&str]) -> Result<bool, Fail> {
     Ok(sink.kept.as_slice() == USAGE.as_bytes())
 }
 
-static WORDS_CASES: [&[&str]; 17] = [
+static WORDS_CASES: [&[&str]; 19] = [
     &["bound"],
     &[],
     &["show"],
@@ -34,6 +34,8 @@ static WORDS_CASES: [&[&str]; 17] = [
     &["conflict", "s", "r", "c"],
     &["quantile", "s", "r", "c"],
     &["quantile", "s", "r", "c", "quantile(1, 2, week)", "count"],
+    &["session", "s", "r", "c"],
+    &["session", "s", "r", "c", "t", "t"],
 ];
 
 #[test]
