@@ -9,3 +9,4 @@ pub mod Comparing
 pub mod Sums
 pub mod Rounding
 pub mod Rows
+pub mod PlainSizes

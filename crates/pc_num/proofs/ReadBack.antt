@@ -111,7 +111,7 @@ are_decimals : (k n : ℕ) → are_digits (decimals_of (suc k) n) ≡ true
 unfolding are_digits
 are_decimals k n = rw (decimals_digits (suc k) n, decimals_length (suc k) n, lt-ltb 0 (suc k) (omega arith), eq-eqb (suc k) (suc k) refl) refl
 
-decimals_after : (decimals : List ℕ) → are_digits decimals ≡ true → decimals_at (46 ∷ decimals) ≡ Some decimals
+pub decimals_after : (decimals : List ℕ) → are_digits decimals ≡ true → decimals_at (46 ∷ decimals) ≡ Some decimals
 decimals_after decimals h = rw h refl
 
 fraction_decimals : (k n : ℕ) → decimals_at (fraction_text k n) ≡ Some (decimals_of k n)
@@ -137,13 +137,13 @@ no_sign (digit ∷ digits) rest h all =
     let plus : (digit == 43) ≡ false = ne_eqb digit 43 (λ e. omega (arith, e)) in
     (minus, rw (minus, plus) refl)
 
-unsigned_back : (scale : ℕ) (minus : Bool) (digits rest decimals : List ℕ) → 0 < length digits → digits_len digits ≡ length digits → digits_len rest ≡ 0 → decimals_at rest ≡ Some decimals → scaled_unsigned scale minus (digits ++ rest) ≡ scaled_parts scale minus digits (Some decimals)
+pub unsigned_back : (scale : ℕ) (minus : Bool) (digits rest decimals : List ℕ) → 0 < length digits → digits_len digits ≡ length digits → digits_len rest ≡ 0 → decimals_at rest ≡ Some decimals → scaled_unsigned scale minus (digits ++ rest) ≡ scaled_parts scale minus digits (Some decimals)
 unsigned_back scale minus digits rest decimals some all after found =
     let size : digits_len (digits ++ rest) ≡ length digits = omega (arith, digits_len-append digits rest all) in
     let not_empty : (length digits == 0) ≡ false = ne_eqb (length digits) 0 (λ e. omega (arith, e)) in
     rw (size, not_empty, take-append_seam digits rest, drop-append_seam digits rest, found) refl
 
-parts_back : (scale : ℕ) (minus : Bool) (digits decimals : List ℕ) (size : ℕ) → has_decimals_past scale decimals ≡ false → scaled_size digits decimals scale ≡ size → size ≤ 10 ^ 15 → scaled_parts scale minus digits (Some decimals) ≡ Ok (signed minus size)
+pub parts_back : (scale : ℕ) (minus : Bool) (digits decimals : List ℕ) (size : ℕ) → has_decimals_past scale decimals ≡ false → scaled_size digits decimals scale ≡ size → size ≤ 10 ^ 15 → scaled_parts scale minus digits (Some decimals) ≡ Ok (signed minus size)
 parts_back scale minus digits decimals size within e small = rw (within, e, le-ltb greatest_size size small) refl
 
 size_value : (scale size : ℕ) (digits : List ℕ) → number_after 0 digits ≡ size / 10 ^ scale → scaled_size digits (decimals_of scale size) scale ≡ size

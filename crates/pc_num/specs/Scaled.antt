@@ -1,5 +1,5 @@
 -- Which number a decimal text spells, in units of its last place.
-use Rattle.std.specs.Prelude.{ℕ, zero, suc, ◌+◌, ◌-◌, ◌*◌, ◌^◌, ◌==◌, ◌&&◌, ◌||◌, not, ℤ, pos, neg_ℤ, Bool, true, false, List, [], ◌∷◌, ◌++◌, take, drop, length, Option, Some, None, Result, Ok, Err, nat_lt, if◌then◌else◌}
+use Rattle.std.specs.Prelude.{ℕ, zero, suc, ◌≡◌, ◌≤◌, ◌+◌, ◌-◌, ◌*◌, ◌^◌, ◌==◌, ◌&&◌, ◌||◌, not, ℤ, pos, neg_ℤ, Bool, true, false, List, [], ◌∷◌, ◌++◌, take, drop, length, Option, Some, None, Result, Ok, Err, nat_lt, if◌then◌else◌}
 use Rattle.std.specs.List.{list_any}
 use Rattle.std.specs.Char.{is_ascii_digit}
 use Rattle.pc_num.specs.declared.scaled.NumFault.{NumFault}
@@ -31,6 +31,11 @@ without_sign (byte ∷ rest) = if (byte == 45) || (byte == 43) then rest else by
 abbrev pub decimals_at : List ℕ → Option (List ℕ)
 decimals_at [] = Some []
 decimals_at (byte ∷ rest) = if (byte == 46) && are_digits rest then Some rest else None
+
+-- what follows a point
+abbrev pub after_point : List ℕ → Option (List ℕ)
+after_point [] = None
+after_point (byte ∷ rest) = if byte == 46 then Some rest else None
 
 -- is a decimal past the scale not 0?
 abbrev pub has_decimals_past : ℕ → List ℕ → Bool
@@ -72,3 +77,8 @@ scaled_unsigned scale minus number =
 -- the number that the text spells at a scale, or its first fault
 unfoldable pub scaled_of : ℕ → List ℕ → Result ℤ NumFault
 scaled_of scale text = scaled_unsigned scale (starts_with_minus text) (without_sign text)
+
+-- a size that is the whole answer, unless it passes the limit
+abbrev pub scaled_plainly : ℕ → List ℕ → ℕ → Type 0
+scaled_plainly scale number size =
+    size ≤ greatest_size → (minus : Bool) → scaled_unsigned scale minus number ≡ Ok (signed minus size)

@@ -6,6 +6,7 @@ mod fit;
 mod fraction;
 mod memory;
 mod order;
+mod plain;
 mod put;
 mod scaled;
 

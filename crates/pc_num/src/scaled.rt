@@ -1,7 +1,8 @@
-ghost use Rattle.std.specs.Prelude.{◌≡◌, ◌≤◌, ◌+◌, ◌-◌, ◌*◌, ◌^◌, length, min, IfOk, unsigned_abs, option_copied, Some};
+ghost use Rattle.std.specs.Prelude.{◌≡◌, ◌≤◌, ◌+◌, ◌-◌, ◌*◌, ◌^◌, length, min, IfOk, IfSome, unsigned_abs, option_copied, Some, Ok};
 ghost use Rattle.pc_num.specs.Spelling.{Spells};
 ghost use Rattle.pc_num.specs.Scaled.{are_digits, decimals_at, digits_len, greatest_size, has_decimals_past, number_after, scaled_of, scaled_parts, scaled_size, scaled_unsigned, signed, starts_with_minus, without_sign};
 
+use crate::plain::plain_size;
 use thiserror::Error;
 
 /// Why a text is not read as a number.
@@ -26,7 +27,24 @@ pub fn read_scaled(text: &[u8], scale: u8) -> Result<i64, NumFault>
     ensures spelled { IfOk result (Spells text.now scale) }
     ensures small { IfOk result (λ n. unsigned_abs n ≤ 10 ^ 15) }
 {
-    read_unsigned(starts_with_minus(text), without_sign(text), scale)
+    let minus = starts_with_minus(text);
+    let number = without_sign(text);
+    match plain_number(minus, number, scale) {
+        Some(number) => Ok(number),
+        None => read_unsigned(minus, number, scale),
+    }
+}
+
+// A short way for what most files hold: digits alone, or a point and all decimals of the scale after them.
+fn plain_number(minus: bool, number: &[u8], scale: u8) -> Option<i64>
+    ensures value { IfSome result (λ n. scaled_unsigned scale minus number.now ≡ Ok n) }
+    ensures small { IfSome result (λ n. unsigned_abs n ≤ 10 ^ 15) }
+{
+    let size = plain_size(number, scale)?;
+    if size > LIMIT {
+        return None;
+    }
+    Some(signed(minus, size))
 }
 
 // The number of a text without its sign.
@@ -121,7 +139,7 @@ fn decimals_at(rest: &[u8]) -> Option<&[u8]>
 }
 
 // The number with one digit more, where LIMIT + 1 stands for everything past LIMIT.
-fn with_digit(number: u64, digit: u8) -> u64
+pub(crate) fn with_digit(number: u64, digit: u8) -> u64
     requires { number ≤ greatest_size + 1 }
     ensures { result ≡ min (10 * number + (digit - 48)) (greatest_size + 1) }
 {
