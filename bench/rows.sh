@@ -1,6 +1,8 @@
 #!/usr/bin/env bash
 # Times `pc bound` on 1,000,000 rows of 12 columns, once of whole numbers and once of 128 names each, and prints time
-# and peak memory as ratios to sqlite3's import of the same file in the same run. Then it takes the processor seconds of
+# and peak memory as ratios to sqlite3's import of the same file in the same run, to mawk, which splits the lines and adds
+# up one column, and to the reader of Python's csv module. Of 200,000 rows of numbers it counts instructions as well, where
+# valgrind is there. Then it takes the processor seconds of
 # answers over the numbers under 20 disjoint constraints beside those of the same command with a query that is no query,
 # which ends after the files are read, and prints the share of the answer in the whole. Run ./build first.
 # Usage: bench/rows.sh [RUNS]
@@ -30,6 +32,21 @@ rows() {
   }'
 }
 
+# what mawk and Python do with a file
+cat > mawk_reads <<'SH'
+#!/bin/sh
+exec mawk -F, 'NR > 1 { sum += $1 } END { print sum }' "$1"
+SH
+cat > python3_reads <<'SH'
+#!/usr/bin/env python3
+import csv, sys
+with open(sys.argv[1], newline="") as file:
+    for _ in csv.reader(file):
+        pass
+SH
+chmod +x mawk_reads python3_reads
+PATH=$PATH:$work
+
 # measure COMMAND..: seconds and peak kilobytes of one run
 measure() {
   python3 - "$@" <<'PY'
@@ -56,6 +73,11 @@ compare() {
     else
       line="$line; sqlite3 is missing, so there is no ratio"
     fi
+    for peer in mawk python3; do
+      command -v "$peer" >/dev/null || continue
+      theirs=$(measure "${peer}_reads" "$1.csv")
+      line="$line; $peer ${theirs% *} s, time $(awk "BEGIN { printf \"%.2f\", ${ours% *} / ${theirs% *} }")"
+    done
     echo "$line; memory over the file $(awk "BEGIN { printf \"%.2f\", ${ours#* } * 1024 / $(wc -c < "$1.csv") }")"
   done
 }
@@ -64,6 +86,28 @@ for column in ${columns//,/ }; do echo "$column,int,0,99999"; done > numbers.sch
 rows %d 10000 > numbers.csv
 printf 'p: a in 0..49999 => b in 0..9, 1..3\nq: a in 50000..99999 => true, 0..2\n' > numbers.constraints
 compare numbers
+
+# instructions COMMAND..: how many millions it takes, whatever its status
+instructions() {
+  valgrind --tool=callgrind --callgrind-out-file=counted "$@" > /dev/null 2>&1 < /dev/null || true
+  awk '/^totals: / { printf "%d", $2 / 1000000 }' counted
+}
+
+if command -v valgrind >/dev/null; then
+  head -200001 numbers.csv > part.csv
+  echo "200,000 rows of numbers, $(wc -c < part.csv) bytes, millions of instructions:"
+  ours=$(instructions "$top/pc" bound numbers.schema part.csv numbers.constraints count)
+  line="  pc $ours"
+  if command -v mawk >/dev/null; then
+    theirs=$(instructions mawk -F, 'NR > 1 { sum += $1 } END { print sum }' part.csv)
+    line="$line; mawk $theirs, ratio $(awk "BEGIN { printf \"%.2f\", $ours / $theirs }")"
+  fi
+  if command -v sqlite3 >/dev/null; then
+    theirs=$(instructions sqlite3 :memory: ".import --csv part.csv t")
+    line="$line; sqlite3 into memory $theirs, ratio $(awk "BEGIN { printf \"%.2f\", $ours / $theirs }")"
+  fi
+  echo "$line"
+fi
 
 names=$(for name in $(seq 0 127); do printf ',n%d' "$name"; done)
 for column in ${columns//,/ }; do echo "$column,cat$names"; done > names.schema

@@ -14,6 +14,7 @@ use Rattle.pc_branch.specs.declared.outcome.Outcome.TheVariants.{Best, Nothing, 
 use Rattle.pc_branch.specs.declared.search.Found.{Found}
 use Rattle.pc_branch.specs.declared.search.Hand.{Hand}
 use Rattle.pc_branch.specs.declared.search.Search.{Search}
+use Rattle.pc_branch.specs.declared.visited.Visited.{Visited}
 use Rattle.pc_branch.specs.Grown.{visited_at, value_of, IsParted}
 use Rattle.pc_branch.specs.Searching.{IsSearching, closed_at}
 
@@ -135,6 +136,43 @@ is_over s bound = is_worth s.found bound || is_above s.halted bound
 
 abbrev pub unless_over : Search → Hand → Option Hand
 unless_over s hand = cond (is_over s hand.bound) None (Some hand)
+
+-- the first of two children can be split, and the other cannot or has the lesser bound
+abbrev pub is_better : List Visited → ℕ → Bool
+is_better visited first =
+    is_parted (visited_at visited first).known
+    && (not (is_parted (visited_at visited (first + 1)).known) || int_lt (visited_at visited (first + 1)).bound (visited_at visited first).bound)
+
+-- a node that is found, unless the search is over
+abbrev pub hand_unless : Search → Option Hand → Option Hand
+hand_unless s None = None
+hand_unless s (Some hand) = unless_over s hand
+
+-- the best open node is taken, after a node in hand was let go
+abbrev pub let_go : ℕ → Search → Search
+let_go node s = with_taken (settled node s)
+
+abbrev pub state_by : Option Hand → ℕ → Search → Search
+state_by (Some hand) node s = s
+state_by None node s = let_go node s
+
+abbrev pub hand_by : Option Hand → ℕ → Search → Option Hand
+hand_by (Some hand) node s = unless_over s hand
+hand_by None node s = hand_unless (let_go node s) (next_hand (settled node s).frontier)
+
+-- what picking the next node makes of a search with a node in hand, and that node
+abbrev pub picked_state : ℕ → Search → Search
+picked_state node s = state_by (kept_hand node (pruned_by s)) node (pruned_by s)
+
+abbrev pub picked_hand : ℕ → Search → Option Hand
+picked_hand node s = hand_by (kept_hand node (pruned_by s)) node (pruned_by s)
+
+-- the child that is let go first, and the one that is gone on with
+abbrev pub other_child : List Visited → ℕ → ℕ
+other_child visited first = cond (is_better visited first) (first + 1) first
+
+abbrev pub wanted_child : List Visited → ℕ → ℕ
+wanted_child visited first = cond (is_better visited first) first (first + 1)
 
 -- ---- what an ended search answers
 

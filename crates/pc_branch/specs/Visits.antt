@@ -63,6 +63,10 @@ rooted root f = record { frontier = with_root f; visited = root.node ∷ []; fou
 abbrev pub IsBroken : List Frac → ℕ → Type 0
 IsBroken point cell = (cell < length point) × ((count_at point cell).den ≡ pos 1 → ⊥)
 
+-- all counts before a place are whole
+abbrev pub AreWholeBelow : List Frac → ℕ → Type 0
+AreWholeBelow point n = (i : ℕ) → i < n → (count_at point i).den ≡ pos 1
+
 -- the node is parted at the cell and its count, rounded down
 pub record IsPartingVisit (point : List Frac) (cell : ℕ) (mult : Mult) (bound : ℤ) (v : Visit) : Type 0 where
   pub at : ℕ

@@ -1,9 +1,9 @@
-ghost use Rattle.std.specs.Prelude.{◌≡◌, ◌≤ℤ◌, ◌<◌, ◌^◌, ℕ, pos, nat_abs, length, MatchOption, IfOk};
+ghost use Rattle.std.specs.Prelude.{◌≡◌, ◌≤ℤ◌, ◌<◌, ◌^◌, ℕ, pos, nat_abs, length, MatchOption, IfOk, IfSome};
 ghost use Rattle.std.specs.Int.{int_div_euclid};
 ghost use Rattle.pc_simplex.specs.Vertices.{count_at};
 ghost use Rattle.pc_branch.specs.Licence.{IsWhole};
 ghost use Rattle.pc_branch.specs.Ends.{whole_counts};
-ghost use Rattle.pc_branch.specs.Visits.{IsBroken};
+ghost use Rattle.pc_branch.specs.Visits.{AreWholeBelow, IsBroken};
 
 use pc_list::Seq;
 use pc_num::{Frac, Memory};
@@ -11,7 +11,8 @@ use std::alloc::Global;
 
 /// The first cell whose count is not whole.
 pub(crate) fn first_broken(point: &[Frac]) -> Option<usize>
-    ensures { MatchOption result (IsWhole point.now) (IsBroken point.now) }
+    ensures broken { MatchOption result (IsWhole point.now) (IsBroken point.now) }
+    ensures first { IfSome result (AreWholeBelow point.now) }
 {
     for (cell, count) in point.iter().enumerate() {
         if count.den != 1 {

@@ -2,7 +2,7 @@ ghost use Rattle.std.specs.Prelude.{◌≡◌, ◌<◌, ◌+◌, ℤ, ◌∷◌,
 ghost use Rattle.pc_program_bound.specs.declared.program.Program.{Program};
 ghost use Rattle.pc_frontier.specs.Frontier.{IsInHand, IsKept};
 ghost use Rattle.pc_branch.specs.Grown.{visited_at};
-ghost use Rattle.pc_branch.specs.Steps.{budget_of, is_parted, is_above, kept_hand, unless_over, IsSearch, IsAt, IsDivided, considered, settled, pruned_by, with_taken, next_hand, is_worth, raised, value_found};
+ghost use Rattle.pc_branch.specs.Steps.{budget_of, is_parted, is_above, kept_hand, unless_over, IsSearch, IsAt, IsDivided, considered, settled, pruned_by, with_taken, next_hand, is_better, picked_state, picked_hand, wanted_child, other_child, is_worth, raised, value_found};
 
 use crate::visited::{Known, Visited};
 use pc_frontier::Frontier;
@@ -117,6 +117,8 @@ impl Search {
     pub(crate) fn pick(&mut self, node: u32) -> Option<Hand>
         requires hand { IsInHand self.old.frontier node }
         requires there { node < length self.old.visited }
+        ensures state { self.new ≡ picked_state node self.old }
+        ensures hand { result ≡ picked_hand node self.old }
         ensures next { (p : Program) (level : ℤ) → IsSearch p self.old (node ∷ []) level → IsAt p self.new result }
         ensures budget { budget_of self.new ≡ budget_of self.old }
         ensures room { self.new.frontier.room ≡ self.old.frontier.room }
@@ -138,6 +140,8 @@ impl Search {
         requires less { IsInHand self.old.frontier first }
         requires more { IsInHand self.old.frontier (first + 1) }
         requires there { first + 1 < length self.old.visited }
+        ensures state { self.new ≡ picked_state (wanted_child self.old.visited first) (settled (other_child self.old.visited first) self.old) }
+        ensures hand { result ≡ picked_hand (wanted_child self.old.visited first) (settled (other_child self.old.visited first) self.old) }
         ensures next { (p : Program) (level : ℤ) → IsDivided p self.old first level → IsAt p self.new result }
         ensures budget { budget_of self.new ≡ budget_of self.old }
         ensures room { self.new.frontier.room ≡ self.old.frontier.room }
@@ -155,6 +159,7 @@ impl Search {
 fn is_better(visited: &[Visited], first: u32) -> bool
     requires few { first < 4_000_000_000 }
     requires there { first + 1 < length visited.now }
+    ensures { result ≡ is_better visited.now first }
 {
     let (less, less_bound) = stance(visited, first);
     let (more, more_bound) = stance(visited, first + 1);

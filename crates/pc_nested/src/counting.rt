@@ -1,4 +1,4 @@
-ghost use Rattle.std.specs.Prelude.{◌≡◌, ◌*◌, ◌<◌, ◌≤◌, ◌^◌, ◌*ℤ◌, ℕ, pos, nat_abs, length, IfOk};
+ghost use Rattle.std.specs.Prelude.{◌≡◌, ◌*◌, ◌<◌, ◌≤◌, ◌^◌, ◌*ℤ◌, ℕ, pos, cond, int_lt, nat_abs, length, IfOk};
 ghost use Rattle.pc_program_bound.specs.Sums.{nat_at, int_at};
 ghost use Rattle.pc_program_bound.specs.Allocation.{cells_of, worth, IsProgram};
 ghost use Rattle.pc_nested.specs.Filled.{AreSmall, AreBelow, IsChosen};
@@ -38,7 +38,8 @@ fn chosen_end(p: &Program, lows: &[u64], highs: &[u64], cell: usize) -> u64
     requires sized_highs { length highs.now ≡ cells_of p.now }
     requires ordered { AreBelow p.now lows.now highs.now }
     requires cell { cell < cells_of p.now }
-    ensures { IsChosen (int_at p.now.gain cell) (nat_at lows.now cell) (nat_at highs.now cell) (pos 0) result }
+    ensures chosen { IsChosen (int_at p.now.gain cell) (nat_at lows.now cell) (nat_at highs.now cell) (pos 0) result }
+    ensures end { result ≡ cond (int_lt (pos 0) (int_at p.now.gain cell)) (nat_at highs.now cell) (nat_at lows.now cell) }
 {
     if gain_of(p, cell) > 0 {
         return highs[cell];

@@ -1,4 +1,4 @@
-use Rattle.pc_branch.proofs.Broken.{AreWholeBelow}
+use Rattle.pc_branch.specs.Visits.{AreWholeBelow}
 use Rattle.pc_branch.proofs.point.first_broken.Given as goal
 
 abbrev pub invariant-loop-cell : goal.invariant-loop-cell
