@@ -7,18 +7,23 @@
 # the leaves between the families; and how many cuts the last constraint takes in a tree that is settled for the others,
 # over the four per column and leaf that it may take. It proves and builds crates/pc_bench first, and measures with Debian's
 # `time`.
-# Usage: bench/cells.sh
+# Usage: bench/cells.sh [BINARY]   (BINARY: another build of pc_bench, which is measured in place of this one)
 set -eu
 top=$(cd "$(dirname "$0")/.." && pwd)
 [ -x /usr/bin/time ] || { echo "bench/cells.sh: it needs /usr/bin/time" >&2; exit 1; }
-cd "$top/crates/pc_bench"
-rt run -- cells nested 1 1 > /dev/null 2>&1
+if [ $# -gt 0 ]; then
+  ours=$(realpath "$1")
+else
+  cd "$top/crates/pc_bench"
+  rt run -- cells nested 1 1 > /dev/null 2>&1
+  ours=$PWD/out/pc_bench
+fi
 work=$(mktemp -d)
 trap 'rm -rf "$work"' EXIT
 
 # a family, a number of constraints, and how often the domain is divided in one run
 while read -r family constraints times; do
-  said=$(/usr/bin/time -f '%e %M' -o "$work/used" out/pc_bench cells "$family" "$constraints" "$times")
+  said=$(/usr/bin/time -f '%e %M' -o "$work/used" "$ours" cells "$family" "$constraints" "$times")
   read -r seconds memory < "$work/used"
   echo "$family $constraints $times $seconds $memory $said"
 done <<'PLANS' | tee "$work/all" | awk '{
@@ -52,7 +57,7 @@ awk '{ leaf[$1 " " $2] = $4 / $3 / $7 } END {
   printf "a leaf of twelve 20 over one of twelve 12: %.2f\n", leaf["twelve 20"] / leaf["twelve 12"]
 }' "$work/all"
 while read -r family constraints; do
-  echo "$family $constraints $(out/pc_bench cells "$family" "$constraints" 0)"
+  echo "$family $constraints $("$ours" cells "$family" "$constraints" 0)"
 done <<'PLANS' | awk '{ printf "%s %d: the last one takes %d cuts in %d leaves, %.4f of what it may take\n", $1, $2, $4, $6, $4 / (4 * $8 * $6) }'
 nested 20
 three 20

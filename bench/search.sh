@@ -8,18 +8,22 @@
 # Seconds are of the processor, so that other work on the machine counts little: the least of five runs, or the first where
 # that takes a second, less those of a program with one cell and one constraint, which are those of starting. Less than a
 # thousandth of a second counts as one. The limits are 60 seconds of the clock for ours and 5 for a peer.
-# Usage: bench/search.sh
+# Usage: bench/search.sh [BINARY]   (BINARY: another build of pc_bench, which is measured in place of this one)
 set -eu
 export LC_ALL=C
 top=$(cd "$(dirname "$0")/.." && pwd)
 [ -x /usr/bin/time ] || { echo "bench/search.sh: it needs /usr/bin/time" >&2; exit 1; }
-cd "$top/crates/pc_bench"
-if ! said=$(rt run -- search data/six-triangles.prog 10000 2>&1); then
-  printf '%s\n' "$said" >&2
-  echo "bench/search.sh: pc_bench was not proved or not built" >&2
-  exit 1
+if [ $# -gt 0 ]; then
+  ours=$(realpath "$1")
+else
+  cd "$top/crates/pc_bench"
+  if ! said=$(rt run -- search data/six-triangles.prog 10000 2>&1); then
+    printf '%s\n' "$said" >&2
+    echo "bench/search.sh: pc_bench was not proved or not built" >&2
+    exit 1
+  fi
+  ours=$PWD/out/pc_bench
 fi
-ours=$PWD/out/pc_bench
 work=$(mktemp -d)
 trap 'rm -rf "$work"' EXIT
 cd "$work"
