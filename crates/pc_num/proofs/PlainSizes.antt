@@ -1,11 +1,11 @@
 -- Texts of digits, and of digits with a point and as many decimals as the scale has.
-use Rattle.std.proofs.Common.{◌≡◌, ◌≤◌, ◌<◌, inl, inr, ℕ, zero, suc, ◌+◌, ◌-◌, List, [], ◌∷◌, ◌++◌, length, drop, take, get_or, min, ◌*◌, add-one, drop-cons, arith, refl, ap, ◌∙◌, Bool, true, false, sym, subst, length-drop}
+use Rattle.std.proofs.Common.{◌≡◌, ◌≤◌, ◌<◌, inl, inr, ℕ, zero, suc, ◌+◌, ◌-◌, List, [], ◌∷◌, ◌++◌, length, drop, take, get_or, ◌*◌, add-one, drop-cons, arith, refl, ap, ◌∙◌, Bool, true, false, sym, subst, length-drop}
 use Rattle.std.specs.Prelude.{Ok, Option, Some, None, IfSome, ◌==◌}
 use Rattle.std.specs.Char.{is_ascii_digit}
 use Rattle.std.proofs.lemmas.Bool.{cases_Bool, eq-eqb, eqb-true, lt-ltb}
 use Rattle.std.proofs.lemmas.List.{append-nil, drop_all, take-append-drop}
 use Rattle.pc_num.specs.Scaled.{after_point, are_digits, digits_len, greatest_size, has_decimals_past, number_after, padded, scaled_parts, scaled_plainly, scaled_size, scaled_unsigned, signed}
-use Rattle.pc_num.proofs.Numbers.{number_after-append, number_after-capped, number_after-end, number_after-step}
+use Rattle.pc_num.proofs.Numbers.{number_after-append, number_after-end}
 use Rattle.pc_num.proofs.ReadBack.{parts_back, unsigned_back, decimals_after}
 
 padded_whole : (scale : ℕ) (decimals : List ℕ) → length decimals ≡ scale → padded scale decimals ≡ decimals
@@ -19,10 +19,10 @@ whole_scaled : (number : List ℕ) → scaled_size number [] 0 ≡ number_after 
 unfolding scaled_size padded
 whole_scaled number = rw (append-nil number) refl
 
-pub plain_whole : (number : List ℕ) (size : ℕ) → 0 < length number → digits_len number ≡ length number → size ≡ min (number_after 0 number) (greatest_size + 1) → scaled_plainly 0 number size
+pub plain_whole : (number : List ℕ) (size : ℕ) → 0 < length number → digits_len number ≡ length number → size ≡ number_after 0 number → scaled_plainly 0 number size
 unfolding digits_len
 plain_whole number size some all e small minus =
-    let exact : number_after 0 number ≡ size = omega (arith, e, small) in
+    let exact : number_after 0 number ≡ size = sym e in
     let back : scaled_unsigned 0 minus (number ++ []) ≡ scaled_parts 0 minus number (Some []) = unsigned_back 0 minus number [] [] some all refl refl in
     rw (append-nil number) at back ∙ parts_back 0 minus number [] size refl (whole_scaled number ∙ exact) small
 
@@ -53,31 +53,30 @@ point_found (byte ∷ rest) decimals e =
       | inr other ↦ let none : None ≡ Some decimals = rw other at e in cc
     ]
 
-plain_pointed : (number decimals : List ℕ) (point before size : ℕ) → after_point (drop point number) ≡ Some decimals → 0 < length (take point number) → digits_len (take point number) ≡ length (take point number) → before ≡ min (number_after 0 (take point number)) (greatest_size + 1) → digits_len decimals ≡ length decimals → size ≡ min (number_after before decimals) (greatest_size + 1) → (scale : ℕ) → 0 < scale → point + scale + 1 ≡ length number → scaled_plainly scale number size
+plain_pointed : (number decimals : List ℕ) (point before size : ℕ) → after_point (drop point number) ≡ Some decimals → 0 < length (take point number) → digits_len (take point number) ≡ length (take point number) → before ≡ number_after 0 (take point number) → digits_len decimals ≡ length decimals → size ≡ number_after before decimals → (scale : ℕ) → 0 < scale → point + scale + 1 ≡ length number → scaled_plainly scale number size
 plain_pointed number decimals point before size found some all first digits e scale positive long small minus =
     let rest = point_found (drop point number) decimals found in
     let joined : take point number ++ 46 ∷ decimals ≡ number = ap (λ (r : List ℕ). take point number ++ r) (sym rest) ∙ take-append-drop point number in
     let sized : length (drop point number) ≡ scale + 1 = omega (arith, long, length-drop point number) in
     let shorter : length decimals ≡ scale = let same : length (drop point number) ≡ length decimals + 1 = ap length rest ∙ omega arith in omega (arith, same, sized) in
-    let capped : size ≡ min (number_after (number_after 0 (take point number)) decimals) (greatest_size + 1) = (rw first at e) ∙ number_after-capped decimals (number_after 0 (take point number)) (greatest_size + 1) in
-    let exact : number_after (number_after 0 (take point number)) decimals ≡ size = omega (arith, capped, small) in
+    let exact : number_after (number_after 0 (take point number)) decimals ≡ size = sym (rw first at e) in
     subst (λ (text : List ℕ). scaled_unsigned scale minus text ≡ Ok (signed minus size)) joined (pointed (take point number) decimals scale size minus some all positive shorter digits exact small)
 
-pub pointed_sizes : (number decimals : List ℕ) (point before : ℕ) (result : Option ℕ) → after_point (drop point number) ≡ Some decimals → 0 < length (take point number) → digits_len (take point number) ≡ length (take point number) → before ≡ min (number_after 0 (take point number)) (greatest_size + 1) → IfSome result (λ _. digits_len decimals ≡ length decimals) → IfSome result (λ size. size ≡ min (number_after before decimals) (greatest_size + 1)) → IfSome result (λ size. (scale : ℕ) → 0 < scale → point + scale + 1 ≡ length number → scaled_plainly scale number size)
+pub pointed_sizes : (number decimals : List ℕ) (point before : ℕ) (result : Option ℕ) → after_point (drop point number) ≡ Some decimals → 0 < length (take point number) → digits_len (take point number) ≡ length (take point number) → before ≡ number_after 0 (take point number) → IfSome result (λ _. digits_len decimals ≡ length decimals) → IfSome result (λ size. size ≡ number_after before decimals) → IfSome result (λ size. (scale : ℕ) → 0 < scale → point + scale + 1 ≡ length number → scaled_plainly scale number size)
 pointed_sizes number decimals point before None found some all first digits e = tt
 pointed_sizes number decimals point before (Some size) found some all first digits e = plain_pointed number decimals point before size found some all first digits e
 
-pub size_step : (digits : List ℕ) (i before size next : ℕ) → i < length digits → size ≤ greatest_size + 1 → is_ascii_digit (get_or digits i 0) ≡ true → digits_len digits ≡ i + digits_len (drop i digits) → min (number_after before digits) (greatest_size + 1) ≡ min (number_after size (drop i digits)) (greatest_size + 1) → next ≡ min (10 * size + (get_or digits i 0 - 48)) (greatest_size + 1) → (next ≤ greatest_size + 1) × (i + 1 ≤ length digits) × (digits_len digits ≡ i + 1 + digits_len (drop (i + 1) digits)) × (min (number_after before digits) (greatest_size + 1) ≡ min (number_after next (drop (i + 1) digits)) (greatest_size + 1))
-unfolding digits_len
-size_step digits i before size next inside small is count value e =
+pub size_step : (digits : List ℕ) (i before size : ℕ) → i < length digits → is_ascii_digit (get_or digits i 0) ≡ true → digits_len digits ≡ i + digits_len (drop i digits) → number_after before digits ≡ number_after size (drop i digits) → (i + 1 ≤ length digits) × (digits_len digits ≡ i + 1 + digits_len (drop (i + 1) digits)) × (number_after before digits ≡ number_after (10 * size + (get_or digits i 0 - 48)) (drop (i + 1) digits))
+unfolding digits_len number_after
+size_step digits i before size inside is count value =
     let front : drop i digits ≡ get_or digits i 0 ∷ drop (i + 1) digits = rw add-one (drop-cons digits i 0 inside) in
     let shorter : digits_len (drop i digits) ≡ digits_len (drop (i + 1) digits) + 1 = ap digits_len front ∙ rw is refl in
-    (omega (arith, e), omega (arith, inside), omega (arith, count, shorter), value ∙ number_after-step digits i size (greatest_size + 1) inside ∙ rw e refl)
+    (omega (arith, inside), omega (arith, count, shorter), value ∙ ap (number_after size) front)
 
-pub size_end : (digits : List ℕ) (i before size : ℕ) → i ≤ length digits → length digits ≤ i → size ≤ greatest_size + 1 → digits_len digits ≡ i + digits_len (drop i digits) → min (number_after before digits) (greatest_size + 1) ≡ min (number_after size (drop i digits)) (greatest_size + 1) → (digits_len digits ≡ length digits) × (size ≡ min (number_after before digits) (greatest_size + 1))
+pub size_end : (digits : List ℕ) (i before size : ℕ) → i ≤ length digits → length digits ≤ i → digits_len digits ≡ i + digits_len (drop i digits) → number_after before digits ≡ number_after size (drop i digits) → (digits_len digits ≡ length digits) × (size ≡ number_after before digits)
 unfolding digits_len
-size_end digits i before size within over small count value =
+size_end digits i before size within over count value =
     let none : digits_len (drop i digits) ≡ 0 = rw (drop_all i digits over) refl in
-    (omega (arith, count, none), (omega (arith, small) ∙ ap (λ (n : ℕ). min n (greatest_size + 1)) (sym (number_after-end digits i size over)) ∙ sym value))
+    (omega (arith, count, none), sym (value ∙ number_after-end digits i size over))
 
 pub ruleset size_after_steps = (size_step, size_end)

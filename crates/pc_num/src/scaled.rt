@@ -17,7 +17,7 @@ pub enum NumFault {
 }
 
 // The greatest size of a scaled number.
-const LIMIT: u64 = 1_000_000_000_000_000;
+pub(crate) const LIMIT: u64 = 1_000_000_000_000_000;
 
 /// Reads a decimal text as a whole number of units of its last place, with `scale` decimals: at a scale of 2,
 /// `-7.5` is -750. A text with several faults has the first that `NumFault` lists.
@@ -41,13 +41,11 @@ fn plain_number(minus: bool, number: &[u8], scale: u8) -> Option<i64>
     ensures small { IfSome result (λ n. unsigned_abs n ≤ 10 ^ 15) }
 {
     let size = plain_size(number, scale)?;
-    if size > LIMIT {
-        return None;
-    }
     Some(signed(minus, size))
 }
 
-// The number of a text without its sign.
+// The number of a text without its sign. It stands apart, so that the short way saves no registers for it.
+#[inline(never)]
 fn read_unsigned(minus: bool, number: &[u8], scale: u8) -> Result<i64, NumFault>
     ensures value { result ≡ scaled_unsigned scale minus number.now }
     ensures small { IfOk result (λ n. unsigned_abs n ≤ 10 ^ 15) }
@@ -139,7 +137,7 @@ fn decimals_at(rest: &[u8]) -> Option<&[u8]>
 }
 
 // The number with one digit more, where LIMIT + 1 stands for everything past LIMIT.
-pub(crate) fn with_digit(number: u64, digit: u8) -> u64
+fn with_digit(number: u64, digit: u8) -> u64
     requires { number ≤ greatest_size + 1 }
     ensures { result ≡ min (10 * number + (digit - 48)) (greatest_size + 1) }
 {
