@@ -36,3 +36,10 @@ mixed_fits p a t b first second third fourth =
 pub negated_small : (numbers : List ℤ) → All (IsWithin 50) numbers → All (IsWithin 50) (map neg_ℤ numbers)
 negated_small numbers small =
     All-map (IsWithin 50) neg_ℤ numbers (All-weaker (IsWithin 50) (λ x. IsWithin 50 (neg_ℤ x)) (λ x h. omega (arith, ints, h)) numbers small)
+
+-- a value less so many times an entry
+pub lowered_fits : (value entry : ℤ) (range : ℕ) → nat_abs value ≤ 2 ^ 50 → nat_abs entry ≤ 2 ^ 55 → range < 2 ^ 64
+    → (nat_abs (entry *ℤ pos range) < 2 ^ 127) × (nat_abs (value -ℤ entry *ℤ pos range) < 2 ^ 127)
+lowered_fits value entry range first second third =
+    let taken = size_of_product-le entry (pos range) (2 ^ 55) (2 ^ 64) second (omega (arith, ints, third)) in
+    (omega (arith, taken), omega (arith, ints, taken, first))
