@@ -43,3 +43,15 @@ pub lowered_fits : (value entry : ℤ) (range : ℕ) → nat_abs value ≤ 2 ^ 5
 lowered_fits value entry range first second third =
     let taken = size_of_product-le entry (pos range) (2 ^ 55) (2 ^ 64) second (omega (arith, ints, third)) in
     (omega (arith, taken), omega (arith, ints, taken, first))
+
+-- a number times a gain that a bound keeps
+pub product_small : (bits top : ℕ) (w g : ℤ) → nat_abs w * top ≤ 2 ^ bits → nat_abs g ≤ top → IsWithin bits (w *ℤ g)
+product_small bits top w g light low =
+    let less : nat_abs w * nat_abs g ≤ nat_abs w * top = mul-le (nat_abs w) (nat_abs g) (nat_abs w) top (omega arith) low in
+    rw (size_of_product w g) (omega (arith, less, light))
+
+-- a weight of few bits, by a number of at least 1
+pub narrow_weight : (top : ℕ) (w : ℤ) → 1 ≤ top → nat_abs w * top ≤ 2 ^ 60 → IsWithin 60 w
+narrow_weight top w some light =
+    let less : nat_abs w * 1 ≤ nat_abs w * top = mul-le (nat_abs w) 1 (nat_abs w) top (omega arith) some in
+    omega (arith, less, light)

@@ -7,12 +7,7 @@ ghost use Rattle.pc_simplex_short.specs.Kept.{IsWithin, IsSetting, IsShortAim};
 use crate::setting::ShortSetting;
 
 /// The number of a row at a column.
-pub(crate) fn entry(
-    setting: &ShortSetting,
-    turned: &[bool],
-    numbers: &[i64],
-    column: usize,
-) -> i64
+pub(crate) fn entry(setting: &ShortSetting, turned: &[bool], numbers: &[i64], column: usize) -> i64
     requires setting { IsSetting setting.now }
     requires column { column < setting.now.columns.count }
     requires turned { length turned.now ≡ setting.now.columns.count }

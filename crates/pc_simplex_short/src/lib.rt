@@ -6,6 +6,7 @@ mod change;
 mod choice;
 mod entry;
 mod limit;
+mod narrow;
 mod reduce;
 mod row;
 mod rows;

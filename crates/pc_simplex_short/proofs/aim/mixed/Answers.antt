@@ -13,7 +13,8 @@ overflow_sub-result c =
     let p_fits : IsFit c.args.p = omega (arith, c.requires.p) in
     let b_fits : IsFit c.args.b = omega (arith, c.requires.b) in
     rw (
-      p, b,
+      p,
+      b,
       passed c.args.p p_fits,
       to_z-of_z c.ranges.a,
       to_z-of_z c.ranges.t,
@@ -30,7 +31,8 @@ returns c =
     let p_fits : IsFit c.args.p = omega (arith, c.requires.p) in
     let b_fits : IsFit c.args.b = omega (arith, c.requires.b) in
     rw (
-      p, b,
+      p,
+      b,
       passed c.args.p p_fits,
       to_z-of_z c.ranges.a,
       to_z-of_z c.ranges.t,

@@ -14,7 +14,7 @@ loop-place-preserved c =
     let result = c.common_divisor-divisor.result in
     let value = rw (to_z-of_z c.ranges.p, to_z-of_z c.ranges.t) at c.mixed.ensures.value in
     let number = number_is c.args.p c.args.t c.args.row.now c.args.other.now c.requires.p c.requires.t c.requires.row c.requires.other c.requires.sized
-        l.place c.mixed.result c.loop-place-test.true value in
+    l.place c.mixed.result c.loop-place-test.true value in
     let kept = rw (to_z-of_z c.ranges.p, to_z-of_z c.ranges.t) at l.invariant.kept in
     rw (to_z-of_z c.ranges.p, to_z-of_z c.ranges.t) (record {
       fits = rw (passed result found.fits) found.fits;
@@ -30,7 +30,7 @@ returns-then-divisor-eq1-clause-value c =
     let result = c.common_divisor-divisor.result in
     let value = rw (to_z-of_z c.ranges.p, to_z-of_z c.ranges.t) at c.mixed.ensures.value in
     let number = number_is c.args.p c.args.t c.args.row.now c.args.other.now c.requires.p c.requires.t c.requires.row c.requires.other c.requires.sized
-        l.place c.mixed.result c.loop-place-test.true value in
+    l.place c.mixed.result c.loop-place-test.true value in
     let row = combined c.args.p c.args.row.now c.args.t c.args.other.now in
     let one : as_passed result ≡ pos 1 = ap (to_z w128) c.if-divisor-eq1.true in
     let rest : IsGcdWith (unsigned_abs (as_passed result)) (drop (l.place + 1) row) 1 = rw one (gcd_with_one (drop (l.place + 1) row)) in

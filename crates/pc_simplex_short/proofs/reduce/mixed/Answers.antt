@@ -17,7 +17,10 @@ overflow_sub-result c =
     let t_fits : IsFit c.args.t = omega (arith, c.requires.t) in
     let b_fits : IsFit c.args.b = omega (arith, c.requires.b) in
     rw (
-      p, a, t, b,
+      p,
+      a,
+      t,
+      b,
       passed c.args.p p_fits,
       passed c.args.a a_fits,
       passed c.args.t t_fits,
@@ -38,7 +41,10 @@ returns-clause-value c =
     let t_fits : IsFit c.args.t = omega (arith, c.requires.t) in
     let b_fits : IsFit c.args.b = omega (arith, c.requires.b) in
     rw (
-      p, a, t, b,
+      p,
+      a,
+      t,
+      b,
       passed c.args.p p_fits,
       passed c.args.a a_fits,
       passed c.args.t t_fits,
@@ -59,7 +65,10 @@ returns-clause-fits c =
     let t_fits : IsFit c.args.t = omega (arith, c.requires.t) in
     let b_fits : IsFit c.args.b = omega (arith, c.requires.b) in
     rw (
-      p, a, t, b,
+      p,
+      a,
+      t,
+      b,
       passed c.args.p p_fits,
       passed c.args.a a_fits,
       passed c.args.t t_fits,

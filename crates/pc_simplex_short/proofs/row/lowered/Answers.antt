@@ -15,7 +15,9 @@ returns-clause-value c =
     let entry_fits : IsFit c.args.entry = omega (arith, c.requires.entry) in
     let range_fits : IsFit (pos c.args.range) = omega (arith, ints, c.ranges.range.fits) in
     rw (
-      value, entry, range,
+      value,
+      entry,
+      range,
       passed c.args.value value_fits,
       passed c.args.entry entry_fits,
       passed (pos c.args.range) range_fits,
@@ -32,7 +34,9 @@ returns-clause-fits c =
     let entry_fits : IsFit c.args.entry = omega (arith, c.requires.entry) in
     let range_fits : IsFit (pos c.args.range) = omega (arith, ints, c.ranges.range.fits) in
     rw (
-      value, entry, range,
+      value,
+      entry,
+      range,
       passed c.args.value value_fits,
       passed c.args.entry entry_fits,
       passed (pos c.args.range) range_fits,
