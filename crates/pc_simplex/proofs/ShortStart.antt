@@ -292,6 +292,21 @@ either_below : (test : Bool) (a b n : ℕ) → a < n → b < n → cond test a b
 either_below true a b n h k = h
 either_below false a b n h k = k
 
+module _ (p : Program) (floors : List ℕ) (program : IsProgram p) (none : first_below (constraints_of p) (is_overfull p floors) ≡ None) (j : ℕ) (lt : j < constraints_of p) where
+  left_most : left_of p floors j ≤ℤ pos 1_000_000_000
+  left_most = let some = total_positive p floors j in let most = program.small_most j lt in omega (arith, ints, some, most)
+
+  pub short_value-small : IsWithin 50 (short_value p floors j)
+  short_value-small =
+      value_within (is_short p floors j) (left_of p floors j) (slack_range p j) refl (first_below-none (constraints_of p) (is_overfull p floors) j none lt) left_most
+
+  -- in each of the two forms
+  pub short_value-above : is_short p floors j ≡ true → IsWithin 50 (left_of p floors j -ℤ pos (slack_range p j))
+  short_value-above e = value_within true (left_of p floors j) (slack_range p j) e (first_below-none (constraints_of p) (is_overfull p floors) j none lt) left_most
+
+  pub short_value-left : is_short p floors j ≡ false → IsWithin 50 (left_of p floors j)
+  short_value-left e = value_within false (left_of p floors j) (slack_range p j) e (first_below-none (constraints_of p) (is_overfull p floors) j none lt) left_most
+
 pub first_is_short : (p : Program) (floors : List ℕ) (f : Columns) (gains : List ℤ) → IsProgram p → AreFloors p floors → AreColumns p f
     → first_below (constraints_of p) (is_overfull p floors) ≡ None → IsShort (setting_of p f gains 1) (first_short p floors)
 first_is_short p floors f gains program floored columns none = record {
@@ -300,9 +315,6 @@ first_is_short p floors f gains program floored columns none = record {
   aim = no_aim-short p (setting_of p f gains 1) refl (omega arith);
 }
   where
-    left_most : (j : ℕ) → j < constraints_of p → left_of p floors j ≤ℤ pos 1_000_000_000
-    left_most j lt = let some = total_positive p floors j in let most = program.small_most j lt in omega (arith, ints, some, most)
-
     row : (j : ℕ) → j < constraints_of p → IsShortRow (setting_of p f gains 1) (first_short_row p floors j)
     row j lt = record {
       numbers = length_push (table (constraints_of p) (λ k. cond (k == j) (pos 1) (pos 0))) (short_value p floors j)
@@ -310,6 +322,5 @@ first_is_short p floors f gains program floored columns none = record {
       basic = either_below (is_short p floors j) (helper_of p j) (slack_of p j) f.count (omega (arith, lt, columns.count)) (omega (arith, lt, columns.count));
       small = All-push (IsWithin 50) (table (constraints_of p) (λ k. cond (k == j) (pos 1) (pos 0))) (short_value p floors j)
           (All-table (IsWithin 50) (constraints_of p) (λ k. cond (k == j) (pos 1) (pos 0)) (λ k less. unit_within (k == j)))
-          (value_within (is_short p floors j) (left_of p floors j) (slack_range p j) refl (first_below-none (constraints_of p) (is_overfull p floors) j none lt)
-          (left_most j lt));
+          (short_value-small p floors program none j lt);
     }

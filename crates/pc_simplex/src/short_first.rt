@@ -1,12 +1,13 @@
 ghost use Rattle.std.specs.Prelude.{◌≡◌, ◌<◌, ◌≤◌, ◌^◌, ◌==◌, ◌++◌, [], ◌∷◌, pos, cond, None, IfOk, IfSome};
 ghost use Rattle.pc_program_bound.specs.Allocation.{IsProgram, constraints_of};
 ghost use Rattle.pc_simplex_tableau.specs.Numbers.{table, first_below};
+ghost use Rattle.pc_simplex_short.specs.Kept.{IsWithin};
 ghost use Rattle.pc_simplex.specs.Floors.{AreFloors, is_overfull};
 ghost use Rattle.pc_simplex.specs.Shorts.{short_value, unit_row, first_short_row, no_aim, first_short, second_short};
 
 use crate::columns::slack_range;
 use crate::first::{first_turned, is_short_by};
-use crate::left::{left_of, one_if};
+use crate::left::left_of;
 use pc_num::Memory;
 use pc_program_bound::Program;
 use pc_simplex_short::{ShortRow, ShortTableau};
@@ -16,6 +17,7 @@ use std::alloc::Global;
 pub(crate) fn first_short(alloc: Global, p: &Program, floor: &[u64]) -> Result<ShortTableau, Memory>
     requires program { IsProgram p.now }
     requires floors { AreFloors p.now floor.now }
+    requires none { first_below (constraints_of p.now) (is_overfull p.now floor.now) ≡ None }
     ensures { IfOk result (λ t. t ≡ first_short p.now floor.now) }
 {
     let rows = first_rows(alloc, p, floor)?;
@@ -33,6 +35,7 @@ pub(crate) fn first_short(alloc: Global, p: &Program, floor: &[u64]) -> Result<S
 fn first_rows(alloc: Global, p: &Program, floor: &[u64]) -> Result<Vec<ShortRow>, Memory>
     requires program { IsProgram p.now }
     requires floors { AreFloors p.now floor.now }
+    requires none { first_below (constraints_of p.now) (is_overfull p.now floor.now) ≡ None }
     ensures { IfOk result (λ rows. rows.items ≡ table (constraints_of p.now) (first_short_row p.now floor.now)) }
 {
     let mut rows = Vec::new(alloc);
@@ -40,6 +43,22 @@ fn first_rows(alloc: Global, p: &Program, floor: &[u64]) -> Result<Vec<ShortRow>
         rows.push(first_row(alloc, p, floor, constraint)?)?;
     }
     Ok(rows)
+}
+
+fn narrowed(value: i128) -> i64
+    requires { IsWithin 50 value }
+    ensures { result ≡ value }
+{
+    value as i64
+}
+
+fn unit(test: bool) -> i64
+    ensures { result ≡ cond test (pos 1) (pos 0) }
+{
+    if test {
+        return 1;
+    }
+    0
 }
 
 /// The row of a constraint, which has it once.
@@ -51,6 +70,7 @@ fn first_row(
 ) -> Result<ShortRow, Memory>
     requires program { IsProgram p.now }
     requires floors { AreFloors p.now floor.now }
+    requires none { first_below (constraints_of p.now) (is_overfull p.now floor.now) ≡ None }
     requires own { constraint < constraints_of p.now }
     ensures { IfOk result (λ row. row ≡ first_short_row p.now floor.now constraint) }
 {
@@ -58,13 +78,13 @@ fn first_row(
     let slack = p.masks.len() + constraint;
     if is_short_by(p, constraint, left) {
         let value = left - slack_range(p, constraint) as i128;
-        let numbers = unit_row(alloc, p, constraint, value)?;
+        let numbers = unit_row(alloc, p, constraint, narrowed(value))?;
         return Ok(ShortRow {
             numbers,
             basic: slack + p.least.len(),
         });
     }
-    let numbers = unit_row(alloc, p, constraint, left)?;
+    let numbers = unit_row(alloc, p, constraint, narrowed(left))?;
     Ok(ShortRow {
         numbers,
         basic: slack,
@@ -72,14 +92,14 @@ fn first_row(
 }
 
 #[tactic(auto, using(pc_simplex_tableau::proofs::Tables::table_steps))]
-fn unit_row(alloc: Global, p: &Program, constraint: usize, value: i128) -> Result<Vec<i128>, Memory>
+fn unit_row(alloc: Global, p: &Program, constraint: usize, value: i64) -> Result<Vec<i64>, Memory>
     requires program { IsProgram p.now }
     requires own { constraint < constraints_of p.now }
     ensures { IfOk result (λ numbers. numbers.items ≡ unit_row p.now constraint value) }
 {
     let mut numbers = Vec::new(alloc);
     for place in 0..p.least.len() {
-        numbers.push(one_if(place == constraint))?;
+        numbers.push(unit(place == constraint))?;
     }
     numbers.push(value)?;
     Ok(numbers)

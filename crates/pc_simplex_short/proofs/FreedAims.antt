@@ -1,7 +1,7 @@
 -- What a short objective row that is freed of a column spells, and its weight.
 use Rattle.std.proofs.Common.{◌≡◌, ℕ, zero, suc, ◌+◌, ◌*◌, ◌^◌, ◌<◌, ◌≤◌, Bool, true, false, true≢false, cond, List, ◌∷◌, map, length, refl, ap, ap₂, sym, ◌∙◌, arith, to_z, of_z}
 use Rattle.std.specs.Prelude.{ℤ, pos, nat_abs, ◌-ℤ◌, ◌*ℤ◌}
-use Rattle.std.specs.Int.{◌∣◌, w128}
+use Rattle.std.specs.Int.{◌∣◌, w64, w128}
 use Rattle.std.proofs.lemmas.Bool.{eqb-true, false_from_ne_true}
 use Rattle.std.proofs.lemmas.Int.{ints}
 use Rattle.std.proofs.lemmas.List.{length-map}
@@ -21,6 +21,7 @@ use Rattle.pc_simplex_short.proofs.Spelled.{same_numbers, length-spelled, at-spe
 use Rattle.pc_simplex_short.proofs.Combining.{aim-made}
 use Rattle.pc_simplex_short.proofs.Multiples.{divides-aim, common-aim}
 use Rattle.pc_simplex_short.proofs.FreedRows.{as_it_is, no_other, other_none}
+use Rattle.pc_simplex_short.proofs.Words.{passed_word}
 
 module _ (f : ShortSetting) (turned : List Bool) (h : IsSetting f) where
   combined-aim : (p t w : ℤ) (xs ys : List ℤ) → length xs ≡ f.constraints → length ys ≡ f.constraints + 1
@@ -152,8 +153,8 @@ module _ (f : ShortSetting) (turned : List Bool) (c : ℕ) (lt : c < f.columns.c
 fit_entry : (z : ℤ) → nat_abs z ≤ 2 ^ 70 → IsFit z
 fit_entry z small = omega (arith, small)
 
-pub passed_scale : (z : ℤ) → IsWithin 55 z → as_passed z ≡ z
-passed_scale z small = passed z (fit_entry z (omega (arith, small)))
+pub passed_scale : (z : ℤ) → IsWithin 55 z → to_z w64 (of_z w64 z) ≡ z
+passed_scale z small = passed_word z (omega (arith, small))
 
 pub passed_entry : (z : ℤ) → IsWithin 70 z → as_passed z ≡ z
 passed_entry z small = passed z (fit_entry z small)

@@ -12,4 +12,6 @@ pub mod Replaced
 pub mod Running
 pub mod ShortPivots
 pub mod Sizes
+pub mod Reducing
 pub mod Spelled
+pub mod Words

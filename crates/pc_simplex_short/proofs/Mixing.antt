@@ -9,9 +9,9 @@ use Rattle.pc_simplex_short.specs.Short.{mix, signed}
 use Rattle.pc_simplex_short.specs.Kept.{IsWithin}
 
 -- the sum so far, and what is left of it
-pub record IsMixTo (places : List ℕ) (numbers : List ℤ) (sum : ℤ) (i : ℕ) : Type 0 where
+pub record IsMixTo (bits : ℕ) (places : List ℕ) (numbers : List ℤ) (sum : ℤ) (i : ℕ) : Type 0 where
   pub left : sum +ℤ mix (drop i places) numbers ≡ mix places numbers
-  pub small : nat_abs sum ≤ i * 2 ^ 64
+  pub small : nat_abs sum ≤ i * 2 ^ bits
 
 mix-nil : (numbers : List ℤ) → mix [] numbers ≡ pos 0
 unfolding mix
@@ -21,19 +21,19 @@ mix-cons : (j : ℕ) (places : List ℕ) (numbers : List ℤ) → mix (j ∷ pla
 unfolding mix
 mix-cons j places numbers = refl
 
-pub mix_first : (places : List ℕ) (numbers : List ℤ) → IsMixTo places numbers (pos 0) 0
-mix_first places numbers = record { left = omega (arith, ints); small = omega arith }
+pub mix_first : (bits : ℕ) (places : List ℕ) (numbers : List ℤ) → IsMixTo bits places numbers (pos 0) 0
+mix_first bits places numbers = record { left = omega (arith, ints); small = omega arith }
 
-pub mix_more : (places : List ℕ) (numbers : List ℤ) (sum : ℤ) (i d j : ℕ) → i < length places → j ≡ get_or places i d → nat_abs (int_at numbers j) ≤ 2 ^ 64
-    → IsMixTo places numbers sum i → IsMixTo places numbers (sum +ℤ int_at numbers j) (i + 1)
-mix_more places numbers sum i d j lt e small h =
+pub mix_more : (bits : ℕ) (places : List ℕ) (numbers : List ℤ) (sum : ℤ) (i d j : ℕ) → i < length places → j ≡ get_or places i d → nat_abs (int_at numbers j) ≤ 2 ^ bits
+    → IsMixTo bits places numbers sum i → IsMixTo bits places numbers (sum +ℤ int_at numbers j) (i + 1)
+mix_more bits places numbers sum i d j lt e small h =
     let next : mix (drop i places) numbers ≡ mix (get_or places i d ∷ drop (i + 1) places) numbers = at_drop_more (λ p. mix p numbers) places i d lt in
     let split : mix (get_or places i d ∷ drop (i + 1) places) numbers ≡ int_at numbers j +ℤ mix (drop (i + 1) places) numbers =
     mix-cons (get_or places i d) (drop (i + 1) places) numbers ∙ ap (λ k. int_at numbers k +ℤ mix (drop (i + 1) places) numbers) (sym e) in
     record { left = omega (arith, ints, h.left, next, split); small = omega (arith, ints, h.small, small) }
 
-pub mix_end : (places : List ℕ) (numbers : List ℤ) (sum : ℤ) (i : ℕ) → length places ≤ i → IsMixTo places numbers sum i → sum ≡ mix places numbers
-mix_end places numbers sum i past h =
+pub mix_end : (bits : ℕ) (places : List ℕ) (numbers : List ℤ) (sum : ℤ) (i : ℕ) → length places ≤ i → IsMixTo bits places numbers sum i → sum ≡ mix places numbers
+mix_end bits places numbers sum i past h =
     let none : mix (drop i places) numbers ≡ pos 0 = at_drop_all (λ p. mix p numbers) places i past ∙ mix-nil numbers in
     omega (arith, ints, h.left, none)
 

@@ -36,3 +36,22 @@ mixed_fits p a t b first second third fourth =
 pub negated_small : (numbers : List ℤ) → All (IsWithin 50) numbers → All (IsWithin 50) (map neg_ℤ numbers)
 negated_small numbers small =
     All-map (IsWithin 50) neg_ℤ numbers (All-weaker (IsWithin 50) (λ x. IsWithin 50 (neg_ℤ x)) (λ x h. omega (arith, ints, h)) numbers small)
+
+-- a value less so many times an entry
+pub lowered_fits : (value entry : ℤ) (range : ℕ) → nat_abs value ≤ 2 ^ 50 → nat_abs entry ≤ 2 ^ 55 → range < 2 ^ 64
+    → (nat_abs (entry *ℤ pos range) < 2 ^ 127) × (nat_abs (value -ℤ entry *ℤ pos range) < 2 ^ 127)
+lowered_fits value entry range first second third =
+    let taken = size_of_product-le entry (pos range) (2 ^ 55) (2 ^ 64) second (omega (arith, ints, third)) in
+    (omega (arith, taken), omega (arith, ints, taken, first))
+
+-- a number times a gain that a bound keeps
+pub product_small : (bits top : ℕ) (w g : ℤ) → nat_abs w * top ≤ 2 ^ bits → nat_abs g ≤ top → IsWithin bits (w *ℤ g)
+product_small bits top w g light low =
+    let less : nat_abs w * nat_abs g ≤ nat_abs w * top = mul-le (nat_abs w) (nat_abs g) (nat_abs w) top (omega arith) low in
+    rw (size_of_product w g) (omega (arith, less, light))
+
+-- a weight of few bits, by a number of at least 1
+pub narrow_weight : (top : ℕ) (w : ℤ) → 1 ≤ top → nat_abs w * top ≤ 2 ^ 60 → IsWithin 60 w
+narrow_weight top w some light =
+    let less : nat_abs w * 1 ≤ nat_abs w * top = mul-le (nat_abs w) 1 (nat_abs w) top (omega arith) some in
+    omega (arith, less, light)

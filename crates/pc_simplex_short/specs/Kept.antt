@@ -41,6 +41,12 @@ pub record IsShortAim (f : ShortSetting) (weight : ℤ) (aim : List ℤ) : Type 
   pub small : All (IsWithin 64) aim
   pub light : nat_abs weight * f.top ≤ 2 ^ 69
 
+-- an objective row so small that what is added up of it fits 64 bits
+pub record IsNarrow (most : ℕ) (weight : ℤ) (aim : List ℤ) : Type 0 where
+  pub top : most ≤ 2 ^ 60
+  pub light : nat_abs weight * most ≤ 2 ^ 60
+  pub small : All (IsWithin 55) aim
+
 pub record IsShort (f : ShortSetting) (t : Tableau) : Type 0 where
   pub rows : All (IsShortRow f) t.rows
   pub turned : length t.turned ≡ f.columns.count

@@ -1,12 +1,12 @@
-ghost use Rattle.std.specs.Prelude.{◌≡◌, ◌<◌, ◌≤◌, ◌+◌, ◌*ℤ◌, length, All, IsTrue};
+ghost use Rattle.std.specs.Prelude.{◌≡◌, ◌<◌, ◌≤◌, ◌+◌, ◌*ℤ◌, ◌-ℤ◌, length, All, IsTrue};
 ghost use Rattle.pc_program_bound.specs.Bound.{IsFit};
+ghost use Rattle.pc_simplex_tableau.specs.Numbers.{combined};
 ghost use Rattle.pc_simplex_tableau.specs.Tableau.{freed_aim};
 ghost use Rattle.pc_simplex_tableau.specs.Conditions.{aim_alone, freed_entries, freed_weight};
 ghost use Rattle.pc_simplex_short.specs.Short.{spelled_numbers, spelled_aim};
 ghost use Rattle.pc_simplex_short.specs.Kept.{IsWithin, IsSetting, IsShortAim};
 
 use crate::entry::{aim_entry, entry};
-use crate::row::combine;
 use crate::setting::ShortSetting;
 use crate::small::is_small_aim;
 use pc_simplex_tableau::divide_together;
@@ -19,7 +19,7 @@ pub(crate) fn free(
     setting: &ShortSetting,
     turned: &[bool],
     column: usize,
-    other: &[i128],
+    other: &[i64],
 ) -> bool
     requires setting { IsSetting setting.now }
     requires short { IsShortAim setting.now weight.old aim.old }
@@ -42,7 +42,7 @@ pub(crate) fn free(
 
 /// Combines the entries with another row, which has numbers after them, and divides them and the weight, which takes part by
 /// the other's entry alone, by what they have in common.
-fn free_entries(entries: &mut [i128], weight: &mut i128, entry: i128, scale: i128, other: &[i128])
+fn free_entries(entries: &mut [i128], weight: &mut i128, entry: i128, scale: i64, other: &[i64])
     requires entries { All (IsWithin 64) entries.old }
     requires weight { IsWithin 69 weight.old }
     requires entry { IsWithin 70 entry }
@@ -59,11 +59,36 @@ fn free_entries(entries: &mut [i128], weight: &mut i128, entry: i128, scale: i12
     *weight = divide_together(product, entries);
 }
 
-fn weighed(scale: i128, weight: i128) -> i128
+fn weighed(scale: i64, weight: i128) -> i128
     requires scale { IsWithin 55 scale }
     requires weight { IsWithin 69 weight }
     ensures value { result ≡ scale *ℤ weight }
     ensures fits { IsFit result }
 {
-    scale * weight
+    i128::from(scale) * weight
+}
+
+/// `p` times the row minus `t` times the other. Small numbers leave nothing that does not fit.
+fn combine(row: &mut [i128], p: i64, t: i128, other: &[i64])
+    requires row { All (IsWithin 64) row.old }
+    requires other { All (IsWithin 50) other.now }
+    requires p { IsWithin 55 p }
+    requires t { IsWithin 70 t }
+    requires sized { length row.old ≡ length other.now }
+    ensures combined { row.new ≡ combined p row.old t other.now }
+    ensures fits { All IsFit row.new }
+{
+    for place in 0..row.len() {
+        row[place] = mixed(p, row[place], t, other[place]);
+    }
+}
+
+fn mixed(p: i64, a: i128, t: i128, b: i64) -> i128
+    requires p { IsWithin 55 p }
+    requires a { IsWithin 64 a }
+    requires t { IsWithin 70 t }
+    requires b { IsWithin 50 b }
+    ensures { result ≡ p *ℤ a -ℤ t *ℤ b }
+{
+    i128::from(p) * a - t * i128::from(b)
 }

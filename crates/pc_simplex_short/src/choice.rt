@@ -1,13 +1,15 @@
-ghost use Rattle.std.specs.Prelude.{◌≡◌, ◌<◌, pos, int_lt, length, IfSome};
+ghost use Rattle.std.specs.Prelude.{◌≡◌, ◌<◌, ◌≤◌, ◌*◌, ◌^◌, nat_abs, pos, int_lt, length, IsTrue, IfSome};
 ghost use Rattle.pc_program_bound.specs.Sums.{int_at};
 ghost use Rattle.pc_simplex_tableau.specs.Tableau.{is_basic, entering, deciding};
 ghost use Rattle.pc_simplex_tableau.specs.Limits.{IsSoundLimit};
 ghost use Rattle.pc_simplex_tableau.proofs.Deciding.{may_enter};
 ghost use Rattle.pc_simplex_short.specs.Short.{spelled};
-ghost use Rattle.pc_simplex_short.specs.Kept.{IsSetting, IsShort};
+ghost use Rattle.pc_simplex_short.specs.Kept.{IsSetting, IsShort, IsNarrow};
 
 use crate::entry::aim_entry;
 use crate::limit::with_row;
+use crate::narrow;
+use crate::narrow::narrow_aim_entry;
 use crate::setting::ShortSetting;
 use crate::tableau::ShortTableau;
 use pc_simplex_tableau::{Limit, own_limit};
@@ -19,8 +21,9 @@ pub(crate) fn entering(tableau: &ShortTableau, setting: &ShortSetting) -> Option
     ensures value { result ≡ entering setting.now.columns (spelled setting.now tableau.now) }
     ensures within { IfSome result (λ column. column < length setting.now.columns.ranges) }
 {
+    let narrow = is_narrow(tableau, setting);
     for column in 0..entering_columns(setting) {
-        if may_enter(tableau, setting, column) {
+        if may_enter(tableau, setting, narrow, column) {
             return Some(column);
         }
     }
@@ -34,26 +37,61 @@ fn entering_columns(setting: &ShortSetting) -> usize
     setting.columns.ranges.len()
 }
 
-fn may_enter(tableau: &ShortTableau, setting: &ShortSetting, column: usize) -> bool
+fn is_narrow(tableau: &ShortTableau, setting: &ShortSetting) -> bool
+    ensures { IsTrue result → IsNarrow setting.now.top tableau.now.weight tableau.now.aim }
+{
+    narrow::is_narrow(tableau.aim.as_slice(), tableau.weight, setting.top)
+}
+
+fn may_enter(tableau: &ShortTableau, setting: &ShortSetting, narrow: bool, column: usize) -> bool
     requires setting { IsSetting setting.now }
     requires short { IsShort setting.now tableau.now }
     requires column { column < setting.now.columns.count }
+    requires narrow { IsTrue narrow → IsNarrow setting.now.top tableau.now.weight tableau.now.aim }
     ensures { result ≡ may_enter (spelled setting.now tableau.now) column }
 {
-    if is_gaining(tableau, setting, column) {
+    if is_gaining(tableau, setting, narrow, column) {
         return !is_basic(tableau, column);
     }
     false
 }
 
 /// Whether the objective row is above 0 at a column.
-fn is_gaining(tableau: &ShortTableau, setting: &ShortSetting, column: usize) -> bool
+fn is_gaining(tableau: &ShortTableau, setting: &ShortSetting, narrow: bool, column: usize) -> bool
     requires setting { IsSetting setting.now }
     requires short { IsShort setting.now tableau.now }
     requires column { column < setting.now.columns.count }
+    requires narrow { IsTrue narrow → IsNarrow setting.now.top tableau.now.weight tableau.now.aim }
     ensures { result ≡ int_lt (pos 0) (int_at (spelled setting.now tableau.now).aim column) }
 {
+    if narrow {
+        return narrow_aim_at(tableau, setting, column) > 0;
+    }
     aim_at(tableau, setting, column) > 0
+}
+
+fn narrow_aim_at(tableau: &ShortTableau, setting: &ShortSetting, column: usize) -> i64
+    requires setting { IsSetting setting.now }
+    requires short { IsShort setting.now tableau.now }
+    requires column { column < setting.now.columns.count }
+    requires narrow { IsNarrow setting.now.top tableau.now.weight tableau.now.aim }
+    ensures { result ≡ int_at (spelled setting.now tableau.now).aim column }
+{
+    narrow_aim_entry(
+        setting,
+        tableau.turned.as_slice(),
+        narrow_weight(tableau.weight, setting.top),
+        tableau.aim.as_slice(),
+        column,
+    )
+}
+
+fn narrow_weight(weight: i128, top: u128) -> i64
+    requires some { 1 ≤ top }
+    requires light { nat_abs weight * top ≤ 2 ^ 60 }
+    ensures { result ≡ weight }
+{
+    weight as i64
 }
 
 fn aim_at(tableau: &ShortTableau, setting: &ShortSetting, column: usize) -> i128

@@ -1,4 +1,4 @@
-ghost use Rattle.std.specs.Prelude.{◌≡◌, ℕ, ◌<◌, ◌≤◌, ◌*◌, ◌^◌, nat_abs, ◌+ℤ◌, ◌*ℤ◌, length, All};
+ghost use Rattle.std.specs.Prelude.{◌≡◌, ◌<◌, ◌≤◌, ◌*◌, ◌^◌, nat_abs, ◌+ℤ◌, ◌*ℤ◌, length, All};
 ghost use Rattle.pc_program_bound.specs.Bound.{IsFit};
 ghost use Rattle.pc_program_bound.specs.Sums.{int_at};
 ghost use Rattle.pc_simplex_short.specs.Short.{mix, signed, entry, aim_entry, places_of};
@@ -7,12 +7,7 @@ ghost use Rattle.pc_simplex_short.specs.Kept.{IsWithin, IsSetting, IsShortAim};
 use crate::setting::ShortSetting;
 
 /// The number of a row at a column.
-pub(crate) fn entry(
-    setting: &ShortSetting,
-    turned: &[bool],
-    numbers: &[i128],
-    column: usize,
-) -> i128
+pub(crate) fn entry(setting: &ShortSetting, turned: &[bool], numbers: &[i64], column: usize) -> i64
     requires setting { IsSetting setting.now }
     requires column { column < setting.now.columns.count }
     requires turned { length turned.now ≡ setting.now.columns.count }
@@ -22,6 +17,44 @@ pub(crate) fn entry(
     ensures small { IsWithin 55 result }
 {
     signed(turned[column], mix_at(setting, numbers, column))
+}
+
+/// The sum of the numbers at the places of a column.
+fn mix_at(setting: &ShortSetting, numbers: &[i64], column: usize) -> i64
+    requires setting { IsSetting setting.now }
+    requires column { column < setting.now.columns.count }
+    requires numbers { setting.now.constraints ≤ length numbers.now }
+    requires small { All (IsWithin 50) numbers.now }
+    ensures value { result ≡ mix (places_of setting.now column) numbers.now }
+    ensures small { IsWithin 55 result }
+{
+    let places = setting.places.as_slice();
+    mix(places[column].as_slice(), numbers)
+}
+
+fn mix(places: &[usize], numbers: &[i64]) -> i64
+    requires few { length places.now ≤ 32 }
+    requires within { All (λ j. j < length numbers.now) places.now }
+    requires small { All (IsWithin 50) numbers.now }
+    ensures value { result ≡ mix places.now numbers.now }
+    ensures small { IsWithin 55 result }
+{
+    let mut sum: i64 = 0;
+    for place in places {
+        sum += numbers[*place];
+    }
+    sum
+}
+
+fn signed(test: bool, number: i64) -> i64
+    requires { IsWithin 55 number }
+    ensures value { result ≡ signed test number }
+    ensures size { nat_abs result ≡ nat_abs number }
+{
+    if test {
+        return -number;
+    }
+    number
 }
 
 /// The number of an objective row at a column.
@@ -40,8 +73,8 @@ pub(crate) fn aim_entry(
     ensures small { IsWithin 70 result }
 {
     let gain = weighed(setting, weight, column);
-    let sum = plus(gain, mix_at(setting, aim, column));
-    signed(turned[column], sum)
+    let sum = plus(gain, wide_mix_at(setting, aim, column));
+    wide_signed(turned[column], sum)
 }
 
 fn plus(gain: i128, sum: i128) -> i128
@@ -76,26 +109,24 @@ fn product(weight: i128, gain: i128, top: u128) -> i128
 }
 
 /// The sum of the numbers at the places of a column.
-fn mix_at(setting: &ShortSetting, numbers: &[i128], column: usize) -> i128
+fn wide_mix_at(setting: &ShortSetting, numbers: &[i128], column: usize) -> i128
     requires setting { IsSetting setting.now }
     requires column { column < setting.now.columns.count }
     requires numbers { setting.now.constraints ≤ length numbers.now }
     requires small { All (IsWithin 64) numbers.now }
     ensures value { result ≡ mix (places_of setting.now column) numbers.now }
-    ensures within { IsWithin 69 result }
-    ensures small { (bits : ℕ) → All (IsWithin bits) numbers.now → nat_abs result ≤ 32 * 2 ^ bits }
+    ensures small { IsWithin 69 result }
 {
     let places = setting.places.as_slice();
-    mix(places[column].as_slice(), numbers)
+    wide_mix(places[column].as_slice(), numbers)
 }
 
-fn mix(places: &[usize], numbers: &[i128]) -> i128
+fn wide_mix(places: &[usize], numbers: &[i128]) -> i128
     requires few { length places.now ≤ 32 }
     requires within { All (λ j. j < length numbers.now) places.now }
     requires small { All (IsWithin 64) numbers.now }
     ensures value { result ≡ mix places.now numbers.now }
-    ensures within { IsWithin 69 result }
-    ensures small { (bits : ℕ) → All (IsWithin bits) numbers.now → nat_abs result ≤ 32 * 2 ^ bits }
+    ensures small { IsWithin 69 result }
 {
     let mut sum: i128 = 0;
     for place in places {
@@ -104,7 +135,7 @@ fn mix(places: &[usize], numbers: &[i128]) -> i128
     sum
 }
 
-fn signed(test: bool, number: i128) -> i128
+fn wide_signed(test: bool, number: i128) -> i128
     requires { IsFit number }
     ensures value { result ≡ signed test number }
     ensures size { nat_abs result ≡ nat_abs number }

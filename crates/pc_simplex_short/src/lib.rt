@@ -6,6 +6,8 @@ mod change;
 mod choice;
 mod entry;
 mod limit;
+mod narrow;
+mod reduce;
 mod row;
 mod rows;
 mod run;

@@ -38,7 +38,7 @@ pub(crate) fn with_row(
     best
 }
 
-fn with_lower(column: usize, value: i128, own: i128, at: usize, best: Limit) -> Limit
+fn with_lower(column: usize, value: i64, own: i64, at: usize, best: Limit) -> Limit
     requires value { IsWithin 50 value }
     requires own { IsWithin 55 own }
     requires positive { pos 0 <ℤ own }
@@ -48,8 +48,8 @@ fn with_lower(column: usize, value: i128, own: i128, at: usize, best: Limit) -> 
 {
     let lower = Limit {
         column,
-        over: value,
-        under: own,
+        over: i128::from(value),
+        under: i128::from(own),
         way: Way::Pivoting(at),
     };
     lesser(best, lower)
@@ -58,7 +58,7 @@ fn with_lower(column: usize, value: i128, own: i128, at: usize, best: Limit) -> 
 fn with_upper_limit(
     setting: &ShortSetting,
     turned: &[bool],
-    own: i128,
+    own: i64,
     at: usize,
     row: &ShortRow,
     best: Limit,
@@ -89,7 +89,7 @@ fn basic_range(setting: &ShortSetting, row: &ShortRow) -> Option<u64>
     setting.columns.range(row.basic)
 }
 
-fn with_upper(column: usize, over: i128, own: i128, at: usize, best: Limit) -> Limit
+fn with_upper(column: usize, over: i128, own: i64, at: usize, best: Limit) -> Limit
     requires over { IsFit over }
     requires own { IsWithin 55 own }
     requires negative { own <ℤ pos 0 }
@@ -100,14 +100,14 @@ fn with_upper(column: usize, over: i128, own: i128, at: usize, best: Limit) -> L
     let upper = Limit {
         column,
         over,
-        under: -own,
+        under: -i128::from(own),
         way: Way::TurningAndPivoting(at),
     };
     lesser(best, upper)
 }
 
 /// The number of a row at a column.
-fn entry_of(setting: &ShortSetting, turned: &[bool], row: &ShortRow, column: usize) -> i128
+fn entry_of(setting: &ShortSetting, turned: &[bool], row: &ShortRow, column: usize) -> i64
     requires setting { IsSetting setting.now }
     requires row { IsShortRow setting.now row.now }
     requires turned { length turned.now ≡ setting.now.columns.count }
@@ -118,7 +118,7 @@ fn entry_of(setting: &ShortSetting, turned: &[bool], row: &ShortRow, column: usi
     entry(setting, turned, row.numbers.as_slice(), column)
 }
 
-fn value_of(setting: &ShortSetting, row: &ShortRow) -> i128
+fn value_of(setting: &ShortSetting, row: &ShortRow) -> i64
     requires row { IsShortRow setting.now row.now }
     ensures value { result ≡ int_at row.now.numbers setting.now.constraints }
     ensures small { IsWithin 50 result }
@@ -127,11 +127,11 @@ fn value_of(setting: &ShortSetting, row: &ShortRow) -> i128
 }
 
 // How far a value is below the end of a range, both times the entry.
-fn room_above(entry: i128, range: u64, value: i128) -> i128
+fn room_above(entry: i64, range: u64, value: i64) -> i128
     requires entry { IsWithin 55 entry }
     requires value { IsWithin 50 value }
     ensures value { result ≡ entry *ℤ pos range -ℤ value }
     ensures fits { IsFit result }
 {
-    entry * i128::from(range) - value
+    i128::from(entry) * i128::from(range) - i128::from(value)
 }

@@ -1,20 +1,19 @@
-ghost use Rattle.std.specs.Prelude.{◌≡◌, ◌<◌, ◌≤◌, ◌*ℤ◌, ◌-ℤ◌, neg_ℤ, pos, cond, map, slice_set, length, All, IsTrue};
+ghost use Rattle.std.specs.Prelude.{◌≡◌, ◌<◌, ◌*ℤ◌, ◌-ℤ◌, neg_ℤ, pos, cond, map, slice_set, length, All, IsTrue};
 ghost use Rattle.pc_program_bound.specs.Sums.{int_at};
 ghost use Rattle.pc_program_bound.specs.Bound.{IsFit};
-ghost use Rattle.pc_simplex_tableau.specs.Numbers.{combined};
 ghost use Rattle.pc_simplex_short.specs.Short.{entry, turned_short, freed_short};
 ghost use Rattle.pc_simplex_short.specs.Kept.{IsWithin, IsSetting, IsShortRow};
 
 use crate::entry::entry;
+use crate::reduce::reduce;
 use crate::setting::ShortSetting;
-use crate::small::{are_small, is_small};
-use pc_simplex_tableau::{make_primitive, negate};
+use crate::small::is_small;
 use std::marker::Model;
 
 /// A number for each constraint and then the row's value, and the column that is basic in it.
 #[derive(Drop)]
 pub struct ShortRow {
-    pub numbers: Vec<i128>,
+    pub numbers: Vec<i64>,
     pub basic: usize,
 }
 
@@ -60,7 +59,7 @@ impl ShortRow {
         setting: &ShortSetting,
         turned: &[bool],
         column: usize,
-        other: &[i128],
+        other: &[i64],
     ) -> bool
         requires setting { IsSetting setting.now }
         requires short { IsShortRow setting.now self.old }
@@ -76,38 +75,11 @@ impl ShortRow {
             return true;
         }
         let scale = entry(setting, turned, other, column);
-        combine(self.numbers.as_mut_slice(), scale, own, other);
-        make_primitive(self.numbers.as_mut_slice());
-        are_small(self.numbers.as_slice())
+        reduce(self.numbers.as_mut_slice(), scale, own, other)
     }
 }
 
-/// `p` times the row minus `t` times the other. Small numbers leave nothing that does not fit.
-pub(crate) fn combine(row: &mut [i128], p: i128, t: i128, other: &[i128])
-    requires row { All (IsWithin 64) row.old }
-    requires other { All (IsWithin 50) other.now }
-    requires p { IsWithin 55 p }
-    requires t { IsWithin 70 t }
-    requires sized { length row.old ≡ length other.now }
-    ensures combined { row.new ≡ combined p row.old t other.now }
-    ensures fits { All IsFit row.new }
-{
-    for place in 0..row.len() {
-        row[place] = mixed(p, row[place], t, other[place]);
-    }
-}
-
-fn mixed(p: i128, a: i128, t: i128, b: i128) -> i128
-    requires p { IsWithin 55 p }
-    requires a { IsWithin 64 a }
-    requires t { IsWithin 70 t }
-    requires b { IsWithin 50 b }
-    ensures { result ≡ p *ℤ a -ℤ t *ℤ b }
-{
-    p * a - t * b
-}
-
-fn turn_numbers(numbers: &mut [i128], at: usize, entry: i128, range: u64, is_basic: bool) -> bool
+fn turn_numbers(numbers: &mut [i64], at: usize, entry: i64, range: u64, is_basic: bool) -> bool
     requires at { at < length numbers.old }
     requires entry { IsWithin 55 entry }
     requires small { All (IsWithin 50) numbers.old }
@@ -122,7 +94,7 @@ fn turn_numbers(numbers: &mut [i128], at: usize, entry: i128, range: u64, is_bas
 }
 
 /// Takes so many times the entry from the value, and answers whether that is still small.
-fn lower(numbers: &mut [i128], at: usize, entry: i128, range: u64) -> bool
+fn lower(numbers: &mut [i64], at: usize, entry: i64, range: u64) -> bool
     requires at { at < length numbers.old }
     requires entry { IsWithin 55 entry }
     requires small { All (IsWithin 50) numbers.old }
@@ -133,20 +105,20 @@ fn lower(numbers: &mut [i128], at: usize, entry: i128, range: u64) -> bool
     if !is_small(value) {
         return false;
     }
-    numbers[at] = value;
+    numbers[at] = value as i64;
     true
 }
 
-fn lowered(value: i128, entry: i128, range: u64) -> i128
+fn lowered(value: i64, entry: i64, range: u64) -> i128
     requires entry { IsWithin 55 entry }
     requires value { IsWithin 50 value }
     ensures value { result ≡ value -ℤ entry *ℤ pos range }
     ensures fits { IsFit result }
 {
-    value - entry * i128::from(range)
+    i128::from(value) - i128::from(entry) * i128::from(range)
 }
 
-fn negate_if(numbers: &mut [i128], test: bool)
+fn negate_if(numbers: &mut [i64], test: bool)
     requires { All (IsWithin 50) numbers.old }
     ensures negated { numbers.new ≡ cond test (map neg_ℤ numbers.old) numbers.old }
     ensures small { All (IsWithin 50) numbers.new }
@@ -154,4 +126,22 @@ fn negate_if(numbers: &mut [i128], test: bool)
     if test {
         negate(numbers);
     }
+}
+
+/// Minus each number.
+fn negate(numbers: &mut [i64])
+    requires { All (IsWithin 50) numbers.old }
+    ensures { numbers.new ≡ map neg_ℤ numbers.old }
+{
+    for number in numbers.iter_mut() {
+        *number = negative(*number);
+    }
+}
+
+fn negative(number: i64) -> i64
+    requires { IsWithin 50 number }
+    ensures value { result ≡ neg_ℤ number }
+    ensures small { IsWithin 50 result }
+{
+    -number
 }

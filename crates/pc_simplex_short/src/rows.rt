@@ -37,7 +37,7 @@ pub(crate) fn free_all(
     setting: &ShortSetting,
     turned: &[bool],
     column: usize,
-    other: &[i128],
+    other: &[i64],
 ) -> bool
     requires setting { IsSetting setting.now }
     requires short { All (IsShortRow setting.now) rows.old }

@@ -1,18 +1,7 @@
 ghost use Rattle.std.specs.Prelude.{◌*◌, ◌≤◌, ◌^◌, nat_abs, All, IsTrue};
 ghost use Rattle.pc_simplex_short.specs.Kept.{IsWithin};
 
-/// Whether the numbers of a row are small.
-pub(crate) fn are_small(numbers: &[i128]) -> bool
-    ensures { IsTrue result → All (IsWithin 50) numbers.now }
-{
-    for number in numbers {
-        if !is_small(*number) {
-            return false;
-        }
-    }
-    true
-}
-
+/// Whether a number of a row is small.
 pub(crate) fn is_small(number: i128) -> bool
     ensures { IsTrue result → IsWithin 50 number }
 {

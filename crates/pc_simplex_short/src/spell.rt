@@ -82,7 +82,7 @@ fn spell_numbers(
     alloc: Global,
     setting: &ShortSetting,
     turned: &[bool],
-    numbers: &[i128],
+    numbers: &[i64],
 ) -> Result<Vec<i128>, Memory>
     requires setting { IsSetting setting.now }
     requires turned { length turned.now ≡ setting.now.columns.count }
@@ -92,9 +92,9 @@ fn spell_numbers(
 {
     let mut spelled = Vec::new(alloc);
     for column in 0..setting.columns.count {
-        spelled.push(entry(setting, turned, numbers, column))?;
+        spelled.push(i128::from(entry(setting, turned, numbers, column)))?;
     }
-    spelled.push(numbers[setting.constraints])?;
+    spelled.push(i128::from(numbers[setting.constraints]))?;
     Ok(spelled)
 }
 

@@ -41,7 +41,7 @@ fn row(alloc: Global) -> Result<ShortRow, AllocError>
     ensures { IfOk result (λ row. record { rows = row ∷ []; turned = sample_start.turned; aim = sample_start.aim; weight = sample_start.weight } ≡ sample_start) }
 {
     Ok(ShortRow {
-        numbers: vec![in alloc; 1i128, 3]?,
+        numbers: vec![in alloc; 1i64, 3]?,
         basic: 1,
     })
 }

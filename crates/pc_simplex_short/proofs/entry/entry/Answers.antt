@@ -1,12 +1,19 @@
 use Rattle.std.proofs.Common.{arith}
-use Rattle.pc_program_bound.specs.Bound.{IsFit}
-use Rattle.pc_num.proofs.Signed.{passed}
+use Rattle.pc_simplex_short.proofs.Words.{FitsWord, passed_word}
 use Rattle.pc_simplex_short.proofs.entry.entry.Goals as goal
+
+pub returns-clause-value : goal.returns-clause-value
+returns-clause-value c =
+    let sum_fits : FitsWord c.mix_at.result = omega (arith, c.mix_at.ensures.small) in
+    let value = rw (passed_word c.mix_at.result sum_fits, c.mix_at.ensures.value) at c.signed.ensures.value in
+    let size = rw (passed_word c.mix_at.result sum_fits) at c.signed.ensures.size in
+    let own : FitsWord c.signed.result = omega (arith, size, sum_fits) in
+    rw (passed_word c.signed.result own) value
 
 pub returns-clause-small : goal.returns-clause-small
 returns-clause-small c =
-    let fits : IsFit c.mix_at.result = omega (arith, c.mix_at.ensures.within) in
-    let size = rw (passed c.mix_at.result fits) at c.signed.ensures.size in
-    let most = c.mix_at.ensures.small 50 c.requires.small in
-    let own : IsFit c.signed.result = omega (arith, size, fits) in
-    rw (passed c.signed.result own) (omega (arith, size, most))
+    let most = c.mix_at.ensures.small in
+    let sum_fits : FitsWord c.mix_at.result = omega (arith, most) in
+    let size = rw (passed_word c.mix_at.result sum_fits) at c.signed.ensures.size in
+    let own : FitsWord c.signed.result = omega (arith, size, sum_fits) in
+    rw (passed_word c.signed.result own) (omega (arith, size, most))

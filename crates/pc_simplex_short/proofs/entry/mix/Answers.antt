@@ -1,9 +1,7 @@
-use Rattle.std.proofs.Common.{◌<◌, ◌≤◌, ◌*◌, ◌^◌, get_or, length, pos, ◌+ℤ◌, arith, refl}
+use Rattle.std.proofs.Common.{◌<◌, get_or, length, pos, ◌+ℤ◌, arith, refl}
 use Rattle.std.proofs.lemmas.Int.{ints}
-use Rattle.pc_program_bound.specs.Bound.{IsFit}
-use Rattle.pc_num.proofs.Signed.{passed}
+use Rattle.pc_simplex_short.proofs.Words.{FitsWord, passed_word}
 use Rattle.pc_simplex_short.specs.Kept.{IsWithin}
-use Rattle.std.proofs.lemmas.Nat.{mul-le}
 use Rattle.pc_simplex_short.proofs.Mixing.{mix_more, mix_end, mix_small}
 use Rattle.pc_simplex_short.proofs.entry.mix.Goals as goal
 
@@ -15,19 +13,19 @@ loop-place-preserved c =
     let j = get_or places l.place-index 0 in
     let within : j < length numbers = c.requires.within l.place-index 0 c.loop-place-test.true in
     let number = get_or numbers j (pos 0) in
-    let small : IsWithin 64 number = c.requires.small j (pos 0) within in
-    let fits : IsFit number = omega (arith, small) in
+    let small : IsWithin 50 number = c.requires.small j (pos 0) within in
+    let fits : FitsWord number = omega (arith, small) in
     let few = c.requires.few in
-    let sum : IsFit (l.sum +ℤ number) = rw (← l.sum-is) (omega (arith, ints, l.invariant.small, small, few, c.loop-place-test.true)) in
-    rw (passed number fits, l.sum-is, passed (l.sum +ℤ number) sum)
-    (mix_more places numbers l.sum l.place-index 0 j c.loop-place-test.true refl small (rw l.sum-is at l.invariant))
+    let sum : FitsWord (l.sum +ℤ number) = rw (← l.sum-is) (omega (arith, ints, l.invariant.small, small, few, c.loop-place-test.true)) in
+    rw (passed_word number fits, l.sum-is, passed_word (l.sum +ℤ number) sum)
+    (mix_more 50 places numbers l.sum l.place-index 0 j c.loop-place-test.true refl small (rw l.sum-is at l.invariant))
 
 pub returns-clause-value : goal.returns-clause-value
-returns-clause-value c = mix_end c.args.places.now c.args.numbers.now _ c.loop-place.place-index (omega (arith, c.loop-place-test.false)) c.loop-place.invariant
+returns-clause-value c = mix_end 50 c.args.places.now c.args.numbers.now _ c.loop-place.place-index (omega (arith, c.loop-place-test.false)) c.loop-place.invariant
 
 pub returns-clause-small : goal.returns-clause-small
-returns-clause-small c bits small =
-    let sum = mix_end c.args.places.now c.args.numbers.now _ c.loop-place.place-index (omega (arith, c.loop-place-test.false)) c.loop-place.invariant in
-    let size = mix_small bits c.args.places.now c.args.numbers.now c.requires.within small in
-    let most : length c.args.places.now * 2 ^ bits ≤ 32 * 2 ^ bits = mul-le (length c.args.places.now) (2 ^ bits) 32 (2 ^ bits) c.requires.few (omega arith) in
-    rw sum (omega (arith, size, most))
+returns-clause-small c =
+    let sum = mix_end 50 c.args.places.now c.args.numbers.now _ c.loop-place.place-index (omega (arith, c.loop-place-test.false)) c.loop-place.invariant in
+    let size = mix_small 50 c.args.places.now c.args.numbers.now c.requires.within c.requires.small in
+    let few = c.requires.few in
+    rw sum (omega (arith, size, few))

@@ -2,4 +2,4 @@ use Rattle.pc_simplex_short.proofs.Mixing.{IsMixTo}
 use Rattle.pc_simplex_short.proofs.entry.mix.Given as goal
 
 abbrev pub invariant-loop-place : goal.invariant-loop-place
-invariant-loop-place l = IsMixTo l.places l.numbers l.sum l.place-index
+invariant-loop-place l = IsMixTo 50 l.places l.numbers l.sum l.place-index

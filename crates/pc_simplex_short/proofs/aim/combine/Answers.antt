@@ -5,7 +5,8 @@ use Rattle.pc_num.proofs.Signed.{passed}
 use Rattle.pc_simplex_tableau.proofs.Coded.{read_row, combined_start, combined_more, combined_end}
 use Rattle.pc_simplex_short.specs.Kept.{IsWithin}
 use Rattle.pc_simplex_short.proofs.Sizes.{mixed_fits}
-use Rattle.pc_simplex_short.proofs.row.combine.Goals as goal
+use Rattle.pc_simplex_short.proofs.Words.{FitsWord, passed_word}
+use Rattle.pc_simplex_short.proofs.aim.combine.Goals as goal
 
 pub loop-place-init : goal.loop-place-init
 loop-place-init c = combined_start _ _ _ _ (All-weaker (IsWithin 64) IsFit (λ x h. omega (arith, h)) c.args.row.now c.requires.row)
@@ -24,9 +25,9 @@ loop-place-preserved c =
     let others : IsWithin 50 b = c.requires.other l.place (pos 0) (omega (arith, c.requires.sized, within)) in
     let fits = mixed_fits c.args.p a c.args.t b c.requires.p own c.requires.t others in
     let a_fits : IsFit a = omega (arith, own) in
-    let b_fits : IsFit b = omega (arith, others) in
+    let b_fits : FitsWord b = omega (arith, others) in
     let number : c.mixed.result ≡ c.args.p *ℤ a -ℤ c.args.t *ℤ b =
-    rw (to_z-of_z c.ranges.p, to_z-of_z c.ranges.t, passed a a_fits, passed b b_fits) at c.mixed.ensures in
+    rw (to_z-of_z c.ranges.p, to_z-of_z c.ranges.t, passed a a_fits, passed_word b b_fits) at c.mixed.ensures in
     let result : IsFit c.mixed.result = rw number fits.2 in
     rw (to_z-of_z c.ranges.p, to_z-of_z c.ranges.t, passed c.mixed.result result)
     (combined_more c.args.p c.args.t old other l.row l.place (pos 0) (pos 0) within c.requires.sized made c.mixed.result fits number)

@@ -1,5 +1,5 @@
 use Rattle.pc_simplex_tableau.proofs.Coded.{IsCombinedTo}
-use Rattle.pc_simplex_short.proofs.row.combine.Given as goal
+use Rattle.pc_simplex_short.proofs.aim.combine.Given as goal
 
 abbrev pub invariant-loop-place : goal.invariant-loop-place
 invariant-loop-place l = IsCombinedTo l.fn.p l.fn.t l.fn.row l.other l.row l.place
