@@ -37,10 +37,10 @@ use Rattle.pc_cells_tree.proofs.Rooms.{first_smaller, second_smaller}
 
 -- ---- efforts
 
-some_effort : (n : ℕ) → 0 < 2 ^ n
+pub some_effort : (n : ℕ) → 0 < 2 ^ n
 some_effort n = let least : 2 ^ 0 ≤ 2 ^ n = pow_mono {i = 0} {j = n} (omega arith) in omega (arith, least)
 
-parts_less : (a b c : ℕ) → a < c → b < c → 2 ^ (2 * a) + 2 ^ (2 * b) + 1 < 2 ^ (2 * c)
+pub parts_less : (a b c : ℕ) → a < c → b < c → 2 ^ (2 * a) + 2 ^ (2 * b) + 1 < 2 ^ (2 * c)
 parts_less a b zero p q = absurd (omega arith)
 parts_less a b (suc c) p q =
     let first : 2 ^ (2 * a) ≤ 2 ^ (2 * c) = pow_mono {i = 2 * a} {j = 2 * c} (omega arith) in

@@ -11,6 +11,7 @@ ghost use Rattle.pc_cells_tree.specs.Walking.{HasCutsOf, HasWalked, IsVisit, IsT
 
 use crate::decision::{Decision, decide};
 use crate::growth::{Growth, number};
+use crate::known::Known;
 use pc_box::cut;
 use pc_list::Seq;
 use pc_model::{Area, Constraint, Cut, CutNode, LeafMark, Region, Schema};
@@ -136,15 +137,16 @@ fn visited(
 }
 
 #[inline(always)]
+#[tactic(auto, using(crate::proofs::Knowing::nothing_known))]
 fn mark_of(part: &Region, constraints: &[Constraint], chosen: &Area) -> LeafMark
     requires few { length constraints.now ≤ constraint_limit }
     requires comparable { IsComparable constraints.now chosen.now part.now }
     requires settled { CanBeSettled constraints.now chosen.now part.now }
     ensures { IsSettledAs constraints.now chosen.now part.now result }
 {
-    match decide(part, constraints, chosen) {
+    match decide(part, constraints, chosen, Known::nothing()) {
         Decision::Settled(mark) => mark,
-        Decision::Divided(_) => unreachable!(),
+        Decision::Divided { .. } => unreachable!(),
     }
 }
 
