@@ -160,6 +160,18 @@ fn box_of(when: &When, place: usize) -> &Region
     }
 }
 
+/// What is known of a box once each constraint was asked.
+#[inline(always)]
+pub(crate) fn learn(part: &Region, constraints: &[Constraint], known: Known) -> Known
+    requires few { length constraints.now ≤ constraint_limit }
+    requires sides { length part.now.sides ≤ column_limit }
+    requires alike { All (IsAlikeTo part.now) constraints.now }
+    requires known { IsKnown constraints.now part.now known }
+    ensures { IsKnown constraints.now part.now result }
+{
+    find(part, constraints, known).known
+}
+
 // From the last one to the first.
 #[inline(always)]
 #[tactic(auto, using(crate::proofs::Decisions::rounds))]
