@@ -2,7 +2,8 @@ ghost use Rattle.std.specs.Prelude.{◌≡◌, ◌<◌, length, IfOk};
 ghost use Rattle.pc_cells_tree.specs.Linked.{CanBeDivided};
 ghost use Rattle.pc_cells.specs.Found.{AreCellsFor, leaves_at};
 
-use crate::shared::Shared;
+use crate::gather::gather;
+use pc_cells_tree::{Growth, grown_tree};
 use pc_list::Seq;
 use pc_model::{Area, Constraint, CutTree, Region, Schema};
 use pc_num::Memory;
@@ -35,7 +36,7 @@ impl Cells {
 }
 
 /// Divides the rows of the domain by which constraints speak of them and whether the query chooses them, with a
-/// tree for them alone.
+/// tree for them alone, which is grown straight away.
 pub fn decompose(
     alloc: Global,
     schema: &Schema,
@@ -45,7 +46,10 @@ pub fn decompose(
     requires asked { CanBeDivided schema.now constraints.now chosen.now }
     ensures found { IfOk result (AreCellsFor schema.now constraints.now chosen.now) }
 {
-    let mut shared = Shared::new(alloc, schema)?;
-    shared.refine(schema, constraints, chosen)?;
-    shared.cells(schema, constraints, chosen)
+    let Growth { nodes, leaves } = grown_tree(alloc, schema, constraints, chosen)?;
+    let cells = gather(alloc, leaves)?;
+    Ok(Cells {
+        tree: CutTree { nodes },
+        cells,
+    })
 }

@@ -29,7 +29,7 @@ use Rattle.pc_cells_tree.specs.declared.decision.Finding.{Finding}
 use Rattle.pc_cells_tree.specs.declared.decision.Finding.TheVariants.{Broken, Crossed, Under}
 use Rattle.pc_cells_tree.specs.Stances.{IsAcross, IsAlong, IsCutThrough, IsStance, no_box, box_in, IsAcrossAt, IsCutThroughArea, IsAreaStance}
 use Rattle.pc_cells_tree.specs.Standings.{is_of_values, place_in, IsAcrossWhen, IsCrossedBy, IsCrossing, region_of, HasBoxAt, IsStanding, IsStandingAt}
-use Rattle.pc_cells_tree.specs.Decisions.{IsComparable, IsMaskOf, IsRegionOf, HasRegionIn, HasShortMask, IsFound, IsWithCrossing, with_bit, CanBeSettled, IsCutThroughWhen, IsCutFor, IsNeeded}
+use Rattle.pc_cells_tree.specs.Decisions.{HasBitAt, IsComparable, IsMaskOf, IsRegionOf, HasRegionIn, HasShortMask, IsFound, IsWithCrossing, with_bit, CanBeSettled, IsCutThroughWhen, IsCutFor, IsNeeded}
 use Rattle.pc_cells_tree.proofs.AreaStances.{filled_by, both_ways, both_ways_when, not_beside}
 use Rattle.pc_cells_tree.proofs.Choices.{divided-along}
 use Rattle.pc_cells_tree.proofs.Lists.{any_at, none_from}
@@ -125,6 +125,12 @@ module _ (part : Region) (cs : List Constraint) (place : ℕ) (d : Constraint) (
       pub found-inside : (later : Finding) → All (IsAlikeTo part) cs → standing ≡ OfAll → values ≡ Inside → IsFound part cs (place + 1) later → IsFound part cs place (with_bit true later)
       found-inside later alike e f found = found_bit true later alike (record { when = stands_as OfAll e; values = subst (IsStance part this.values) f also }) found
 
+      pub bit-inside : standing ≡ OfAll → values ≡ Inside → HasBitAt cs part place (Some true)
+      bit-inside e f = λ c. record {
+        when = subst (λ (other : Constraint). SpeaksOfAll cs part other) (same_at c) (stands_as OfAll e);
+        values = subst (λ (other : Constraint). IsInside part other.values) (same_at c) (subst (IsStance part this.values) f also);
+      }
+
       pub found-broken : standing ≡ OfAll → values ≡ Apart → IsFound part cs place Broken
       found-broken e f = any_at (IsRuledOut cs part) cs place d inside (stands_as OfAll e, subst (IsStance part this.values) f also)
 
@@ -136,13 +142,12 @@ module _ (part : Region) (cs : List Constraint) (place : ℕ) (d : Constraint) (
           (record { there = inside; crossed = λ c. subst (λ (other : Constraint). SpeaksOfAll cs part other × IsAcross part other.values) (same_at c) (stands_as OfAll e, across) }) (λ ruled. across.not_apart ruled.1)
           gives found
 
--- a bit more of a mask
-pub found-bit : (part : Region) (cs : List Constraint) (place : ℕ) (bit : Bool) (mask : ℕ) → place < length cs → All (IsAlikeTo part) cs →
-    ((c : Constraint) → cond bit (IsUnder cs part (get_or cs place c)) (SpeaksOfNone cs part (get_or cs place c))) →
-    IsFound part cs (place + 1) (Under mask) → IsFound part cs place (Under (2 * mask + cond bit 1 0))
-found-bit part cs place bit mask inside alike says found =
+-- one of which it is known
+pub found-told : (part : Region) (cs : List Constraint) (place : ℕ) (bit : Bool) (later : Finding) → place < length cs → All (IsAlikeTo part) cs → HasBitAt cs part place (Some bit) → IsFound part cs (place + 1) later →
+    IsFound part cs place (with_bit bit later)
+found-told part cs place bit later inside alike says found =
     let d = some_of cs place inside in
-    found_bit part cs place d inside bit (Under mask) alike (says d) found
+    found_bit part cs place d inside bit later alike (says d) found
 
 pub found-open : (part : Region) (cs : List Constraint) (place : ℕ) (inside : place < length cs) (standing : Standing) (crossing : Crossing) (later after : Finding) → All (IsAlikeTo part) cs →
     IsStandingAt cs part place standing → standing ≡ Open crossing → IsWithCrossing crossing later after → IsFound part cs (place + 1) later → IsFound part cs place after
@@ -157,10 +162,7 @@ short_mask part cs place (Under mask) few inside found =
     let less : 2 ^ length (drop (place + 1) cs) ≤ 2 ^ constraint_limit = pow_mono fewer in
     omega (arith, found.short, less)
 
-pub bit-short : (part : Region) (cs : List Constraint) (place mask : ℕ) → length cs ≤ constraint_limit → place < length cs → IsFound part cs (place + 1) (Under mask) → mask < 2 ^ constraint_limit
-bit-short part cs place mask few inside found = short_mask part cs place (Under mask) few inside found
-
-pub ruleset alikes = (values_alike)
+pub ruleset tells = (short_mask)
 
 pub ruleset steps = (values_alike, found-none_of, found-inside, found-broken, found-across_values, short_mask)
 

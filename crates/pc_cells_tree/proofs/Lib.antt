@@ -7,6 +7,7 @@ pub mod Ends
 pub mod Faces
 pub mod Grown
 pub mod Inner
+pub mod Knowing
 pub mod Lists
 pub mod OwnCuts
 pub mod Parts
@@ -17,6 +18,7 @@ pub mod Rooms
 pub mod Stances
 pub mod Standings
 pub mod Starts
+pub mod Straight
 pub mod TreeBoxes
 pub mod TreeLaws
 pub mod Walked

@@ -42,7 +42,7 @@ module _ (box part : Region) (inner : IsInside part box) where
     beyond_when (Boxes area) apart = beyond_area area apart
     beyond_when Outside (k, c, there, is, named) = (k, c, there, is, within_named c.when named)
 
-    at_place : (bit : Bool) (c : Constraint) → cond bit (IsUnder all box c) (SpeaksOfNone all box c) → cond bit (IsUnder all part c) (SpeaksOfNone all part c)
+    pub at_place : (bit : Bool) (c : Constraint) → cond bit (IsUnder all box c) (SpeaksOfNone all box c) → cond bit (IsUnder all part c) (SpeaksOfNone all part c)
     at_place true c under = record { when = within_when c.when under.when; values = within c.values under.values }
     at_place false c none = beyond_when c.when none
 

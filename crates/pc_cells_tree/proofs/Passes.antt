@@ -1,5 +1,5 @@
 -- The pass over the growing list: its start, a step at a node, and that there is less left to do.
-use Rattle.std.proofs.Common.{◌≡◌, ◌≢◌, ℕ, zero, suc, ◌+◌, ◌*◌, ◌^◌, ◌<◌, ◌≤◌, inl, inr, true, List, [], ◌∷◌, ◌++◌, length, get_or, drop, All, refl, sym, ◌∙◌, ap, subst, true≢false, arith}
+use Rattle.std.proofs.Common.{◌≡◌, ◌≢◌, ℕ, zero, suc, ◌+◌, ◌*◌, ◌^◌, ◌<◌, ◌≤◌, inl, inr, Bool, true, List, [], ◌∷◌, ◌++◌, length, get_or, drop, All, refl, sym, ◌∙◌, ap, subst, true≢false, arith}
 use Rattle.std.proofs.Math.Nat.{pow-suc}
 use Rattle.std.proofs.Math.Pow.{pow_mono}
 use Rattle.std.proofs.lemmas.Bool.{cases_lt}
@@ -19,11 +19,13 @@ use Rattle.pc_model.specs.CutTrees.{IsInside, IsInsideArea, first_part, second_p
 use Rattle.pc_model.specs.Cells.{IsSettledAs}
 use Rattle.pc_box.specs.Boxes.{IsBox}
 use Rattle.pc_box.proofs.CutRows.{IsProper-from_divides}
+use Rattle.pc_cells_tree.specs.declared.known.Known.{Known}
 use Rattle.pc_cells_tree.specs.declared.refine.Boxed.{Boxed}
 use Rattle.pc_cells_tree.specs.declared.decision.Decision.{Decision}
-use Rattle.pc_cells_tree.specs.declared.decision.Decision.TheVariants.{Settled}
-use Rattle.pc_cells_tree.specs.Decisions.{IsComparable, CanBeSettled, IsNeeded, IsDecision}
+use Rattle.pc_cells_tree.specs.declared.decision.Decision.TheVariants.{Settled, Divided}
+use Rattle.pc_cells_tree.specs.Decisions.{IsComparable, CanBeSettled, IsNeeded}
 use Rattle.pc_cells_tree.specs.Faces.{IsSpentBy}
+use Rattle.pc_cells_tree.specs.Knowing.{IsDecision, IsKnown}
 use Rattle.pc_cells_tree.specs.Linked.{node_at, box_at, AreBoxesOf, IsDone, AreDoneBelow, is_leaf_node}
 use Rattle.pc_cells_tree.specs.Refining.{nodes_cut, boxes_cut, leaf_sum, IsRefining, IsStep, work_from}
 use Rattle.pc_cells_tree.specs.Rooms.{room}
@@ -37,6 +39,10 @@ use Rattle.pc_cells_tree.proofs.TreeLaws.{first_inside, second_inside, inside_wh
 -- a leaf is no cut
 leaf_or_cut : (node : CutNode) (cut : Cut) (first second : ℕ) → is_leaf_node node ≡ true → node ≡ forms.Inner cut first second → ⊥
 leaf_or_cut node cut first second leaf e = true≢false (sym leaf ∙ ap is_leaf_node e)
+
+pub leaf_read : (nodes others : List CutNode) (place : ℕ) (d : CutNode) (leaf : Bool) → others ≡ nodes → place < length nodes → leaf ≡ is_leaf_node (get_or others place d) → leaf ≡ true →
+    is_leaf_node (node_at nodes place) ≡ true
+leaf_read nodes others place d leaf same there e is = sym (ap is_leaf_node (ap (λ all. get_or all place d) same ∙ get_or_default nodes place d (forms.Leaf Barren) there)) ∙ sym e ∙ is
 
 same_cut : (cut other : Cut) (first second one two : ℕ) → forms.Inner cut first second ≡ forms.Inner other one two → cut ≡ other
 same_cut cut other first second one two e = let same = e in cc
@@ -62,13 +68,26 @@ module _ (constraints : List Constraint) (chosen : Area) where
   pub filled : (boxes : List Region) → All (IsComparable constraints chosen) boxes → All IsBox boxes
   filled boxes each k d inside = (each k d inside).filled
 
-  -- a box that is settled leaves all as it is
-  pub settled_node : (boxed : Boxed) (place : ℕ) (box d : Region) (decision : Decision) (mark : LeafMark) (boxes : List Region) → place < length boxed.nodes → length boxed.boxes ≡ length boxed.nodes →
-      box ≡ get_or boxes place d → boxes ≡ boxed.boxes → IsDecision constraints chosen box decision → decision ≡ Settled mark → IsStep constraints chosen place boxed boxed
-  settled_node boxed place box d decision mark boxes there long is same says e =
-      let read : box ≡ box_at boxed.boxes place = is ∙ ap (λ all. get_or all place d) same ∙ get_or_default boxed.boxes place d (record { sides = [] }) (omega (arith, there, long)) in
-      let settled : IsSettledAs constraints chosen box mark = subst (IsDecision constraints chosen box) e says in
-      inl (refl, done_by constraints chosen (box_at boxed.boxes place) (node_at boxed.nodes place) (mark, subst (λ part. IsSettledAs constraints chosen part mark) read settled))
+  module _ (boxed : Boxed) (place : ℕ) (box d : Region) (boxes : List Region) (there : place < length boxed.nodes) (long : length boxed.boxes ≡ length boxed.nodes) (is : box ≡ get_or boxes place d) (same : boxes ≡ boxed.boxes) where
+    pub box_read : box ≡ box_at boxed.boxes place
+    box_read = is ∙ ap (λ all. get_or all place d) same ∙ get_or_default boxed.boxes place d (record { sides = [] }) (omega (arith, there, long))
+
+    -- a box that is settled leaves all as it is
+    pub settled_node : (decision : Decision) (mark : LeafMark) → IsDecision constraints chosen box decision → decision ≡ Settled mark → IsStep constraints chosen place boxed boxed
+    settled_node decision mark says e =
+        let settled : IsSettledAs constraints chosen box mark = subst (IsDecision constraints chosen box) e says in
+        inl (refl, done_by constraints chosen (box_at boxed.boxes place) (node_at boxed.nodes place) (mark, subst (λ part. IsSettledAs constraints chosen part mark) box_read settled))
+
+    -- what is said of a box that is cut
+    module _ (decision : Decision) (cut : Cut) (known : Known) (says : IsDecision constraints chosen box decision) (e : decision ≡ Divided cut known) where
+      cut_says : IsNeeded constraints chosen box cut × IsKnown constraints box known
+      cut_says = subst (IsDecision constraints chosen box) e says
+
+      pub cut_needed : IsNeeded constraints chosen (box_at boxed.boxes place) cut
+      cut_needed = subst (λ part. IsNeeded constraints chosen part cut) box_read cut_says.0
+
+      pub cut_known : IsKnown constraints (box_at boxed.boxes place) known
+      cut_known = subst (λ part. IsKnown constraints part known) box_read cut_says.1
 
   module _ (start now : Boxed) (place : ℕ) (so_far : IsRefining constraints chosen start now place) (there : place < length now.nodes) where
     long : length now.boxes ≡ length now.nodes

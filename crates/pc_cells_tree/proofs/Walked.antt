@@ -24,23 +24,26 @@ use Rattle.pc_model.specs.Cells.{IsSettledAs}
 use Rattle.pc_box.specs.Cuts.{Divides}
 use Rattle.pc_box.proofs.Proper.{Divides-from_proper}
 use Rattle.pc_cells_tree.specs.declared.growth.Growth.{Growth}
+use Rattle.pc_cells_tree.specs.declared.known.Known.{Known}
 use Rattle.pc_cells_tree.specs.declared.walk.Task.{Task}
 use Rattle.pc_cells_tree.specs.declared.walk.Task.TheVariants.{Visit, Close}
 use Rattle.pc_cells_tree.specs.declared.walk.Walk.{Walk}
 use Rattle.pc_cells_tree.specs.Decisions.{CanBeSettled}
 use Rattle.pc_cells_tree.specs.Growing.{with_leaf, with_place, with_inner}
+use Rattle.pc_cells_tree.specs.Knowing.{IsKnown}
 use Rattle.pc_cells_tree.specs.Linked.{node_at, is_leaf_node, box_at, IsNodeAt, IsCutInto, IsTree, IsDone, IsDividedFor}
 use Rattle.pc_cells_tree.specs.Rooms.{room}
-use Rattle.pc_cells_tree.specs.Walking.{HasWalked, Does, Leads, IsVisit, IsTask, effort, efforts, IsStep, IsOpened, nothing, IsUnderWay}
+use Rattle.pc_cells_tree.specs.Walking.{turn_of, HasWalked, Does, Leads, IsVisit, IsTask, effort, efforts, IsStep, IsOpened, nothing, IsUnderWay}
 use Rattle.pc_cells_tree.proofs.Grown.{first_comparable, second_comparable, grown-leaf, grown-inner, whole_comparable}
+use Rattle.pc_cells_tree.proofs.Knowing.{known_first, known_second}
 use Rattle.pc_cells_tree.proofs.Rooms.{first_smaller, second_smaller}
 
 -- ---- efforts
 
-some_effort : (n : ℕ) → 0 < 2 ^ n
+pub some_effort : (n : ℕ) → 0 < 2 ^ n
 some_effort n = let least : 2 ^ 0 ≤ 2 ^ n = pow_mono {i = 0} {j = n} (omega arith) in omega (arith, least)
 
-parts_less : (a b c : ℕ) → a < c → b < c → 2 ^ (2 * a) + 2 ^ (2 * b) + 1 < 2 ^ (2 * c)
+pub parts_less : (a b c : ℕ) → a < c → b < c → 2 ^ (2 * a) + 2 ^ (2 * b) + 1 < 2 ^ (2 * c)
 parts_less a b zero p q = absurd (omega arith)
 parts_less a b (suc c) p q =
     let first : 2 ^ (2 * a) ≤ 2 ^ (2 * c) = pow_mono {i = 2 * a} {j = 2 * c} (omega arith) in
@@ -50,7 +53,7 @@ parts_less a b (suc c) p q =
     omega (arith, first, second, four, some_effort (2 * c))
 
 some_task : (task : Task) → 0 < effort task
-some_task (Visit number part) = some_effort (2 * room part)
+some_task (Visit turn) = some_effort (2 * room turn.part)
 some_task (Close place cut) = omega arith
 
 module _ (nodes : List CutNode) (constraints : List Constraint) (chosen : Area) where
@@ -71,7 +74,7 @@ module _ (nodes : List CutNode) (constraints : List Constraint) (chosen : Area) 
   -- ---- the tasks that are left
 
   later_task : (grown more : ℕ) (task : Task) → grown ≤ more → IsTask nodes constraints chosen grown task → IsTask nodes constraints chosen more task
-  later_task grown more (Visit number part) longer visit = visit
+  later_task grown more (Visit turn) longer visit = visit
   later_task grown more (Close place cut) longer there = omega (arith, longer, there)
 
   later_tasks : (grown more : ℕ) (tasks : List Task) → grown ≤ more → All (IsTask nodes constraints chosen grown) tasks → All (IsTask nodes constraints chosen more) tasks
@@ -117,11 +120,11 @@ module _ (nodes : List CutNode) (constraints : List Constraint) (chosen : Area) 
       let done : CanBeSettled constraints chosen (box_at visit.boxes number) = subst (IsDone constraints chosen (box_at visit.boxes number)) e (visit.done number visit.there) in
       subst (CanBeSettled constraints chosen) (sym visit.part_is) done
 
-  pub leaf-step : (walk : Walk) (number : ℕ) (part : Region) (kept mark : LeafMark) (growth : Growth) → node_at nodes number ≡ forms.Leaf kept → IsSettledAs constraints chosen part mark →
-      growth ≡ with_leaf walk.growth part mark → IsStep nodes constraints chosen (Visit number part) walk (record { growth = growth; tasks = walk.tasks })
-  leaf-step walk number part kept mark growth is_leaf settled e =
+  pub leaf-step : (walk : Walk) (number : ℕ) (part : Region) (known : Known) (kept mark : LeafMark) (growth : Growth) → node_at nodes number ≡ forms.Leaf kept → IsSettledAs constraints chosen part mark →
+      growth ≡ with_leaf walk.growth part mark → IsStep nodes constraints chosen (Visit (turn_of number part known)) walk (record { growth = growth; tasks = walk.tasks })
+  leaf-step walk number part known kept mark growth is_leaf settled e =
       let more : length growth.nodes ≡ length walk.growth.nodes + 1 = ap (λ (g : Growth). length g.nodes) e ∙ length-append walk.growth.nodes (forms.Leaf mark ∷ []) in
-      done-step walk (Visit number part) growth (omega (arith, more))
+      done-step walk (Visit (turn_of number part known)) growth (omega (arith, more))
       (subst (HasWalked nodes constraints chosen number part walk.growth) (sym e) (walked-leaf number part walk.growth mark (leaf_node number kept is_leaf) settled))
 
   -- ---- at a cut
@@ -163,59 +166,60 @@ module _ (nodes : List CutNode) (constraints : List Constraint) (chosen : Area) 
       same = (first, second, is_inner, one.same, other.same);
     }
 
-    module _ (tasks : List Task) (before : Growth) where
+    module _ (known of_parts : Known) (says : IsKnown constraints part of_parts) (tasks : List Task) (before : Growth) where
       abbrev with_second : List Task
-      with_second = tasks ++ Visit second (second_part part cut) ∷ []
+      with_second = tasks ++ Visit (turn_of second (second_part part cut) of_parts) ∷ []
 
       abbrev with_close : List Task
       with_close = with_second ++ Close (length before.nodes) cut ∷ []
 
       abbrev with_first : List Task
-      with_first = with_close ++ Visit first (first_part part cut) ∷ []
+      with_first = with_close ++ Visit (turn_of first (first_part part cut) of_parts) ∷ []
 
       opened_tasks : All (IsTask nodes constraints chosen (length before.nodes)) tasks → All (IsTask nodes constraints chosen (length (with_place before).nodes)) with_first
       opened_tasks each =
           let grown = length (with_place before).nodes in
           let more : grown ≡ length before.nodes + 1 = length-append before.nodes (forms.Leaf Barren ∷ []) in
-          one_more grown with_close (Visit first (first_part part cut))
+          one_more grown with_close (Visit (turn_of first (first_part part cut) of_parts))
           (one_more grown with_second (Close (length before.nodes) cut)
-          (one_more grown tasks (Visit second (second_part part cut)) (later_tasks (length before.nodes) grown tasks (omega (arith, more)) each) second_visit) (omega (arith, more))) first_visit
+          (one_more grown tasks (Visit (turn_of second (second_part part cut) of_parts)) (later_tasks (length before.nodes) grown tasks (omega (arith, more)) each) (second_visit, known_second constraints part of_parts cut visit_divided says)) (omega (arith, more)))
+          (first_visit, known_first constraints part of_parts cut visit_divided says)
 
-      opened_leads : (end : Growth) → Leads nodes constraints chosen with_first (with_place before) end → Leads nodes constraints chosen (tasks ++ Visit number part ∷ []) before end
+      opened_leads : (end : Growth) → Leads nodes constraints chosen with_first (with_place before) end → Leads nodes constraints chosen (tasks ++ Visit (turn_of number part known) ∷ []) before end
       opened_leads end leads =
-          let one = leads_pop with_close (Visit first (first_part part cut)) (with_place before) end leads in
+          let one = leads_pop with_close (Visit (turn_of first (first_part part cut) of_parts)) (with_place before) end leads in
           let closed = leads_pop with_second (Close (length before.nodes) cut) one.0 end one.2 in
-          let other = leads_pop tasks (Visit second (second_part part cut)) closed.0 end closed.2 in
+          let other = leads_pop tasks (Visit (turn_of second (second_part part cut) of_parts)) closed.0 end closed.2 in
           let start : HasWalked nodes constraints chosen second (second_part part cut) (with_inner one.0 (length before.nodes) cut) other.0 =
           subst (λ growth. HasWalked nodes constraints chosen second (second_part part cut) growth other.0) closed.1 other.1 in
-          leads_push tasks (Visit number part) before other.0 end (walked-inner before one.0 other.0 one.1 start) other.2
+          leads_push tasks (Visit (turn_of number part known)) before other.0 end (walked-inner before one.0 other.0 one.1 start) other.2
 
-      opened_less : efforts with_first < efforts (tasks ++ Visit number part ∷ [])
+      opened_less : efforts with_first < efforts (tasks ++ Visit (turn_of number part known) ∷ [])
       opened_less =
           let less = parts_less (room (first_part part cut)) (room (second_part part cut)) (room part) (first_smaller part cut visit_divided (first_part part cut) refl) (second_smaller part cut visit_divided (second_part part cut) refl) in
           omega (
             arith,
             less,
-            sum_by_push effort tasks (Visit number part),
-            sum_by_push effort with_close (Visit first (first_part part cut)),
+            sum_by_push effort tasks (Visit (turn_of number part known)),
+            sum_by_push effort with_close (Visit (turn_of first (first_part part cut) of_parts)),
             sum_by_push effort with_second (Close (length before.nodes) cut),
-            sum_by_push effort tasks (Visit second (second_part part cut)),
+            sum_by_push effort tasks (Visit (turn_of second (second_part part cut) of_parts)),
           )
 
-    pub opened-step : (before after : Walk) → IsOpened cut part first second before after → IsStep nodes constraints chosen (Visit number part) before after
-    opened-step before after opened = record {
-      tasks = λ each. rw (opened.growth, opened.tasks) (opened_tasks before.tasks.items before.growth each);
-      leads = λ end leads. opened_leads before.tasks.items before.growth end (rw (opened.growth, opened.tasks) at leads);
-      less = rw opened.tasks (opened_less before.tasks.items before.growth);
+    pub opened-step : (known of_parts : Known) → IsKnown constraints part of_parts → (before after : Walk) → IsOpened cut part of_parts first second before after → IsStep nodes constraints chosen (Visit (turn_of number part known)) before after
+    opened-step known of_parts says before after opened = record {
+      tasks = λ each. rw (opened.growth, opened.tasks) (opened_tasks known of_parts says before.tasks.items before.growth each);
+      leads = λ end leads. opened_leads known of_parts says before.tasks.items before.growth end (rw (opened.growth, opened.tasks) at leads);
+      less = rw opened.tasks (opened_less known of_parts says before.tasks.items before.growth);
     }
 
   -- ---- the whole walk
 
-  pub start-under_way : (whole : Region) (grown : List CutNode) (leaves : List Leaf) (tasks : Vec Task) → IsVisit nodes constraints chosen 0 whole → grown ≡ [] → leaves ≡ [] → tasks.items ≡ Visit 0 whole ∷ [] →
+  pub start-under_way : (whole : Region) (known : Known) (grown : List CutNode) (leaves : List Leaf) (tasks : Vec Task) → IsVisit nodes constraints chosen 0 whole → IsKnown constraints whole known → grown ≡ [] → leaves ≡ [] → tasks.items ≡ Visit (turn_of 0 whole known) ∷ [] →
       IsUnderWay nodes constraints chosen whole (record { growth = record { nodes = grown; leaves = leaves }; tasks = tasks })
-  start-under_way whole grown leaves tasks visit no_nodes no_leaves one_task = record {
-    tasks = rw one_task (All-cons (IsTask nodes constraints chosen (length grown)) (Visit 0 whole) [] visit (All-nil (IsTask nodes constraints chosen (length grown))));
-    leads = λ end leads. let last = leads_pop [] (Visit 0 whole) nothing end (rw (no_nodes, no_leaves, one_task) at leads) in subst (HasWalked nodes constraints chosen 0 whole nothing) last.2 last.1;
+  start-under_way whole known grown leaves tasks visit says no_nodes no_leaves one_task = record {
+    tasks = rw one_task (All-cons (IsTask nodes constraints chosen (length grown)) (Visit (turn_of 0 whole known)) [] (visit, says) (All-nil (IsTask nodes constraints chosen (length grown))));
+    leads = λ end leads. let last = leads_pop [] (Visit (turn_of 0 whole known)) nothing end (rw (no_nodes, no_leaves, one_task) at leads) in subst (HasWalked nodes constraints chosen 0 whole nothing) last.2 last.1;
   }
 
   pub step-under_way : (whole : Region) (walk : Walk) (tasks : List Task) (task : Task) (before after : Walk) → IsUnderWay nodes constraints chosen whole walk →

@@ -14,8 +14,6 @@ use Rattle.pc_box.specs.Cuts.{Divides}
 use Rattle.pc_cells_tree.specs.Stances.{column_limit, IsCutThrough, IsCutThroughArea}
 use Rattle.pc_cells_tree.specs.Standings.{IsCrossing, crossed_in, HasRegion}
 use Rattle.pc_cells_tree.specs.declared.standing.Crossing.{Crossing}
-use Rattle.pc_cells_tree.specs.declared.decision.Decision.{Decision}
-use Rattle.pc_cells_tree.specs.declared.decision.Decision.TheVariants.{Settled, Divided}
 use Rattle.pc_cells_tree.specs.declared.decision.Finding.{Finding}
 use Rattle.pc_cells_tree.specs.declared.decision.Finding.TheVariants.{Broken, Crossed, Under}
 
@@ -88,7 +86,3 @@ pub record IsNeeded (constraints : List Constraint) (chosen : Area) (part : Regi
   pub divides : Divides part cut
   pub open_still : CanBeSettled constraints chosen part → ⊥
   pub through : Any (IsCutFor constraints part cut) constraints ⊎ IsCutThroughArea part chosen cut
-
-abbrev pub IsDecision : List Constraint → Area → Region → Decision → Type 0
-IsDecision constraints chosen part (Settled mark) = IsSettledAs constraints chosen part mark
-IsDecision constraints chosen part (Divided cut) = IsNeeded constraints chosen part cut

@@ -1,10 +1,12 @@
 pub mod Decisions
 pub mod Faces
 pub mod Growing
+pub mod Knowing
 pub mod Linked
 pub mod Owned
 pub mod Refining
 pub mod Rooms
 pub mod Stances
 pub mod Standings
+pub mod Straight
 pub mod Walking

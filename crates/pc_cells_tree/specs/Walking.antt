@@ -9,11 +9,14 @@ use Rattle.pc_model.specs.declared.tree.CutNode.{CutNode}
 use Rattle.pc_model.specs.declared.tree.CutNode.TheVariants as forms
 use Rattle.pc_model.specs.CutTrees.{CutShape, leaf, inner, shape_of, first_part, second_part}
 use Rattle.pc_cells_tree.specs.declared.growth.Growth.{Growth}
+use Rattle.pc_cells_tree.specs.declared.known.Known.{Known}
+use Rattle.pc_cells_tree.specs.declared.walk.Turn.{Turn}
 use Rattle.pc_cells_tree.specs.declared.walk.Task.{Task}
 use Rattle.pc_cells_tree.specs.declared.walk.Task.TheVariants.{Visit, Close}
 use Rattle.pc_cells_tree.specs.declared.walk.Walk.{Walk}
 use Rattle.pc_cells_tree.specs.Decisions.{IsComparable}
 use Rattle.pc_cells_tree.specs.Growing.{HasGrown, with_place, with_inner}
+use Rattle.pc_cells_tree.specs.Knowing.{IsKnown}
 use Rattle.pc_cells_tree.specs.Linked.{node_at, is_leaf_node, box_at, AreBoxesOf, AreDoneBelow}
 use Rattle.pc_cells_tree.specs.Rooms.{room}
 
@@ -40,8 +43,11 @@ pub record HasWalked (nodes : List CutNode) (constraints : List Constraint) (cho
 
 -- ---- what is still to be done
 
+abbrev pub turn_of : ℕ → Region → Known → Turn
+turn_of number part known = record { number = number; part = part; known = known }
+
 abbrev pub Does : List CutNode → List Constraint → Area → Task → Growth → Growth → Type 0
-Does nodes constraints chosen (Visit number part) before after = HasWalked nodes constraints chosen number part before after
+Does nodes constraints chosen (Visit turn) before after = HasWalked nodes constraints chosen turn.number turn.part before after
 Does nodes constraints chosen (Close place cut) before after = after ≡ with_inner before place cut
 
 -- the tasks lead from one to the other, the last of them first
@@ -61,7 +67,7 @@ pub record IsVisit (nodes : List CutNode) (constraints : List Constraint) (chose
 
 -- a task where so many nodes have grown
 abbrev pub IsTask : List CutNode → List Constraint → Area → ℕ → Task → Type 0
-IsTask nodes constraints chosen grown (Visit number part) = IsVisit nodes constraints chosen number part
+IsTask nodes constraints chosen grown (Visit turn) = IsVisit nodes constraints chosen turn.number turn.part × IsKnown constraints turn.part turn.known
 IsTask nodes constraints chosen grown (Close place cut) = place < grown
 
 abbrev pub AreTasks : List CutNode → List Constraint → Area → Walk → Type 0
@@ -69,7 +75,7 @@ AreTasks nodes constraints chosen walk = All (IsTask nodes constraints chosen (l
 
 -- the two parts of a box have less room than the box
 abbrev pub effort : Task → ℕ
-effort (Visit number part) = 2 ^ (2 * room part)
+effort (Visit turn) = 2 ^ (2 * room turn.part)
 effort (Close place cut) = 1
 
 abbrev pub efforts : List Task → ℕ
@@ -84,9 +90,9 @@ pub record IsStep (nodes : List CutNode) (constraints : List Constraint) (chosen
   pub less : efforts after.tasks.items < efforts (before.tasks.items ++ task ∷ [])
 
 -- a place is kept for a cut, which comes between its parts
-pub record IsOpened (at : Cut) (part : Region) (first second : ℕ) (before after : Walk) : Type 0 where
+pub record IsOpened (at : Cut) (part : Region) (known : Known) (first second : ℕ) (before after : Walk) : Type 0 where
   pub growth : after.growth ≡ with_place before.growth
-  pub tasks : after.tasks.items ≡ ((before.tasks.items ++ Visit second (second_part part at) ∷ []) ++ Close (length before.growth.nodes) at ∷ []) ++ Visit first (first_part part at) ∷ []
+  pub tasks : after.tasks.items ≡ ((before.tasks.items ++ Visit (turn_of second (second_part part at) known) ∷ []) ++ Close (length before.growth.nodes) at ∷ []) ++ Visit (turn_of first (first_part part at) known) ∷ []
 
 -- ---- a walk over a whole tree
 

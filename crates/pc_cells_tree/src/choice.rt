@@ -1,8 +1,10 @@
 ghost use Rattle.std.specs.Prelude.{◌≡◌, ◌≤◌, ◌<◌, ◌⊎◌, length, All, MatchOption};
+ghost use Rattle.pc_model.specs.Accepted.{constraint_limit};
 ghost use Rattle.pc_model.specs.CutTrees.{IsInside};
 ghost use Rattle.pc_box.specs.Boxes.{AreAlike, IsAlikeTo, IsAlikeToWhen};
 ghost use Rattle.pc_cells_tree.specs.Stances.{column_limit, span_cut, set_cut, side_cut, IsAlong, IsCandidateFor};
 
+use crate::known::Known;
 use pc_box::apart;
 use pc_model::{Constraint, Cut, Region, Side, When};
 
@@ -16,22 +18,34 @@ struct Candidate {
 /// A cut through a region that a box crosses: of one for each column, the first of those that pass through the
 /// fewest predicates.
 #[tactic(auto, using(crate::proofs::Choices::ends))]
-pub(crate) fn cut_through(part: &Region, region: &Region, constraints: &[Constraint]) -> Cut
+pub(crate) fn cut_through(
+    part: &Region,
+    region: &Region,
+    constraints: &[Constraint],
+    known: Known,
+) -> Cut
     requires few { length part.now.sides ≤ column_limit }
+    requires places { length constraints.now ≤ constraint_limit }
     requires alike { AreAlike part.now region.now }
     requires all_alike { All (IsAlikeTo part.now) constraints.now }
     requires not_inside { IsInside part.now region.now → ⊥ }
     ensures { IsAlong part.now region.now result }
 {
-    match cut_along(part, region, constraints) {
+    match cut_along(part, region, constraints, known) {
         Some(candidate) => candidate.cut,
         None => unreachable!(),
     }
 }
 
 #[tactic(auto, using(crate::proofs::Choices::cuts))]
-fn cut_along(part: &Region, region: &Region, constraints: &[Constraint]) -> Option<Candidate>
+fn cut_along(
+    part: &Region,
+    region: &Region,
+    constraints: &[Constraint],
+    known: Known,
+) -> Option<Candidate>
     requires few { length part.now.sides ≤ column_limit }
+    requires places { length constraints.now ≤ constraint_limit }
     requires alike { AreAlike part.now region.now }
     requires all_alike { All (IsAlikeTo part.now) constraints.now }
     ensures { IsCandidateFor part.now region.now result }
@@ -41,29 +55,43 @@ fn cut_along(part: &Region, region: &Region, constraints: &[Constraint]) -> Opti
     let mut best = None;
     for (place, side) in sides.iter().enumerate() {
         if let Some(cut) = side_cut(place as u8, side, &others[place]) {
-            best = Some(fewer(part, constraints, best, cut));
+            best = Some(fewer(part, constraints, known, best, cut));
         }
     }
     best
 }
 
 // The best so far, or another that passes through fewer. The first one is not counted before there is another.
-fn fewer(part: &Region, constraints: &[Constraint], best: Option<Candidate>, cut: Cut) -> Candidate
-    requires { All (IsAlikeTo part.now) constraints.now }
+fn fewer(
+    part: &Region,
+    constraints: &[Constraint],
+    known: Known,
+    best: Option<Candidate>,
+    cut: Cut,
+) -> Candidate
+    requires places { length constraints.now ≤ constraint_limit }
+    requires alike { All (IsAlikeTo part.now) constraints.now }
     ensures { MatchOption best (result.cut ≡ cut) (λ before. (result.cut ≡ before.cut) ⊎ (result.cut ≡ cut)) }
 {
     match best {
         None => Candidate { cut, passed: None },
-        Some(best) => fewer_of(part, constraints, best, cut),
+        Some(best) => fewer_of(part, constraints, known, best, cut),
     }
 }
 
-fn fewer_of(part: &Region, constraints: &[Constraint], best: Candidate, cut: Cut) -> Candidate
-    requires { All (IsAlikeTo part.now) constraints.now }
+fn fewer_of(
+    part: &Region,
+    constraints: &[Constraint],
+    known: Known,
+    best: Candidate,
+    cut: Cut,
+) -> Candidate
+    requires places { length constraints.now ≤ constraint_limit }
+    requires alike { All (IsAlikeTo part.now) constraints.now }
     ensures { (result.cut ≡ best.cut) ⊎ (result.cut ≡ cut) }
 {
-    let fewest = passed_by_best(part, constraints, &best);
-    let passed = passed_by(part, constraints, &cut, fewest);
+    let fewest = passed_by_best(part, constraints, known, &best);
+    let passed = passed_by(part, constraints, known, &cut, fewest);
     if fewest <= passed {
         return Candidate {
             cut: best.cut,
@@ -76,26 +104,40 @@ fn fewer_of(part: &Region, constraints: &[Constraint], best: Candidate, cut: Cut
     }
 }
 
-fn passed_by_best(part: &Region, constraints: &[Constraint], best: &Candidate) -> usize
-    requires { All (IsAlikeTo part.now) constraints.now }
+fn passed_by_best(
+    part: &Region,
+    constraints: &[Constraint],
+    known: Known,
+    best: &Candidate,
+) -> usize
+    requires places { length constraints.now ≤ constraint_limit }
+    requires alike { All (IsAlikeTo part.now) constraints.now }
 {
     match best.passed {
         Some(passed) => passed,
-        None => passed_by(part, constraints, &best.cut, constraints.len()),
+        None => passed_by(part, constraints, known, &best.cut, constraints.len()),
     }
 }
 
 /// How many predicates have rows of the box on either hand of the cut, as far as its column tells; no more are
-/// counted than the most that is asked for.
-fn passed_by(part: &Region, constraints: &[Constraint], cut: &Cut, most: usize) -> usize
+/// counted than the most that is asked for. Of those that are settled, the ones that hold the box would count for
+/// each cut through it and the ones apart for none, so that they are left out.
+fn passed_by(
+    part: &Region,
+    constraints: &[Constraint],
+    known: Known,
+    cut: &Cut,
+    most: usize,
+) -> usize
+    requires places { length constraints.now ≤ constraint_limit }
     requires alike { All (IsAlikeTo part.now) constraints.now }
 {
     let mut passed = 0;
-    for constraint in constraints {
+    for (place, constraint) in constraints.iter().enumerate() {
         if most <= passed {
             return passed;
         }
-        if passes(part, &constraint.when, cut) {
+        if known.is_open(place) && passes(part, &constraint.when, cut) {
             passed += 1;
         }
     }

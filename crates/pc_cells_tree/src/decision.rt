@@ -1,23 +1,24 @@
-ghost use Rattle.std.specs.Prelude.{◌≡◌, ◌+◌, ◌*◌, ◌^◌, ◌≤◌, ◌<◌, cond, length, slice_index_or, All, MatchOption, ⊤};
+ghost use Rattle.std.specs.Prelude.{◌≡◌, ◌+◌, ◌*◌, ◌^◌, ◌≤◌, ◌<◌, cond, length, slice_index_or, All};
 ghost use Rattle.pc_model.specs.declared.constraint.Constraint.{Constraint};
 ghost use Rattle.pc_model.specs.Accepted.{constraint_limit};
 ghost use Rattle.pc_box.specs.Boxes.{IsAlikeTo};
-ghost use Rattle.pc_cells_tree.specs.Decisions.{IsComparable, HasRegionIn, HasShortMask, IsMaskOf, IsRegionOf, IsFound, IsDecision, IsWithCrossing, with_bit, HasBitAt};
+ghost use Rattle.pc_cells_tree.specs.Decisions.{IsComparable, HasRegionIn, HasShortMask, IsMaskOf, IsRegionOf, IsFound, IsWithCrossing, with_bit};
+ghost use Rattle.pc_cells_tree.specs.Knowing.{IsKnown, IsDecision};
 ghost use Rattle.pc_cells_tree.specs.Stances.{column_limit};
-ghost use Rattle.pc_cells_tree.specs.declared.decision.Finding.TheVariants.{Under};
 ghost use Rattle.pc_cells_tree.specs.Standings.{HasBoxAt, IsLone, IsStandingAt, region_of};
 
 use crate::area_stance::{AreaStance, compare_area};
 use crate::choice::cut_through;
+use crate::known::Known;
 use crate::stance::{Stance, compare};
 use crate::standing::{Crossing, Standing, is_before, is_lone, stand, stand_lone};
 use pc_model::{Area, Constraint, Cut, LeafMark, Region, When};
 
-/// What is done with a box.
+/// What is done with a box, and what is known of both parts where it is cut.
 #[derive(Clone, Copy, Debug, PartialEq, Eq)]
 pub(crate) enum Decision {
     Settled(LeafMark),
-    Divided(Cut),
+    Divided { at: Cut, known: Known },
 }
 
 /// What constraints say of a box: one of them, that none of its rows can be lost; else one is crossed;
@@ -27,6 +28,13 @@ pub(crate) enum Finding {
     Broken,
     Crossed(Crossing),
     Under { mask: u32 },
+}
+
+/// What constraints say, and what is known since they were asked.
+#[derive(Clone, Copy, Debug, PartialEq, Eq)]
+pub(crate) struct Learned {
+    finding: Finding,
+    known: Known,
 }
 
 impl Finding {
@@ -66,24 +74,32 @@ fn joined(mask: u32, bit: bool) -> u32
     2 * mask + bit as u32
 }
 
-/// Settles a box, or says how to cut it.
+/// Settles a box of which something is known, or says how to cut it.
 #[tactic(auto, using(crate::proofs::Decisions::ends))]
-pub(crate) fn decide(part: &Region, constraints: &[Constraint], chosen: &Area) -> Decision
+pub(crate) fn decide(
+    part: &Region,
+    constraints: &[Constraint],
+    chosen: &Area,
+    known: Known,
+) -> Decision
     requires few { length constraints.now ≤ constraint_limit }
     requires comparable { IsComparable constraints.now chosen.now part.now }
+    requires known { IsKnown constraints.now part.now known }
     ensures { IsDecision constraints.now chosen.now part.now result }
 {
-    match find(part, constraints) {
+    let Learned { finding, known } = find(part, constraints, known);
+    match finding {
         Finding::Broken => Decision::Settled(LeafMark::Barren),
         Finding::Crossed(crossing) => {
             let region = crossed_region(constraints, crossing);
-            Decision::Divided(cut_through(part, region, constraints))
+            let at = cut_through(part, region, constraints, known);
+            Decision::Divided { at, known }
         }
         Finding::Under { mask } => {
             if mask == 0 {
                 return Decision::Settled(LeafMark::Barren);
             }
-            decide_side(part, constraints, chosen, mask)
+            decide_side(part, constraints, chosen, mask, known)
         }
     }
 }
@@ -91,10 +107,18 @@ pub(crate) fn decide(part: &Region, constraints: &[Constraint], chosen: &Area) -
 // Of a box of which each constraint speaks of all rows or of none: whether its rows are chosen, or how to cut it.
 #[inline(always)]
 #[tactic(auto, using(crate::proofs::Decisions::sides))]
-fn decide_side(part: &Region, constraints: &[Constraint], chosen: &Area, mask: u32) -> Decision
+fn decide_side(
+    part: &Region,
+    constraints: &[Constraint],
+    chosen: &Area,
+    mask: u32,
+    known: Known,
+) -> Decision
+    requires few { length constraints.now ≤ constraint_limit }
     requires comparable { IsComparable constraints.now chosen.now part.now }
     requires some { 0 < mask }
     requires masked { IsMaskOf constraints.now part.now constraints.now mask }
+    requires known { IsKnown constraints.now part.now known }
     ensures { IsDecision constraints.now chosen.now part.now result }
 {
     match compare_area(part, chosen) {
@@ -105,7 +129,8 @@ fn decide_side(part: &Region, constraints: &[Constraint], chosen: &Area, mask: u
         }),
         AreaStance::Across { place, .. } => {
             let region = &chosen.boxes.as_slice()[place];
-            Decision::Divided(cut_through(part, region, constraints))
+            let at = cut_through(part, region, constraints, known);
+            Decision::Divided { at, known }
         }
     }
 }
@@ -135,109 +160,88 @@ fn box_of(when: &When, place: usize) -> &Region
     }
 }
 
-// Of most boxes each constraint speaks of all rows or of none, which bits say; from the last one that is not so on, a
-// finding is carried.
+/// What is known of a box once each constraint was asked.
 #[inline(always)]
-#[tactic(auto, using(crate::proofs::Decisions::rounds))]
-pub(crate) fn find(part: &Region, constraints: &[Constraint]) -> Finding
+pub(crate) fn learn(part: &Region, constraints: &[Constraint], known: Known) -> Known
     requires few { length constraints.now ≤ constraint_limit }
     requires sides { length part.now.sides ≤ column_limit }
     requires alike { All (IsAlikeTo part.now) constraints.now }
-    ensures { IsFound part.now constraints.now 0 result }
+    requires known { IsKnown constraints.now part.now known }
+    ensures { IsKnown constraints.now part.now result }
 {
-    let mut mask = 0u32;
+    find(part, constraints, known).known
+}
+
+// From the last one to the first.
+#[inline(always)]
+#[tactic(auto, using(crate::proofs::Decisions::rounds))]
+fn find(part: &Region, constraints: &[Constraint], known: Known) -> Learned
+    requires few { length constraints.now ≤ constraint_limit }
+    requires sides { length part.now.sides ≤ column_limit }
+    requires alike { All (IsAlikeTo part.now) constraints.now }
+    requires known { IsKnown constraints.now part.now known }
+    ensures finding { IsFound part.now constraints.now 0 result.finding }
+    ensures known { IsKnown constraints.now part.now result.known }
+{
+    let finding = Finding::Under { mask: 0 };
+    let mut learned = Learned { finding, known };
     for place in (0..constraints.len()).rev() {
-        let Some(more) = mask_from(part, constraints, place, mask) else {
-            return find_on(part, constraints, place + 1, mask);
-        };
-        mask = more;
+        learned = learned_at(part, constraints, place, learned);
     }
-    Finding::Under { mask }
+    learned
 }
 
-// The mask of the constraints from this place on, where there is one.
+// What the constraints from this place on say, where it is known what the later ones do.
 #[inline(always)]
-fn mask_from(part: &Region, constraints: &[Constraint], place: usize, later: u32) -> Option<u32>
+#[tactic(auto, using(crate::proofs::Decisions::tells))]
+fn learned_at(part: &Region, constraints: &[Constraint], place: usize, later: Learned) -> Learned
     requires few { length constraints.now ≤ constraint_limit }
     requires sides { length part.now.sides ≤ column_limit }
     requires alike { All (IsAlikeTo part.now) constraints.now }
     requires there { place < length constraints.now }
-    requires later { IsFound part.now constraints.now (place + 1) (Under later) }
-    ensures { MatchOption result ⊤ (λ mask. IsFound part.now constraints.now place (Under mask)) }
+    requires later { IsFound part.now constraints.now (place + 1) later.finding }
+    requires known { IsKnown constraints.now part.now later.known }
+    ensures finding { IsFound part.now constraints.now place result.finding }
+    ensures known { IsKnown constraints.now part.now result.known }
 {
-    match bit_of(part, constraints, place) {
-        Some(bit) => Some(joined(later, bit)),
-        None => None,
-    }
-}
-
-/// Whether a constraint speaks of all rows or of none, where its predicate is one box and it is one of both.
-#[inline(always)]
-#[tactic(auto, using(crate::proofs::Decisions::alikes))]
-fn bit_of(part: &Region, constraints: &[Constraint], place: usize) -> Option<bool>
-    requires sides { length part.now.sides ≤ column_limit }
-    requires alike { All (IsAlikeTo part.now) constraints.now }
-    requires there { place < length constraints.now }
-    ensures { HasBitAt constraints.now part.now place result }
-{
-    if !is_lone(&constraints[place].when) {
-        return None;
-    }
-    match stand_lone(part, constraints, place) {
-        Standing::OfNone => Some(false),
-        Standing::Open(_) => None,
-        Standing::OfAll => match compare(part, &constraints[place].values) {
-            Stance::Inside => Some(true),
-            _ => None,
+    match later.known.told(place) {
+        Some(bit) => Learned {
+            finding: later.finding.with_bit(bit),
+            known: later.known,
         },
+        None => asked_at(part, constraints, place, later),
     }
 }
 
-#[inline(never)]
-#[tactic(auto, using(crate::proofs::Decisions::rounds))]
-fn find_on(part: &Region, constraints: &[Constraint], from: usize, mask: u32) -> Finding
-    requires few { length constraints.now ≤ constraint_limit }
-    requires sides { length part.now.sides ≤ column_limit }
-    requires alike { All (IsAlikeTo part.now) constraints.now }
-    requires there { from ≤ length constraints.now }
-    requires later { IsFound part.now constraints.now from (Under mask) }
-    ensures { IsFound part.now constraints.now 0 result }
-{
-    let mut finding = Finding::Under { mask };
-    for place in (0..from).rev() {
-        finding = if is_lone(&constraints[place].when) {
-            find_lone(part, constraints, place, finding)
-        } else {
-            find_rare(part, constraints, place, finding)
-        };
-    }
-    finding
-}
-
-// What the constraints from this place on say, where it is known what the later ones do. Most predicates are one box;
-// what others take stands apart, so that the loop over the constraints is short.
+// Most predicates are one box; what others take stands apart, so that the loop over the constraints is short.
 #[inline(always)]
-fn find_lone(part: &Region, constraints: &[Constraint], place: usize, later: Finding) -> Finding
+fn asked_at(part: &Region, constraints: &[Constraint], place: usize, later: Learned) -> Learned
     requires few { length constraints.now ≤ constraint_limit }
     requires sides { length part.now.sides ≤ column_limit }
     requires alike { All (IsAlikeTo part.now) constraints.now }
     requires there { place < length constraints.now }
-    requires lone { (c : Constraint) → IsLone (slice_index_or constraints.now place c).when }
-    requires later { IsFound part.now constraints.now (place + 1) later }
-    ensures { IsFound part.now constraints.now place result }
+    requires later { IsFound part.now constraints.now (place + 1) later.finding }
+    requires known { IsKnown constraints.now part.now later.known }
+    ensures finding { IsFound part.now constraints.now place result.finding }
+    ensures known { IsKnown constraints.now part.now result.known }
 {
-    let standing = stand_lone(part, constraints, place);
-    found_from(part, constraints, place, standing, later)
+    if is_lone(&constraints[place].when) {
+        let standing = stand_lone(part, constraints, place);
+        return found_from(part, constraints, place, standing, later);
+    }
+    asked_rare(part, constraints, place, later)
 }
 
 #[inline(never)]
-fn find_rare(part: &Region, constraints: &[Constraint], place: usize, later: Finding) -> Finding
+fn asked_rare(part: &Region, constraints: &[Constraint], place: usize, later: Learned) -> Learned
     requires few { length constraints.now ≤ constraint_limit }
     requires sides { length part.now.sides ≤ column_limit }
     requires alike { All (IsAlikeTo part.now) constraints.now }
     requires there { place < length constraints.now }
-    requires later { IsFound part.now constraints.now (place + 1) later }
-    ensures { IsFound part.now constraints.now place result }
+    requires later { IsFound part.now constraints.now (place + 1) later.finding }
+    requires known { IsKnown constraints.now part.now later.known }
+    ensures finding { IsFound part.now constraints.now place result.finding }
+    ensures known { IsKnown constraints.now part.now result.known }
 {
     let standing = stand(part, constraints, place);
     found_from(part, constraints, place, standing, later)
@@ -250,27 +254,48 @@ fn found_from(
     constraints: &[Constraint],
     place: usize,
     standing: Standing,
-    later: Finding,
-) -> Finding
+    later: Learned,
+) -> Learned
     requires few { length constraints.now ≤ constraint_limit }
     requires sides { length part.now.sides ≤ column_limit }
     requires alike { All (IsAlikeTo part.now) constraints.now }
     requires there { place < length constraints.now }
     requires stands { IsStandingAt constraints.now part.now place standing }
-    requires later { IsFound part.now constraints.now (place + 1) later }
-    ensures { IsFound part.now constraints.now place result }
+    requires later { IsFound part.now constraints.now (place + 1) later.finding }
+    requires known { IsKnown constraints.now part.now later.known }
+    ensures finding { IsFound part.now constraints.now place result.finding }
+    ensures known { IsKnown constraints.now part.now result.known }
 {
+    let Learned {
+        finding: later,
+        known,
+    } = later;
     match standing {
-        Standing::OfNone => later.with_bit(false),
-        Standing::Open(crossing) => later.with_crossing(crossing),
+        Standing::OfNone => Learned {
+            finding: later.with_bit(false),
+            known: known.with(place, false),
+        },
+        Standing::Open(crossing) => Learned {
+            finding: later.with_crossing(crossing),
+            known,
+        },
         Standing::OfAll => match compare(part, &constraints[place].values) {
-            Stance::Apart => Finding::Broken,
-            Stance::Across { faces } => later.with_crossing(Crossing {
-                place,
-                box_place: None,
-                faces,
-            }),
-            Stance::Inside => later.with_bit(true),
+            Stance::Apart => Learned {
+                finding: Finding::Broken,
+                known,
+            },
+            Stance::Across { faces } => Learned {
+                finding: later.with_crossing(Crossing {
+                    place,
+                    box_place: None,
+                    faces,
+                }),
+                known,
+            },
+            Stance::Inside => Learned {
+                finding: later.with_bit(true),
+                known: known.with(place, true),
+            },
         },
     }
 }

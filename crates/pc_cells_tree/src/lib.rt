@@ -4,7 +4,9 @@
 mod area_stance;
 mod choice;
 mod decision;
+mod grow;
 mod growth;
+mod known;
 mod laws;
 mod marks;
 mod refine;
@@ -12,6 +14,7 @@ mod stance;
 mod standing;
 mod walk;
 
+pub use grow::grown_tree;
 pub use growth::Growth;
 pub use laws::{kept_trees_stay_divided, parts_can_be_settled, refined_trees_stay_divided};
 pub use marks::marked_trees_have_the_same_cuts;

@@ -1,4 +1,4 @@
-ghost use Rattle.std.specs.Prelude.{◌≡◌, ◌≤◌, ◌<◌, length, All, IfOk};
+ghost use Rattle.std.specs.Prelude.{◌≡◌, ◌≤◌, ◌<◌, ◌∷◌, [], ◌++◌, ℕ, length, All, IfOk};
 ghost use Rattle.pc_model.specs.Accepted.{constraint_limit};
 ghost use Rattle.pc_model.specs.Regions.{whole_region};
 ghost use Rattle.pc_model.specs.WellFormed.{IsWellFormed};
@@ -6,10 +6,12 @@ ghost use Rattle.pc_box.specs.Boxes.{IsBox};
 ghost use Rattle.pc_box.specs.Cuts.{Divides};
 ghost use Rattle.pc_cells_tree.specs.Decisions.{IsComparable};
 ghost use Rattle.pc_cells_tree.specs.Linked.{CanBeDivided, IsTree, IsCutOn, AreBoxesOf, box_at, is_leaf_node};
+ghost use Rattle.pc_cells_tree.specs.Knowing.{IsKnown, AreKnown, known_at, nothing};
 ghost use Rattle.pc_cells_tree.specs.Refining.{IsCuttable, IsRefining, IsStep, boxes_with, nodes_cut, boxes_cut};
 
 use crate::decision::{Decision, decide};
 use crate::growth::number;
+use crate::known::Known;
 use pc_box::{Halves, cut};
 use pc_list::Seq;
 use pc_model::{Area, Constraint, Cut, CutNode, LeafMark, Region, Schema};
@@ -30,6 +32,13 @@ struct Boxed {
     boxes: Seq<Region>,
 }
 
+/// Beside them what is known of each box.
+#[derive(Drop)]
+struct Pass {
+    boxed: Boxed,
+    known: Seq<Known>,
+}
+
 /// The tree with its leaves cut on until each can be marked as settled for the constraints and the area.
 /// Leaves are kept without marks.
 pub fn refined(
@@ -46,7 +55,8 @@ pub fn refined(
     let boxes = boxes_of(alloc, schema, nodes)?;
     let copy = Seq::from_slice(alloc, nodes)?;
     let start = Boxed { nodes: copy, boxes };
-    let end = settled(alloc, constraints, chosen, start)?;
+    let known = nothing_known(alloc, nodes.len())?;
+    let end = settled(alloc, constraints, chosen, start, known)?;
     let cuts = (end.nodes.len() - nodes.len()) as u64 / 2;
     Ok(Refinement {
         nodes: end.nodes,
@@ -114,25 +124,41 @@ fn with_parts(
 
 // ---- cutting on
 
+// Of the boxes of a tree that was there nothing is known.
+#[tactic(auto, using(crate::proofs::Knowing::nothings))]
+fn nothing_known(alloc: Global, count: usize) -> Result<Seq<Known>, Memory>
+    ensures long { IfOk result (λ known. length known ≡ count) }
+    ensures nothing { IfOk result (λ known. (k : ℕ) → known_at known k ≡ nothing) }
+{
+    let mut known = Seq::new(alloc);
+    for _ in 0..count {
+        known.push(Known::nothing())?;
+    }
+    Ok(known)
+}
+
 // New leaves stand at the end of the list, so that the pass comes to them too.
 fn settled(
     alloc: Global,
     constraints: &[Constraint],
     chosen: &Area,
     start: Boxed,
+    known: Seq<Known>,
 ) -> Result<Boxed, Memory>
     requires few { length constraints.now ≤ constraint_limit }
     requires comparable { All (IsComparable constraints.now chosen.now) start.boxes }
+    requires known { AreKnown constraints.now start.boxes known }
     requires tree { AreBoxesOf (box_at start.boxes 0) start.nodes start.boxes }
     ensures { IfOk result (λ end. IsRefining constraints.now chosen.now start end (length end.nodes)) }
 {
-    let mut boxed = start;
+    let boxed = start;
+    let mut pass = Pass { boxed, known };
     let mut place = 0;
-    while place < boxed.nodes.len() {
-        boxed = settled_at(alloc, constraints, chosen, boxed, place)?;
+    while place < pass.boxed.nodes.len() {
+        pass = settled_at(alloc, constraints, chosen, pass, place)?;
         place += 1;
     }
-    Ok(boxed)
+    Ok(pass.boxed)
 }
 
 #[inline(always)]
@@ -140,22 +166,30 @@ fn settled_at(
     alloc: Global,
     constraints: &[Constraint],
     chosen: &Area,
-    boxed: Boxed,
+    pass: Pass,
     place: usize,
-) -> Result<Boxed, Memory>
+) -> Result<Pass, Memory>
     requires few { length constraints.now ≤ constraint_limit }
-    requires comparable { All (IsComparable constraints.now chosen.now) boxed.boxes }
-    requires filled { All IsBox boxed.boxes }
-    requires long { length boxed.boxes ≡ length boxed.nodes }
-    requires there { place < length boxed.nodes }
-    ensures { IfOk result (IsStep constraints.now chosen.now place boxed) }
+    requires comparable { All (IsComparable constraints.now chosen.now) pass.boxed.boxes }
+    requires filled { All IsBox pass.boxed.boxes }
+    requires long { length pass.boxed.boxes ≡ length pass.boxed.nodes }
+    requires known { AreKnown constraints.now pass.boxed.boxes pass.known }
+    requires there { place < length pass.boxed.nodes }
+    ensures step { IfOk result (λ after. IsStep constraints.now chosen.now place pass.boxed after.boxed) }
+    ensures known { IfOk result (λ after. AreKnown constraints.now after.boxed.boxes after.known) }
 {
-    if !is_leaf(&boxed.nodes.as_slice()[place]) {
-        return Ok(boxed);
+    if !is_leaf(&pass.boxed.nodes.as_slice()[place]) {
+        return Ok(pass);
     }
-    match decide(&boxed.boxes.as_slice()[place], constraints, chosen) {
-        Decision::Settled(_) => Ok(boxed),
-        Decision::Divided(at) => boxed.with_cut(alloc, place, at),
+    let known = pass.known.as_slice()[place];
+    match decide(
+        &pass.boxed.boxes.as_slice()[place],
+        constraints,
+        chosen,
+        known,
+    ) {
+        Decision::Settled(_) => Ok(pass),
+        Decision::Divided { at, known } => pass.with_cut(alloc, place, at, known),
     }
 }
 
@@ -166,6 +200,24 @@ fn is_leaf(node: &CutNode) -> bool
     match node {
         CutNode::Leaf { .. } => true,
         CutNode::Inner { .. } => false,
+    }
+}
+
+impl Pass {
+    // With a cut at a leaf, of whose parts as much is known.
+    #[inline(always)]
+    fn with_cut(self, alloc: Global, place: usize, at: Cut, of_parts: Known) -> Result<Pass, Memory>
+        requires there { place < length self.boxed.nodes }
+        requires long { length self.boxed.boxes ≡ length self.boxed.nodes }
+        requires filled { IsBox (box_at self.boxed.boxes place) }
+        requires divided { Divides (box_at self.boxed.boxes place) at }
+        ensures { IfOk result (λ after. (after.boxed.nodes ≡ nodes_cut self.boxed.nodes place at) × (after.boxed.boxes ≡ boxes_cut self.boxed.boxes place at) × (after.known ≡ self.known ++ of_parts ∷ of_parts ∷ [])) }
+    {
+        let Pass { boxed, mut known } = self;
+        let boxed = boxed.with_cut(alloc, place, at)?;
+        known.push(of_parts)?;
+        known.push(of_parts)?;
+        Ok(Pass { boxed, known })
     }
 }
 

@@ -6,22 +6,31 @@ ghost use Rattle.pc_box.specs.Boxes.{IsBox};
 ghost use Rattle.pc_box.specs.Cuts.{Divides};
 ghost use Rattle.pc_cells_tree.specs.declared.walk.Task.TheVariants.{Visit, Close};
 ghost use Rattle.pc_cells_tree.specs.Decisions.{IsComparable, CanBeSettled};
+ghost use Rattle.pc_cells_tree.specs.Knowing.{IsKnown};
 ghost use Rattle.pc_cells_tree.specs.Linked.{CanBeDivided, IsTree, IsDividedFor, node_at};
 ghost use Rattle.pc_cells_tree.specs.Walking.{HasCutsOf, HasWalked, IsVisit, IsTask, IsStep, IsOpened, nothing};
 
-use crate::decision::{Decision, decide};
+use crate::decision::{Decision, decide, learn};
 use crate::growth::{Growth, number};
+use crate::known::Known;
 use pc_box::cut;
 use pc_list::Seq;
 use pc_model::{Area, Constraint, Cut, CutNode, LeafMark, Region, Schema};
 use pc_num::Memory;
 use std::alloc::Global;
 
-/// What is still to be done: to go through the nodes from a number on, over their box, or to set a cut into the
-/// place that was kept for it.
+/// A node, its box, and what is known of the box.
+#[derive(Debug, PartialEq, Eq, Drop)]
+struct Turn {
+    number: usize,
+    part: Region,
+    known: Known,
+}
+
+/// What is still to be done: to go through the nodes from one on, or to set a cut into the place that was kept for it.
 #[derive(Debug, PartialEq, Eq, Drop)]
 enum Task {
-    Visit { number: usize, part: Region },
+    Visit { turn: Turn },
     Close { place: usize, cut: Cut },
 }
 
@@ -71,10 +80,12 @@ fn walked(
         nodes: Seq::new(alloc),
         leaves: Seq::new(alloc),
     };
-    let start = Task::Visit {
+    let turn = Turn {
         number: 0,
         part: whole,
+        known: Known::nothing(),
     };
+    let start = Task::Visit { turn };
     let tasks = vec![in alloc; start]?;
     let mut walk = Walk { growth, tasks };
     while let Some(task) = walk.tasks.pop() {
@@ -97,9 +108,7 @@ fn stepped(
     ensures { IfOk result (IsStep nodes.now constraints.now chosen.now task walk) }
 {
     match task {
-        Task::Visit { number, part } => {
-            visited(alloc, constraints, chosen, nodes, walk, number, part)
-        }
+        Task::Visit { turn } => visited(alloc, constraints, chosen, nodes, walk, turn),
         Task::Close { place, cut } => {
             let Walk { growth, tasks } = walk;
             let growth = growth.with_inner(place, cut)?;
@@ -115,36 +124,51 @@ fn visited(
     chosen: &Area,
     nodes: &[CutNode],
     walk: Walk,
-    number: usize,
-    part: Region,
+    turn: Turn,
 ) -> Result<Walk, Memory>
     requires few { length constraints.now ≤ constraint_limit }
-    requires visit { IsVisit nodes.now constraints.now chosen.now number part }
-    ensures { IfOk result (IsStep nodes.now constraints.now chosen.now (Visit number part) walk) }
+    requires visit { IsVisit nodes.now constraints.now chosen.now turn.number turn.part }
+    requires known { IsKnown constraints.now turn.part turn.known }
+    ensures { IfOk result (IsStep nodes.now constraints.now chosen.now (Visit turn) walk) }
 {
+    let Turn {
+        number,
+        part,
+        known,
+    } = turn;
     match nodes[number] {
         CutNode::Leaf { .. } => {
-            let mark = mark_of(&part, constraints, chosen);
+            let mark = mark_of(&part, constraints, chosen, known);
             let Walk { growth, tasks } = walk;
             let growth = growth.with_leaf(part, mark)?;
             Ok(Walk { growth, tasks })
         }
         CutNode::Inner { cut, first, second } => {
-            opened(alloc, walk, part, cut, first as usize, second as usize)
+            let known = learn(&part, constraints, known);
+            opened(
+                alloc,
+                walk,
+                part,
+                known,
+                cut,
+                first as usize,
+                second as usize,
+            )
         }
     }
 }
 
 #[inline(always)]
-fn mark_of(part: &Region, constraints: &[Constraint], chosen: &Area) -> LeafMark
+fn mark_of(part: &Region, constraints: &[Constraint], chosen: &Area, known: Known) -> LeafMark
     requires few { length constraints.now ≤ constraint_limit }
     requires comparable { IsComparable constraints.now chosen.now part.now }
     requires settled { CanBeSettled constraints.now chosen.now part.now }
+    requires known { IsKnown constraints.now part.now known }
     ensures { IsSettledAs constraints.now chosen.now part.now result }
 {
-    match decide(part, constraints, chosen) {
+    match decide(part, constraints, chosen, known) {
         Decision::Settled(mark) => mark,
-        Decision::Divided(_) => unreachable!(),
+        Decision::Divided { .. } => unreachable!(),
     }
 }
 
@@ -154,26 +178,31 @@ fn opened(
     alloc: Global,
     walk: Walk,
     part: Region,
+    known: Known,
     at: Cut,
     first: usize,
     second: usize,
 ) -> Result<Walk, Memory>
     requires filled { IsBox part }
     requires divided { Divides part at }
-    ensures { IfOk result (IsOpened at part first second walk) }
+    ensures { IfOk result (IsOpened at part known first second walk) }
 {
     let halves = cut(alloc, &part, &at)?;
     let Walk { growth, mut tasks } = walk;
     let place = growth.nodes.len();
     let growth = growth.with_place()?;
-    tasks.push(Task::Visit {
+    let turn = Turn {
         number: second,
         part: halves.second,
-    })?;
+        known,
+    };
+    tasks.push(Task::Visit { turn })?;
     tasks.push(Task::Close { place, cut: at })?;
-    tasks.push(Task::Visit {
+    let turn = Turn {
         number: first,
         part: halves.first,
-    })?;
+        known,
+    };
+    tasks.push(Task::Visit { turn })?;
     Ok(Walk { growth, tasks })
 }

@@ -1,6 +1,6 @@
-use Rattle.pc_cells_tree.specs.declared.decision.Finding.TheVariants.{Under}
 use Rattle.pc_cells_tree.specs.Decisions.{IsFound}
+use Rattle.pc_cells_tree.specs.Knowing.{IsKnown}
 use Rattle.pc_cells_tree.proofs.decision.find.Given as goal
 
 abbrev pub invariant-loop-place : goal.invariant-loop-place
-invariant-loop-place l = IsFound l.part l.constraints l.place (Under l.mask)
+invariant-loop-place l = IsFound l.part l.constraints l.place l.learned.finding × IsKnown l.constraints l.part l.learned.known
