@@ -1,4 +1,5 @@
 pub mod BlockParts
+pub mod Carrying
 pub mod DocumentSteps
 pub mod FoldedRows
 pub mod Joining
@@ -6,5 +7,7 @@ pub mod ManyRows
 pub mod MatterTotals
 pub mod Matters
 pub mod Placing
+pub mod SameAreas
+pub mod SeenAgain
 pub mod SharedTrees
 pub mod TotalValues

@@ -11,14 +11,16 @@ ghost use Rattle.pc_proof.specs.Form.{IsFormedBlock, IsInForm};
 ghost use Rattle.pc_check.specs.declared.verdict.Verdict.TheVariants.{Yes};
 ghost use Rattle.pc_check.specs.Blocks.{FindsIn, HasNodes};
 ghost use Rattle.pc_check.specs.Premises.{ArePremises, case_of};
+ghost use Rattle.pc_check.specs.Seen.{IsSeenFor};
 ghost use Rattle.pc_check.specs.Verdicts.{IsFound, IsVerdictOn};
 
 use crate::block::{allows_name, judge_block};
 use crate::line_counts::{block_count, front_lines};
+use crate::observed::seen_for;
 use crate::premises::Premises;
 use crate::verdict::Verdict;
 use pc_check_rules::{Halt, NAMES_AND_TREES};
-use pc_model::{Constraint, CutNode, Schema};
+use pc_model::{Constraint, CutNode, Folded, Schema};
 use pc_num::Memory;
 use pc_proof::{Block, BlockTree, Document};
 use pc_rows::Rows;
@@ -69,11 +71,14 @@ fn judge_blocks(alloc: Global, premises: &Premises<'_>, blocks: &[Block]) -> Res
 {
     let mut line = 2;
     let mut before = None;
+    let mut last = None;
     for block in blocks {
         let nodes = nodes_after(before, &block.tree);
-        judge_next(alloc, premises, block, nodes, line)?;
+        let seen = seen_for(alloc, premises, last, block)?;
+        judge_next(alloc, premises, block, nodes, &seen.folded, line)?;
         line += block_count(block);
         before = nodes;
+        last = Some(seen);
     }
     Ok(())
 }
@@ -94,18 +99,20 @@ fn judge_next(
     premises: &Premises<'_>,
     block: &Block,
     nodes: Option<&[CutNode]>,
+    seen: &Folded,
     line: u64,
 ) -> Result<(), Halt>
     requires premises { ArePremises premises.now }
     requires formed { IsFormedBlock premises.now.schema.now block.now }
     requires preorder { IfSome (option_copied nodes) IsInPreorder }
     requires nodes_are { IfSome (option_copied nodes) (HasNodes block.now.tree) }
+    requires seen { IsSeenFor block.now.query block.now.name premises.now.rows.now seen.now }
     requires few_lines { line + block_count block.now < 2 ^ 64 }
     ensures { FindsIn (case_of premises.now) line block.now (option_copied nodes.entry) result }
 {
     match nodes {
         None => judge_treeless(block, line),
-        Some(nodes) => judge_block(alloc, premises, block, nodes, line),
+        Some(nodes) => judge_block(alloc, premises, block, nodes, seen, line),
     }
 }
 

@@ -14,6 +14,7 @@ mod observed;
 mod premises;
 mod relations;
 mod runs;
+mod same;
 mod totals;
 mod verdict;
 

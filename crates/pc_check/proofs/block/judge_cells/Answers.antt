@@ -10,7 +10,7 @@ judge_answer-requires-clause-judged c =
     let given = c.requires.premises in
     record {
       limited = limited premises.schema.now premises.constraints.now given.accepted;
-      counted = counted premises.schema.now c.args.block.now.query premises.rows.now c.args.block.now.name c.in_ok-seen.seen given.formed given.observed c.in_ok-seen.ensures.folded c.in_ok-seen.ensures.few;
+      counted = counted premises.schema.now c.args.block.now.query premises.rows.now c.args.block.now.name c.args.seen.now given.formed given.observed c.requires.seen.folded_is c.requires.seen.few;
     }
 
 pub returns : goal.returns
@@ -25,5 +25,5 @@ returns c = λ nodes same.
       constraints_are = refl;
       cells_are = c.as_slice.ensures ∙ c.in_ok-cells.ensures.cells;
       agg_is = refl;
-      folded = c.in_ok-seen.ensures.folded;
+      folded = c.requires.seen.folded_is;
     }) same)
