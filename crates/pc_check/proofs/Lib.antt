@@ -1,3 +1,4 @@
+pub mod AskedAgain
 pub mod BlockParts
 pub mod Carrying
 pub mod DocumentSteps
