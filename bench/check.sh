@@ -5,16 +5,19 @@
 # - the size of the document, as a ratio to that of the report, and how many bytes a second are checked;
 # - the greatest memory of `pc check`, as a ratio to the size of the document;
 # - what `pc check` says.
+# One of the large documents has real trees: it is what `pc prove` writes of the sum of aud10c6-1, with its block many times.
 # All sides are measured in the same run, each with the start of its process. A time is the median of the runs, each of several
 # calls where a call is short; what takes a second or more is run once. Run ./build first.
 # Usage: bench/check.sh [RUNS]
 # CASES names the folder of cases, NAME.schema and NAME.cons with a column `price`; where it is not there, it is left out.
-# LINES is how many lines the large documents have (200,000 without it).
+# LINES is how many lines the large documents have (200,000 without it), and BLOCKS how many blocks that of real trees has
+# (751 without it, which makes 193 MB; a document may have 268 MB).
 set -eu
 export LC_ALL=C
 top=$(cd "$(dirname "$0")/.." && pwd)
 runs=${1:-5}
 lines=${LINES:-200000}
+blocks=${BLOCKS:-751}
 cases=${CASES:-$top/../shared/bench/cases}
 pc=$top/pc
 [ -x "$pc" ] || { echo "bench/check.sh: run ./build first" >&2; exit 1; }
@@ -101,6 +104,18 @@ draw() {
     }' "$1"
 }
 
+# repeated TIMES DOCUMENT: the one block of a document so often, each further one over the tree of the one before
+repeated() {
+  awk -v times="$1" '
+    NR == 1 { print; next }
+    $0 == "end" { next }
+    { first = first $0 "\n" }
+    $1 == "cut" || $1 == "leaf" { next }
+    $1 == "tree" { $2 = "same" }
+    { further = further $0 "\n" }
+    END { printf "%s", first; for (block = 1; block < times; block++) printf "%s", further; print "end" }' "$2"
+}
+
 month=$top/examples/month
 "$month/rows.sh" > month.rows
 proofs month "$month/schema.csv" month.rows "$month/constraints.txt"
@@ -151,3 +166,12 @@ awk 'BEGIN { print "v"; for (row = 0; row < 100000; row++) print row % 1000 }' >
   echo end
 } > blocks
 checked "500 blocks over 100,000 rows" line.schema tall.rows line.constraints blocks
+
+# real trees: the sum of aud10c6-1 over 500 drawn rows
+audit=$cases/aud10c6-1
+if [ -e "$audit.schema" ]; then
+  draw "$audit.schema" 500 > real.rows
+  "$pc" prove "$audit.schema" real.rows "$audit.cons" 'sum(price)' > once
+  repeated "$blocks" once > real
+  checked "the sum of aud10c6-1, its block $blocks times" "$audit.schema" real.rows "$audit.cons" real
+fi

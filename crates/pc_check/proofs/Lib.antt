@@ -1,4 +1,6 @@
+pub mod AskedAgain
 pub mod BlockParts
+pub mod Carrying
 pub mod DocumentSteps
 pub mod FoldedRows
 pub mod Joining
@@ -6,5 +8,7 @@ pub mod ManyRows
 pub mod MatterTotals
 pub mod Matters
 pub mod Placing
+pub mod SameAreas
+pub mod SeenAgain
 pub mod SharedTrees
 pub mod TotalValues

@@ -1,13 +1,11 @@
 -- What the statements of a block are about is made of its cells and of its observed rows.
-use Rattle.std.proofs.Common.{◌≡◌, ℕ, ◌≤◌, List, Option, Some, None, IsSome, refl, sym, ap, ◌∙◌, arith}
+use Rattle.std.proofs.Common.{◌≡◌, ℕ, ◌≤◌, List, Option, Some, None, IsSome, refl, sym, arith}
 use Rattle.std.specs.Prelude.{unwrap_or, IsSomeAnd}
 use Rattle.std.specs.List.{AllPass}
 use Rattle.pc_model.specs.declared.schema.Schema.{Schema}
 use Rattle.pc_model.specs.declared.row.Row.{Row}
-use Rattle.pc_model.specs.declared.area.Area.{Area}
 use Rattle.pc_model.specs.declared.constraint.Constraint.{Constraint}
 use Rattle.pc_model.specs.declared.tree.CutNode.{CutNode}
-use Rattle.pc_model.specs.declared.tree.Leaf.{Leaf}
 use Rattle.pc_model.specs.declared.query.Agg.{Agg}
 use Rattle.pc_model.specs.declared.query.Agg.TheVariants.{Count, Sum, Min, Max, Avg}
 use Rattle.pc_model.specs.declared.query.Query.{Query}
@@ -20,7 +18,7 @@ use Rattle.pc_model.specs.WellFormed.{IsWellFormed}
 use Rattle.pc_proof.specs.declared.document.Block.{Block}
 use Rattle.pc_proof.specs.Documents.{Premises, setting_of}
 use Rattle.pc_proof.specs.Form.{IsFormedBlock}
-use Rattle.pc_check.specs.Blocks.{area_for}
+use Rattle.pc_check.specs.Blocks.{asked_for}
 use Rattle.pc_proof.specs.Unbroken.{AllowsName}
 use Rattle.pc_proof.proofs.Observing.{comes}
 use Rattle.pc_proof.proofs.SeenSums.{seen_small}
@@ -61,27 +59,22 @@ measure_there schema Avg column measured = is_there ℕ (IsColumnWhere IsNumeric
 
 module _ (case : Premises) (block : Block) where
   -- the cells and the fold that the code has, and the query over the area that it keeps
-  pub record IsMadeOf (area : Area) (leaves : List Leaf) (matter : Matter) : Type 0 where
+  pub record IsMadeOf (nodes : List CutNode) (matter : Matter) : Type 0 where
     pub schema_is : matter.schema.now ≡ case.schema
-    pub asked_is : matter.asked.now ≡ record { agg = block.query.agg; column = block.query.column; chosen = area; group = None }
-    pub area_is : area ≡ area_for block
+    pub asked_is : matter.asked.now ≡ asked_for block
     pub constraints_are : matter.scene.constraints.now ≡ case.constraints
-    pub cells_are : matter.scene.cells.now ≡ cells_from (unwrap_or block.query.column 0) leaves
+    pub cells_are : matter.scene.cells.now ≡ cells_from (unwrap_or block.query.column 0) (leaves_in case.schema nodes)
     pub agg_is : matter.scene.agg ≡ block.query.agg
     pub folded : IsFold block.query block.name case.observed matter.scene.seen
 
-  abbrev asked_over : Area → Query
-  asked_over area = record { agg = block.query.agg; column = block.query.column; chosen = area; group = None }
-
-  pub matter_of : (area : Area) (leaves : List Leaf) (matter : Matter) (nodes : List CutNode) → IsWellFormed case.schema → IsFormedBlock case.schema block
-      → AllowsName block.query.chosen block.query.group block.name → IsMadeOf area leaves matter → leaves ≡ leaves_in case.schema nodes
-      → IsMatterOf matter (setting_of case block nodes)
-  matter_of area leaves matter nodes formed block_formed allowed made same = record {
+  pub matter_of : (matter : Matter) (nodes : List CutNode) → IsWellFormed case.schema → IsFormedBlock case.schema block
+      → AllowsName block.query.chosen block.query.group block.name → IsMadeOf nodes matter → IsMatterOf matter (setting_of case block nodes)
+  matter_of matter nodes formed block_formed allowed made = record {
     schema_is = sym made.schema_is;
-    asked_is = ap asked_over (sym made.area_is) ∙ sym made.asked_is;
+    asked_is = sym made.asked_is;
     scene = record {
       constraints_are = sym made.constraints_are;
-      cells_are = made.cells_are ∙ ap (cells_from (unwrap_or block.query.column 0)) same;
+      cells_are = made.cells_are;
       agg_is = sym made.agg_is;
       comes_to = comes (setting_of case block nodes).question matter.scene.seen made.folded;
       measured = measure_there case.schema block.query.agg block.query.column block_formed.query.measured;

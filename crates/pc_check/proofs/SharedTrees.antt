@@ -20,7 +20,7 @@ use Rattle.pc_check.specs.declared.premises.Premises.{Premises}
 use Rattle.pc_check.specs.Blocks.{IsSettingOf, IsTreeFinding, moved_to}
 
 -- from whichever line the tree is counted
-lines_alike : (line j k : ℕ) (box : Region) (t : CutShape) → map (at_line line) (cut_demands j box t) ≡ map (at_line line) (cut_demands k box t)
+pub lines_alike : (line j k : ℕ) (box : Region) (t : CutShape) → map (at_line line) (cut_demands j box t) ≡ map (at_line line) (cut_demands k box t)
 lines_alike line j k box (leaf mark) = refl
 lines_alike line j k box (inner cut t u) =
     let here : Placed = record { line = line; rule = 3; demand = proper box cut } in
@@ -36,7 +36,7 @@ moved_broken s line at rule [] broken = absurd broken
 moved_broken s line at rule (d ∷ ds) (inl here) = inl (here.0, refl, here.2)
 moved_broken s line at rule (d ∷ ds) (inr later) = inr (later.0, moved_broken s line at rule ds later.1)
 
-moved_whole : (s : Setting) (line : ℕ) (ds : List Placed) → All (Holds s) ds → All (Holds s) (map (at_line line) ds)
+pub moved_whole : (s : Setting) (line : ℕ) (ds : List Placed) → All (Holds s) ds → All (Holds s) (map (at_line line) ds)
 moved_whole s line [] all = All-nil (Holds s)
 moved_whole s line (d ∷ ds) all =
     All-cons (Holds s) (at_line line d) (map (at_line line) ds) (All-head (Holds s) d ds all) (moved_whole s line ds (All-tail (Holds s) d ds all))

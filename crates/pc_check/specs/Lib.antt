@@ -1,4 +1,5 @@
 pub mod Blocks
 pub mod Premises
+pub mod Seen
 pub mod Totals
 pub mod Verdicts

@@ -1,37 +1,43 @@
-ghost use Rattle.std.specs.Prelude.{◌≡◌, ◌↔◌, ◌+◌, ◌<◌, ◌^◌, IsTrue, Some};
+ghost use Rattle.std.specs.Prelude.{◌≡◌, ◌↔◌, ◌+◌, ◌<◌, ◌^◌, IfOk, IfSome, IsTrue, Some};
 ghost use Rattle.pc_model.specs.CutTrees.{IsInPreorder};
 ghost use Rattle.pc_proof.specs.Counts.{block_count};
 ghost use Rattle.pc_proof.specs.Form.{IsFormedBlock};
 ghost use Rattle.pc_proof.specs.Unbroken.{AllowsName};
 ghost use Rattle.pc_check.specs.Premises.{ArePremises, case_of};
-ghost use Rattle.pc_check.specs.Blocks.{FindsIn, HasNodes, KeepsOver, area_for};
+ghost use Rattle.pc_check.specs.Blocks.{FindsIn, HasNodes, IsAskedOver, KeepsOver, asked_for, cleared};
+ghost use Rattle.pc_check.specs.Seen.{IsSeenFor};
 ghost use Rattle.pc_check.specs.Verdicts.{answer_count};
 
 use crate::answers::judge_answer;
-use crate::block_tree::judge_tree;
+use crate::asked::{Asked, asked_after, query_for};
 use crate::line_counts::{front_lines, tree_count};
 use crate::matter::Matter;
-use crate::observed::seen_in;
 use crate::premises::Premises;
-use pc_check_rules::{Halt, NAMES_AND_TREES, Scene, cells_of};
-use pc_model::{Area, CutNode, Leaf, Query};
-use pc_proof::{Block, narrowed, some_allows};
+use pc_check_rules::{Halt, NAMES_AND_TREES, Scene};
+use pc_model::{Area, CutNode, Folded};
+use pc_proof::{Block, some_allows};
 use std::alloc::Global;
 
-/// Tries a block. `nodes` are those of the tree that it names, and `line` is the number of the line of its query.
+/// Tries a block, and gives what the next one may use. `nodes` are those of the tree that it names, `before` is what was
+/// kept over them, `seen` what the observed rows come to for its question, and `line` the number of the line of its query.
 pub(crate) fn judge_block(
     alloc: Global,
     premises: &Premises<'_>,
     block: &Block,
     nodes: &[CutNode],
+    before: Option<Asked>,
+    seen: &Folded,
     line: u64,
-) -> Result<(), Halt>
+) -> Result<Asked, Halt>
     requires premises { ArePremises premises.now }
     requires formed { IsFormedBlock premises.now.schema.now block.now }
     requires preorder { IsInPreorder nodes.now }
     requires nodes_are { HasNodes block.now.tree nodes.now }
+    requires seen { IsSeenFor block.now.query block.now.name premises.now.rows.now seen.now }
+    requires before { IfSome before (IsAskedOver premises.now nodes.now) }
     requires few_lines { line + block_count block.now < 2 ^ 64 }
-    ensures { FindsIn (case_of premises.now) line block.now (Some nodes.now) result }
+    ensures found { FindsIn (case_of premises.now) line block.now (Some nodes.now) (cleared result) }
+    ensures kept { IfOk result (IsAskedOver premises.now nodes.now) }
 {
     if !allows_name(&block.query.chosen, block.query.group, block.name) {
         return Err(Halt::Broken {
@@ -39,7 +45,7 @@ pub(crate) fn judge_block(
             rule: NAMES_AND_TREES,
         });
     }
-    judge_allowed(alloc, premises, block, nodes, line)
+    judge_allowed(alloc, premises, block, nodes, before, seen, line)
 }
 
 /// Whether some box of an area allows a name of its group column; where there is none, every area does.
@@ -61,58 +67,63 @@ fn judge_allowed(
     premises: &Premises<'_>,
     block: &Block,
     nodes: &[CutNode],
+    before: Option<Asked>,
+    seen: &Folded,
     line: u64,
-) -> Result<(), Halt>
+) -> Result<Asked, Halt>
     requires premises { ArePremises premises.now }
     requires formed { IsFormedBlock premises.now.schema.now block.now }
     requires preorder { IsInPreorder nodes.now }
     requires nodes_are { HasNodes block.now.tree nodes.now }
+    requires before { IfSome before (IsAskedOver premises.now nodes.now) }
+    requires seen { IsSeenFor block.now.query block.now.name premises.now.rows.now seen.now }
     requires few_lines { line + block_count block.now < 2 ^ 64 }
     requires allowed { AllowsName block.now.query.chosen block.now.query.group block.now.name }
-    ensures { FindsIn (case_of premises.now) line block.now (Some nodes.now) result }
+    ensures found { FindsIn (case_of premises.now) line block.now (Some nodes.now) (cleared result) }
+    ensures kept { IfOk result (IsAskedOver premises.now nodes.now) }
 {
-    let area = narrowed(alloc, &block.query.chosen, block.query.group, block.name)?;
+    let query = query_for(alloc, block)?;
     let tree_line = line + front_lines(block.name);
-    let leaves = judge_tree(alloc, premises, &area, &block.tree, nodes, tree_line)?;
+    let asked = asked_after(
+        alloc,
+        premises,
+        query,
+        &block.tree,
+        nodes,
+        before,
+        tree_line,
+    )?;
     let line = tree_line + tree_count(&block.tree);
-    judge_cells(alloc, premises, block, area, leaves.as_slice(), line)
+    judge_asked(alloc, premises, block, &asked, seen, line)?;
+    Ok(asked)
 }
 
-/// Tries the answer of a block whose tree breaks no rule: `area` is the part that its name keeps, and `line` is the
-/// number of the line of the relation.
-fn judge_cells(
+/// Tries the answer of a block whose tree breaks no rule. `line` is the number of the line of the relation.
+fn judge_asked(
     alloc: Global,
     premises: &Premises<'_>,
     block: &Block,
-    area: Area,
-    leaves: &[Leaf],
+    asked: &Asked,
+    seen: &Folded,
     line: u64,
 ) -> Result<(), Halt>
     requires premises { ArePremises premises.now }
     requires formed { IsFormedBlock premises.now.schema.now block.now }
+    requires query { asked.now.query ≡ asked_for block.now }
+    requires seen { IsSeenFor block.now.query block.now.name premises.now.rows.now seen.now }
     requires few_lines { line + answer_count block.now.answer < 2 ^ 64 }
     requires allowed { AllowsName block.now.query.chosen block.now.query.group block.now.name }
-    requires area { area ≡ area_for block.now }
-    ensures { KeepsOver (case_of premises.now) line block.now leaves.now result }
+    ensures { KeepsOver (case_of premises.now) line block.now asked.now.cells result }
 {
-    let query = &block.query;
-    let cells = cells_of(alloc, leaves, query.column)?;
-    let seen = seen_in(alloc, premises.rows, query, block.name)?;
-    let asked = Query {
-        agg: query.agg,
-        column: query.column,
-        chosen: area,
-        group: None,
-    };
     let scene = Scene {
         constraints: premises.constraints,
-        cells: cells.as_slice(),
-        agg: query.agg,
-        seen,
+        cells: asked.cells.as_slice(),
+        agg: block.query.agg,
+        seen: *seen,
     };
     let matter = Matter {
         schema: premises.schema,
-        asked: &asked,
+        asked: &asked.query,
         scene,
     };
     judge_answer(alloc, &matter, line, &block.answer)

@@ -9,16 +9,19 @@ ghost use Rattle.pc_proof.specs.declared.document.Block.{Block};
 ghost use Rattle.pc_proof.specs.Documents.{AreRight, Premises as Case, nodes_after, premises_of};
 ghost use Rattle.pc_proof.specs.Form.{IsFormedBlock, IsInForm};
 ghost use Rattle.pc_check.specs.declared.verdict.Verdict.TheVariants.{Yes};
-ghost use Rattle.pc_check.specs.Blocks.{FindsIn, HasNodes};
+ghost use Rattle.pc_check.specs.Blocks.{FindsIn, HasNodes, IsAskedOver, cleared};
 ghost use Rattle.pc_check.specs.Premises.{ArePremises, case_of};
+ghost use Rattle.pc_check.specs.Seen.{IsSeenFor};
 ghost use Rattle.pc_check.specs.Verdicts.{IsFound, IsVerdictOn};
 
+use crate::asked::{Asked, kept_for};
 use crate::block::{allows_name, judge_block};
 use crate::line_counts::{block_count, front_lines};
+use crate::observed::seen_for;
 use crate::premises::Premises;
 use crate::verdict::Verdict;
 use pc_check_rules::{Halt, NAMES_AND_TREES};
-use pc_model::{Constraint, CutNode, Schema};
+use pc_model::{Constraint, CutNode, Folded, Schema};
 use pc_num::Memory;
 use pc_proof::{Block, BlockTree, Document};
 use pc_rows::Rows;
@@ -69,11 +72,17 @@ fn judge_blocks(alloc: Global, premises: &Premises<'_>, blocks: &[Block]) -> Res
 {
     let mut line = 2;
     let mut before = None;
+    let mut kept = None;
+    let mut last = None;
     for block in blocks {
         let nodes = nodes_after(before, &block.tree);
-        judge_next(alloc, premises, block, nodes, line)?;
+        let over = kept_for(kept, &block.tree);
+        let seen = seen_for(alloc, premises, last, block)?;
+        let asked = judge_next(alloc, premises, block, nodes, over, &seen.folded, line)?;
         line += block_count(block);
         before = nodes;
+        kept = Some(asked);
+        last = Some(seen);
     }
     Ok(())
 }
@@ -94,25 +103,30 @@ fn judge_next(
     premises: &Premises<'_>,
     block: &Block,
     nodes: Option<&[CutNode]>,
+    before: Option<Asked>,
+    seen: &Folded,
     line: u64,
-) -> Result<(), Halt>
+) -> Result<Asked, Halt>
     requires premises { ArePremises premises.now }
     requires formed { IsFormedBlock premises.now.schema.now block.now }
     requires preorder { IfSome (option_copied nodes) IsInPreorder }
     requires nodes_are { IfSome (option_copied nodes) (HasNodes block.now.tree) }
+    requires seen { IsSeenFor block.now.query block.now.name premises.now.rows.now seen.now }
+    requires before { IfSome (option_copied nodes) (λ list. IfSome before (IsAskedOver premises.now list)) }
     requires few_lines { line + block_count block.now < 2 ^ 64 }
-    ensures { FindsIn (case_of premises.now) line block.now (option_copied nodes.entry) result }
+    ensures found { FindsIn (case_of premises.now) line block.now (option_copied nodes.entry) (cleared result) }
+    ensures kept { IfSome (option_copied nodes.entry) (λ list. IfOk result (IsAskedOver premises.now list)) }
 {
     match nodes {
         None => judge_treeless(block, line),
-        Some(nodes) => judge_block(alloc, premises, block, nodes, line),
+        Some(nodes) => judge_block(alloc, premises, block, nodes, before, seen, line),
     }
 }
 
 /// A block that names the tree of a block before, where there is none, breaks a rule.
-fn judge_treeless(block: &Block, line: u64) -> Result<(), Halt>
+fn judge_treeless(block: &Block, line: u64) -> Result<Asked, Halt>
     requires few_lines { line + block_count block.now < 2 ^ 64 }
-    ensures { (case : Case) → FindsIn case line block.now None result }
+    ensures { (case : Case) → FindsIn case line block.now None (cleared result) }
 {
     if !allows_name(&block.query.chosen, block.query.group, block.name) {
         return Err(Halt::Broken {

@@ -2,6 +2,7 @@
 #![tactic(auto)]
 
 mod answers;
+mod asked;
 mod block;
 mod block_tree;
 mod document;
@@ -14,6 +15,7 @@ mod observed;
 mod premises;
 mod relations;
 mod runs;
+mod same;
 mod totals;
 mod verdict;
 

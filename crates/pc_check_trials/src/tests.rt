@@ -1,3 +1,4 @@
+mod alternating;
 mod areas;
 mod averages;
 mod blocks;
@@ -14,6 +15,7 @@ mod relations;
 mod trees;
 mod worked;
 
+use alternating::ALTERNATING;
 use areas::AREAS;
 use averages::AVERAGES;
 use blocks::BLOCKS;
@@ -168,6 +170,12 @@ fn splits_and_classes_of_several_leaves(rt: HostRuntime) -> Result<(), Fail> {
 #[test]
 fn several_blocks(rt: HostRuntime) -> Result<(), Fail> {
     all_pass(&rt, rt.alloc(), &BLOCKS)?;
+    Ok(())
+}
+
+#[test]
+fn questions_that_alternate(rt: HostRuntime) -> Result<(), Fail> {
+    all_pass(&rt, rt.alloc(), &ALTERNATING)?;
     Ok(())
 }
 
