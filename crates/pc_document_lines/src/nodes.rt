@@ -228,7 +228,8 @@ fn void_of(alloc: Global, pieces: &[&[u8]]) -> Result<Option<TreeNode>, Memory>
 fn numbers_of(alloc: Global, pieces: &[&[u8]]) -> Result<Option<Seq<i128>>, Memory>
     ensures { IfOk result (λ found. AreLikely (list_all is_fit) (map likely_number (map (λ piece. piece.now) pieces.now)) found) }
 {
-    let mut numbers = Seq::new(alloc);
+    // A document holds as many of these lists as it has leaves, so none is longer than it has to be.
+    let mut numbers = Seq::from_vec(Vec::with_capacity(alloc, pieces.len())?);
     for piece in pieces {
         match with_number(numbers, piece)? {
             Some(more) => numbers = more,
