@@ -1,4 +1,4 @@
-use Rattle.std.proofs.Common.{Some, sym, ◌∙◌, subst}
+use Rattle.std.proofs.Common.{sym, ◌∙◌, subst}
 use Rattle.pc_cells_tree.specs.Decisions.{HasBitAt}
 use Rattle.pc_cells_tree.proofs.Decisions.{found-told}
 use Rattle.pc_cells_tree.proofs.decision.learned_at.Goals as goal

@@ -1,6 +1,5 @@
 use Rattle.std.proofs.Common.{◌≡◌, true, inr, arith}
 use Rattle.std.proofs.lemmas.Result.{IfOk-weaker}
-use Rattle.pc_cells_tree.specs.Knowing.{AreKnown}
 use Rattle.pc_cells_tree.specs.Linked.{is_leaf_node, node_at}
 use Rattle.pc_cells_tree.proofs.Knowing.{known-cut}
 use Rattle.pc_cells_tree.proofs.Passes.{leaf_read, settled_node, cut_needed, cut_known}
