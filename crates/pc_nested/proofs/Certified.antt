@@ -12,12 +12,12 @@ use Rattle.pc_program_bound.specs.Bound.{part_of, rest_of, constraint_share, cel
 use Rattle.pc_program_bound.proofs.Ring.{mul_mono, mul_anti}
 use Rattle.pc_program_bound.proofs.SumBelow.{sum_below-zero, sum_below-suc, sum_below-same}
 use Rattle.pc_program_bound.proofs.Duality.{worth-shared}
+use Rattle.pc_program_bound.proofs.SmallWidths.{width_within}
 use Rattle.pc_nested.specs.Filled.{IsChosen}
 use Rattle.pc_nested.specs.Narrowed.{IsTight}
 use Rattle.pc_nested.specs.Priced.{mult_of, AreUndone}
 use Rattle.pc_nested.proofs.Totals.{sum_below-but_one}
 use Rattle.pc_nested.proofs.Prices.{difference_size}
-use borrow.Author.Differences.{abs_is}
 
 -- ---- one cell and one constraint
 
@@ -77,24 +77,6 @@ div-one : (z : ℤ) → int_div_euclid z (pos 1) ≡ z
 div-one (pos n) = omega (arith, ints)
 div-one (negsuc n) = omega (arith, ints)
 
--- ---- sizes
-
-size_product : (a : ℤ) (c m n : ℕ) → nat_abs a ≤ m → c ≤ n → nat_abs (pos (nat_abs a) *ℤ pos c) ≤ m * n
-size_product a c m n small few = rw (unsigned_abs-mul (pos (nat_abs a)) (pos c)) (mul-le-mul small few)
-
-abs-add : (a b : ℤ) → nat_abs (a +ℤ b) ≤ nat_abs a + nat_abs b
-abs-add a b = omega (arith, ints, abs_is a, abs_is b, abs_is (a +ℤ b))
-
--- a sum of numbers that are at most that far from 0
-sum-size : (n : ℕ) (f : ℕ → ℤ) (m : ℕ) → ((i : ℕ) → i < n → nat_abs (f i) ≤ m) → nat_abs (sum_below n f) ≤ n * m
-sum-size zero f m small = rw (sum_below-zero f) (omega arith)
-sum-size (suc n) f m small =
-    let before = sum-size n f m (λ i h. small i (omega arith)) in
-    let last = small n (omega arith) in
-    let whole : nat_abs (sum_below (suc n) f) ≤ nat_abs (sum_below n f) + nat_abs (f n) = rw (sum_below-suc n f) (abs-add (sum_below n f) (f n)) in
-    let more : suc n * m ≡ n * m + m = omega arith in
-    rw more (omega (arith, before, last, whole))
-
 -- ---- the program
 
 module _ (p : Program) (counts : List ℕ) (k : ℕ) (m : ℤ) (by prices : List ℤ) (undone : AreUndone p counts k m [] by prices) where
@@ -146,49 +128,11 @@ module _ (p : Program) (counts : List ℕ) (k : ℕ) (m : ℤ) (by prices : List
   -- ---- the width
 
   module _ (program : IsProgram p) (few : cells_of p ≤ 40) (gains : (i : ℕ) → i < cells_of p → nat_abs (int_at p.gain i) ≤ 2 ^ 87) where
-    part : (i j : ℕ) → j < constraints_of p → nat_abs (part_of p mult i j) ≤ 2 ^ 88
-    part i j h = by_test (has_bit (nat_at p.masks i) j)
-      where
-        by_test : (test : Bool) → nat_abs (cond test (int_at by j) (pos 0)) ≤ 2 ^ 88
-        by_test true = undone.small_by j h
-        by_test false = omega arith
-
-    given : (i n : ℕ) → n ≤ constraints_of p → nat_abs (given_up_to p mult i n) ≤ n * 2 ^ 88
-    given i n le = sum-size n (part_of p mult i) (2 ^ 88) (λ j h. part i j (omega arith))
-
     scaled : (i : ℕ) → i < cells_of p → nat_abs (mult.den *ℤ int_at p.gain i) ≤ 2 ^ 87
     scaled i h = let same : pos 1 *ℤ int_at p.gain i ≡ int_at p.gain i = omega (arith, ints) in rw same (gains i h)
 
     rest : (i : ℕ) → i < cells_of p → nat_abs (rest_of p mult i) ≤ 2 ^ 88
     rest i h = rw (rest_is i h) (difference_size (int_at p.gain i) (int_at prices i) (gains i h) (undone.small_prices i h))
 
-    constraint : (j : ℕ) → j < constraints_of p → nat_abs (constraint_size p mult j) ≤ 2 ^ 88 * 1_000_000_000
-    constraint j h = size_product (int_at by j) (nat_at p.most j) _ _ (undone.small_by j h) (program.small_most j h)
-
-    cell : (i : ℕ) → i < cells_of p → nat_abs (cell_size p mult i) ≤ 2 ^ 88 * 1_000_000_000
-    cell i h = size_product (rest_of p mult i) (nat_at p.cap i) _ _ (rest i h) (program.small_cap i h)
-
-    constraint_sum : (n : ℕ) → n ≤ constraints_of p → nat_abs (constraint_sizes p mult n) ≤ n * (2 ^ 88 * 1_000_000_000)
-    constraint_sum n le = sum-size n (constraint_size p mult) _ (λ j h. constraint j (omega arith))
-
-    cell_sum : (n : ℕ) → n ≤ cells_of p → nat_abs (cell_sizes p mult n) ≤ 60 * (2 ^ 88 * 1_000_000_000)
-    cell_sum n le =
-        let first = constraint_sum (constraints_of p) (omega arith) in
-        let after = sum-size n (cell_size p mult) (2 ^ 88 * 1_000_000_000) (λ i h. cell i (omega arith)) in
-        let both = abs-add (constraint_sizes p mult (constraints_of p)) (sum_below n (cell_size p mult)) in
-        omega (arith, first, after, both, program.few, few, le)
-
     pub width_fits : HasFitWidth p mult
-    width_fits = record {
-      cells = λ i h. record {
-        rest = record {
-          scaled = omega (arith, scaled i h);
-          given = record { each = λ n le. omega (arith, given i n le, program.few) };
-          rest = omega (arith, rest i h);
-        };
-        size = omega (arith, cell i h);
-      };
-      constraints = λ j h. omega (arith, constraint j h);
-      constraint_sums = record { each = λ n le. omega (arith, constraint_sum n le, program.few) };
-      cell_sums = record { each = λ n le. omega (arith, cell_sum n le) };
-    }
+    width_fits = width_within p mult program (2 ^ 88) undone.small_by (2 ^ 87) (2 ^ 88) 40 few scaled rest (omega arith) (omega arith)

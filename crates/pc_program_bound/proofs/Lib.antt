@@ -2,6 +2,9 @@ pub mod Around
 pub mod CellPlaces
 pub mod Duality
 pub mod Ring
+pub mod SetSums
+pub mod ShortWidths
+pub mod SmallWidths
 pub mod Steps
 pub mod SumBelow
 pub mod Totals

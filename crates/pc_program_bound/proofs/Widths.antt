@@ -111,12 +111,11 @@ width_is p mult first e h cells =
     record { cells = k.each; constraints = h.each; constraint_sums = h.sums; cell_sums = k.sums }
 
 -- the sum of all shares, and its division
-pub raw_is : (p : Program) (floors caps : List ℕ) (mult : Mult) (first all : Running)
+pub raw_is : (p : Program) (floors caps : List ℕ) (mult : Mult) (first : Running) (share : ℤ)
     → first ≡ record { share = sum_below (constraints_of p) (constraint_share p mult); size = constraint_sizes p mult (constraints_of p) }
-    → all ≡ record { share = after first.share (cell_share p floors caps mult) (cells_of p); size = after first.size (cell_size p mult) (cells_of p) }
-    → all.share ≡ raw_bound p floors caps mult
-raw_is p floors caps mult first all e f =
-    ap (λ (r : Running). r.share) f ∙ ap (λ (r : Running). after r.share (cell_share p floors caps mult) (cells_of p)) e
+    → share ≡ after first.share (cell_share p floors caps mult) (cells_of p)
+    → share ≡ raw_bound p floors caps mult
+raw_is p floors caps mult first share e f = f ∙ ap (λ (r : Running). after r.share (cell_share p floors caps mult) (cells_of p)) e
 
 pub divided_is : (p : Program) (floors caps : List ℕ) (mult : Mult) (share den : ℤ) → share ≡ raw_bound p floors caps mult → den ≡ mult.den
     → int_div_euclid share den ≡ bound_of p floors caps mult

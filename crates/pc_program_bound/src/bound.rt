@@ -8,6 +8,7 @@ ghost use Rattle.pc_program_bound.specs.Parts.{IsAround, AreFitConstraints, AreF
 use crate::Program;
 use crate::rest::rest;
 use crate::running::{Running, with_cell, with_constraint};
+use crate::short::short_shares;
 use pc_model::Mult;
 
 /// The bound that multipliers prove over a box, rounded down, or none where their width does not fit.
@@ -20,8 +21,25 @@ pub fn dual_bound(p: &Program, floor: &[u64], cap: &[u64], mult: &Mult) -> Optio
     ensures { SomeIff result (HasFitWidth p.now mult.now) (bound_of p.now floor.now cap.now mult.now) }
 {
     let first = over_constraints(p, mult)?;
+    let share = all_shares(p, floor, cap, mult, first)?;
+    Some(floor_div(share, mult.den))
+}
+
+/// The constraints' and the cells' shares together.
+fn all_shares(p: &Program, floor: &[u64], cap: &[u64], mult: &Mult, first: Running) -> Option<i128>
+    requires program { IsProgram p.now }
+    requires inside { IsBox p.now floor.now cap.now }
+    requires sized { length mult.now.by ≡ constraints_of p.now }
+    requires first { first ≡ record { share = sum_below (constraints_of p.now) (constraint_share p.now mult.now); size = constraint_sizes p.now mult.now (constraints_of p.now) } }
+    requires around { IsAround first.share first.size }
+    requires fits { IsFit first.size }
+    ensures { SomeIff result (AreFitCells p.now mult.now first.size (cells_of p.now)) (first.share +ℤ sum_below (cells_of p.now) (cell_share p.now floor.now cap.now mult.now)) }
+{
+    if let Some(share) = short_shares(p, floor, cap, mult) {
+        return Some(first.share + share);
+    }
     let all = over_cells(p, floor, cap, mult, first)?;
-    Some(floor_div(all.share, mult.den))
+    Some(all.share)
 }
 
 /// The constraints' shares.

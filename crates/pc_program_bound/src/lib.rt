@@ -7,6 +7,8 @@ mod laws;
 mod program;
 mod rest;
 mod running;
+mod short;
+mod tables;
 mod walk;
 mod width;
 

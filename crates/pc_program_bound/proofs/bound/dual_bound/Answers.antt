@@ -12,11 +12,11 @@ returns c =
     let caps = c.args.cap.now in
     let mult = c.args.mult.now in
     let first = c.in_ok-first.ensures.value in
-    let all = c.in_ok-all.ensures in
+    let all = c.in_ok-share.ensures in
     let same_result : to_z w128 (of_z w128 c.floor_div.result) ≡ c.floor_div.result = omega (arith, ints) in
-    let same_share : to_z w128 (of_z w128 c.in_ok-all.all.share) ≡ c.in_ok-all.all.share = omega (arith, ints) in
+    let same_share : to_z w128 (of_z w128 c.in_ok-share.share) ≡ c.in_ok-share.share = omega (arith, ints) in
     let same_den : to_z w128 (of_z w128 mult.den) ≡ mult.den = omega (arith, ints) in
-    let share = raw_is p floors caps mult c.in_ok-first.first c.in_ok-all.all first.1 all.1 in (
+    let share = raw_is p floors caps mult c.in_ok-first.first c.in_ok-share.share first.1 all.1 in (
       width_is p mult _ (ap (λ (r : Running). r.size) first.1) first.0 all.0,
       same_result ∙ c.floor_div.ensures ∙ divided_is p floors caps mult _ _ (same_share ∙ share) same_den,
     )
