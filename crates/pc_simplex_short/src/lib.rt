@@ -5,6 +5,7 @@ mod aim;
 mod change;
 mod choice;
 mod entry;
+mod lesser;
 mod limit;
 mod narrow;
 mod reduce;

@@ -7,9 +7,10 @@ ghost use Rattle.pc_simplex_short.specs.Short.{spelled_numbers, spelled_row};
 ghost use Rattle.pc_simplex_short.specs.Kept.{IsWithin, IsSetting, IsShortRow};
 
 use crate::entry::entry;
+use crate::lesser::lesser_limit;
 use crate::row::ShortRow;
 use crate::setting::ShortSetting;
-use pc_simplex_tableau::{Limit, Way, lesser};
+use pc_simplex_tableau::{Limit, Way};
 
 /// A limit, or that of the row where it has one that is less.
 pub(crate) fn with_row(
@@ -52,7 +53,7 @@ fn with_lower(column: usize, value: i64, own: i64, at: usize, best: Limit) -> Li
         under: i128::from(own),
         way: Way::Pivoting(at),
     };
-    lesser(best, lower)
+    lesser_limit(best, lower)
 }
 
 fn with_upper_limit(
@@ -103,7 +104,7 @@ fn with_upper(column: usize, over: i128, own: i64, at: usize, best: Limit) -> Li
         under: -i128::from(own),
         way: Way::TurningAndPivoting(at),
     };
-    lesser(best, upper)
+    lesser_limit(best, upper)
 }
 
 /// The number of a row at a column.

@@ -10,4 +10,4 @@ returns-clause-value c =
     let same : pos 0 -ℤ c.args.own ≡ neg_ℤ c.args.own = omega (arith, ints) in
     let own_fits : IsFit c.args.own = omega (arith, c.requires.own) in
     let fits : IsFit (neg_ℤ c.args.own) = omega (arith, ints, c.requires.own) in
-    rw (to_z-of_z c.ranges.over, own, passed c.args.own own_fits, same, passed (neg_ℤ c.args.own) fits) at c.lesser.ensures.value
+    rw (to_z-of_z c.ranges.over, own, passed c.args.own own_fits, same, passed (neg_ℤ c.args.own) fits) at c.lesser_limit.ensures.value
