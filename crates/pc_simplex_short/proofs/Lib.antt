@@ -14,4 +14,5 @@ pub mod ShortPivots
 pub mod Sizes
 pub mod Reducing
 pub mod Spelled
+pub mod Sharing
 pub mod Words

@@ -80,7 +80,7 @@ pub divided_once : (a : ℤ) → int_div_euclid a (pos 1) ≡ a
 divided_once (pos n) = ap pos (divided_by_one n)
 divided_once (negsuc n) = ap negsuc (divided_by_one n)
 
-row_divided_once : (row : List ℤ) → map (λ a. int_div_euclid a (pos 1)) row ≡ row
+pub row_divided_once : (row : List ℤ) → map (λ a. int_div_euclid a (pos 1)) row ≡ row
 row_divided_once [] = refl
 row_divided_once (a ∷ row) = ap₂ ◌∷◌ (divided_once a) (row_divided_once row)
 

@@ -9,7 +9,8 @@ ghost use Rattle.pc_simplex_short.specs.Kept.{IsWithin, IsSetting, IsShortAim};
 use crate::entry::{aim_entry, entry};
 use crate::setting::ShortSetting;
 use crate::small::is_small_aim;
-use pc_simplex_tableau::divide_together;
+use crate::together::divide_together;
+use crate::word::times;
 
 /// Frees the objective row of a column by a row that has an entry there. It answers false where a number is no longer small,
 /// and the objective row and its weight are then of no more use.
@@ -90,5 +91,5 @@ fn mixed(p: i64, a: i128, t: i128, b: i64) -> i128
     requires b { IsWithin 50 b }
     ensures { result ≡ p *ℤ a -ℤ t *ℤ b }
 {
-    i128::from(p) * a - t * i128::from(b)
+    times(a, p) - times(t, b)
 }

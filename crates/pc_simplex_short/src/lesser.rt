@@ -4,6 +4,7 @@ ghost use Rattle.pc_program_bound.specs.Bound.{IsFit};
 ghost use Rattle.pc_simplex_tableau.specs.Tableau.{is_after, lesser};
 ghost use Rattle.pc_simplex_tableau.specs.Limits.{IsSoundFraction};
 
+use crate::word::{product, word};
 use pc_simplex_tableau::{Limit, lesser};
 use std::cmp::Ordering;
 
@@ -47,17 +48,4 @@ fn short_product(a: i128, b: i128) -> Option<i128>
     ensures fits { IfSome result IsFit }
 {
     Some(product(word(a)?, word(b)?))
-}
-
-fn word(number: i128) -> Option<i64>
-    ensures { IfSome result (λ word. word ≡ number) }
-{
-    i64::try_from(number).ok()
-}
-
-fn product(a: i64, b: i64) -> i128
-    ensures value { result ≡ a *ℤ b }
-    ensures fits { IsFit result }
-{
-    i128::from(a) * i128::from(b)
 }

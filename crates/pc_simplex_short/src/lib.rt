@@ -16,6 +16,8 @@ mod setting;
 mod small;
 mod spell;
 mod tableau;
+mod together;
+mod word;
 
 pub use row::ShortRow;
 pub use run::{ShortRun, take_steps};

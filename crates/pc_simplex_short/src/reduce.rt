@@ -5,6 +5,7 @@ ghost use Rattle.pc_simplex_tableau.specs.Numbers.{common, primitive, combined};
 ghost use Rattle.pc_simplex_short.specs.Kept.{IsWithin};
 
 use crate::small::is_small;
+use crate::word::short_quotient;
 use pc_num::gcd;
 
 /// `p` times the row minus `t` times the other, divided by the greatest common divisor. It answers false where a number is no
@@ -79,7 +80,7 @@ fn divided(number: i128, divisor: i128) -> Option<i64>
     Some(quotient as i64)
 }
 
-fn quotient(number: i128, divisor: i128) -> i128
+pub(crate) fn quotient(number: i128, divisor: i128) -> i128
     requires number { IsFit number }
     requires divisor { pos 0 <ℤ divisor }
     ensures value { result ≡ int_div_euclid number divisor }
@@ -88,7 +89,10 @@ fn quotient(number: i128, divisor: i128) -> i128
     if divisor == 1 {
         return number;
     }
-    number.div_euclid(divisor)
+    match short_quotient(number, divisor) {
+        Some(quotient) => quotient,
+        None => number.div_euclid(divisor),
+    }
 }
 
 fn mixed(p: i64, a: i64, t: i64, b: i64) -> i128
@@ -103,7 +107,7 @@ fn mixed(p: i64, a: i64, t: i64, b: i64) -> i128
 }
 
 /// The greatest common divisor. Most numbers fit 64 bits, whose division is fast.
-fn common_divisor(a: i128, b: i128) -> i128
+pub(crate) fn common_divisor(a: i128, b: i128) -> i128
     requires a_fits { IsFit a }
     requires b_fits { IsFit b }
     ensures common { IsGcd (unsigned_abs a) (unsigned_abs b) (unsigned_abs result) }
