@@ -16,7 +16,7 @@ use pc_list::Seq;
 use pc_model::has_bit;
 use pc_num::Memory;
 use pc_program_bound::Program;
-use pc_simplex_short::ShortSetting;
+use pc_simplex_short::{Places, ShortSetting};
 use pc_simplex_tableau::Columns;
 use std::alloc::Global;
 
@@ -122,51 +122,56 @@ fn gain_of(p: &Program, column: usize) -> i128
 
 /// The constraints of each column by number.
 #[tactic(auto, using(pc_simplex_tableau::proofs::Tables::table_steps))]
-fn all_places(alloc: Global, p: &Program) -> Result<Seq<Seq<usize>>, Memory>
+fn all_places(alloc: Global, p: &Program) -> Result<Places, Memory>
     requires program { IsProgram p.now }
     requires few { columns_of p.now < 2 ^ 32 }
     ensures { IfOk result (λ places. places ≡ table (columns_of p.now) (column_places p.now)) }
 {
-    let mut places = Seq::new(alloc);
+    let mut places = Places::new(alloc);
+    let mut own = Vec::new(alloc);
     for column in 0..columns_of(p) {
-        places.push(column_places(alloc, p, column)?)?;
+        own = column_places(own, p, column)?;
+        places.push(own.as_slice())?;
     }
     Ok(places)
 }
 
-fn column_places(alloc: Global, p: &Program, column: usize) -> Result<Seq<usize>, Memory>
+/// The constraints of a column, in the memory of a list that is done with.
+fn column_places(done: Vec<usize>, p: &Program, column: usize) -> Result<Vec<usize>, Memory>
     requires program { IsProgram p.now }
     requires few { columns_of p.now < 2 ^ 32 }
     requires own { column < columns_of p.now }
-    ensures { IfOk result (λ places. places ≡ column_places p.now column) }
+    ensures { IfOk result (λ places. places.items ≡ column_places p.now column) }
 {
     let masks = p.masks.as_slice();
     let constraints = p.least.len();
     if column < masks.len() {
-        return mask_places(alloc, masks[column], constraints);
+        return mask_places(done, masks[column], constraints);
     }
     let slack = column - masks.len();
     if slack < constraints {
-        return only(alloc, slack);
+        return only(done, slack);
     }
-    only(alloc, slack - constraints)
+    only(done, slack - constraints)
 }
 
-fn only(alloc: Global, place: usize) -> Result<Seq<usize>, Memory>
-    ensures { IfOk result (λ places. places ≡ place ∷ []) }
+fn only(done: Vec<usize>, place: usize) -> Result<Vec<usize>, Memory>
+    ensures { IfOk result (λ places. places.items ≡ place ∷ []) }
 {
-    let mut places = Seq::new(alloc);
+    let mut places = done;
+    places.clear();
     places.push(place)?;
     Ok(places)
 }
 
 /// The places of the bits of a mask, below that many.
 #[tactic(auto, using(crate::proofs::Settings::place_steps))]
-fn mask_places(alloc: Global, mask: u32, count: usize) -> Result<Seq<usize>, Memory>
+fn mask_places(done: Vec<usize>, mask: u32, count: usize) -> Result<Vec<usize>, Memory>
     requires few { count ≤ 20 }
-    ensures { IfOk result (λ places. places ≡ places_below count mask) }
+    ensures { IfOk result (λ places. places.items ≡ places_below count mask) }
 {
-    let mut places = Seq::new(alloc);
+    let mut places = done;
+    places.clear();
     for place in 0..count {
         if has_bit(u128::from(mask), place) {
             places.push(place)?;

@@ -13,6 +13,7 @@ pub mod Running
 pub mod ShortPivots
 pub mod Sizes
 pub mod Reducing
+pub mod Spans
 pub mod Spelled
 pub mod Sharing
 pub mod Words

@@ -1,3 +1,4 @@
 pub mod Kept
 pub mod Runs
 pub mod Short
+pub mod Spans

@@ -28,8 +28,7 @@ fn mix_at(setting: &ShortSetting, numbers: &[i64], column: usize) -> i64
     ensures value { result ≡ mix (places_of setting.now column) numbers.now }
     ensures small { IsWithin 55 result }
 {
-    let places = setting.places.as_slice();
-    mix(places[column].as_slice(), numbers)
+    mix(setting.places.at(column), numbers)
 }
 
 fn mix(places: &[usize], numbers: &[i64]) -> i64
@@ -117,8 +116,7 @@ fn wide_mix_at(setting: &ShortSetting, numbers: &[i128], column: usize) -> i128
     ensures value { result ≡ mix (places_of setting.now column) numbers.now }
     ensures small { IsWithin 69 result }
 {
-    let places = setting.places.as_slice();
-    wide_mix(places[column].as_slice(), numbers)
+    wide_mix(setting.places.at(column), numbers)
 }
 
 fn wide_mix(places: &[usize], numbers: &[i128]) -> i128

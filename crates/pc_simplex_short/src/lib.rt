@@ -8,6 +8,7 @@ mod entry;
 mod lesser;
 mod limit;
 mod narrow;
+mod places;
 mod reduce;
 mod row;
 mod rows;
@@ -19,6 +20,7 @@ mod tableau;
 mod together;
 mod word;
 
+pub use places::{Places, Span};
 pub use row::ShortRow;
 pub use run::{ShortRun, take_steps};
 pub use setting::ShortSetting;

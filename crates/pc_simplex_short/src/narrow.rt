@@ -108,8 +108,7 @@ fn mix_at(setting: &ShortSetting, numbers: &[i128], column: usize) -> i64
     ensures value { result ≡ mix (places_of setting.now column) numbers.now }
     ensures small { IsWithin 60 result }
 {
-    let places = setting.places.as_slice();
-    mix(places[column].as_slice(), numbers)
+    mix(setting.places.at(column), numbers)
 }
 
 fn mix(places: &[usize], numbers: &[i128]) -> i64

@@ -1,3 +1,4 @@
+use crate::places::Places;
 use pc_list::Seq;
 use pc_simplex_tableau::Columns;
 use std::marker::Model;
@@ -7,7 +8,7 @@ use std::marker::Model;
 #[derive(Drop)]
 pub struct ShortSetting {
     pub columns: Columns,
-    pub places: Seq<Seq<usize>>,
+    pub places: Places,
     pub gains: Seq<i128>,
     pub top: u128,
     pub constraints: usize,
