@@ -1,4 +1,4 @@
-ghost use Rattle.std.specs.Prelude.{◌≡◌, ◌<◌, ◌^◌, length, IfOk, OnOk};
+ghost use Rattle.std.specs.Prelude.{◌≡◌, ◌<◌, ◌^◌, length, IfOk, IsOk, OnOk};
 ghost use Rattle.pc_cells_tree.specs.Growing.{with_leaf, with_place, with_inner};
 
 use pc_list::Seq;
@@ -36,7 +36,8 @@ impl Growth {
     #[inline(always)]
     pub(crate) fn with_inner(self, place: usize, cut: Cut) -> Result<Growth, Memory>
         requires there { place < length self.nodes }
-        ensures { IfOk result (λ more. more ≡ with_inner self place cut) }
+        ensures inner { IfOk result (λ more. more ≡ with_inner self place cut) }
+        ensures given { length self.nodes < 2 ^ 32 → IsOk result }
     {
         let Growth { nodes, leaves } = self;
         let first = number(place + 1)?;
@@ -55,6 +56,7 @@ impl Growth {
 pub(crate) fn number(count: usize) -> Result<u32, Memory>
     ensures same { IfOk result (λ number. number ≡ count) }
     ensures small { OnOk result (count < 2 ^ 32) }
+    ensures given { count < 2 ^ 32 → IsOk result }
 {
     u32::try_from(count).map_err(|_| Memory)
 }
