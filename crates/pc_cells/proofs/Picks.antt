@@ -1,11 +1,10 @@
 -- A number of each side of a box, and another at one column.
-use Rattle.std.proofs.Common.{◌≡◌, ℕ, zero, suc, ◌+◌, ◌<◌, ◌≤◌, ◌^◌, ◌&&◌, int_le, true, ℤ, List, [], ◌∷◌, ◌++◌, length, get_or, take, set, Option, Some, IfSome, slice_get, subst, refl, sym, ◌∙◌, ap, true≢false, arith, to_z, w64}
+use Rattle.std.proofs.Common.{◌≡◌, ℕ, zero, suc, ◌<◌, ◌^◌, ◌&&◌, int_le, true, ℤ, List, [], ◌∷◌, length, get_or, set, Option, Some, IfSome, slice_get, subst, refl, sym, ◌∙◌, ap, true≢false, arith, to_z, w64}
 use Rattle.std.specs.Cmp.Lexicographic.{pointwise}
 use Rattle.std.specs.Int.{w128}
 use Rattle.std.specs.Int.Count.{count_trailing_zeros}
 use Rattle.std.proofs.lemmas.Bool.{and_parts, and_from}
 use Rattle.std.proofs.lemmas.Int.{ints, to_z_pos}
-use Rattle.std.proofs.lemmas.List.{take_more, take_all}
 use Rattle.std.proofs.lemmas.Nat.Bits.{bit_at-trailing_zeros}
 use Rattle.pc_model.specs.declared.row.Row.{Row}
 use Rattle.pc_model.specs.declared.region.Side.{Side}
@@ -29,27 +28,8 @@ lowest_is_place bits some fits =
     let lowest = bit_at-trailing_zeros w128 bits some fits in
     rw (to_z_pos w64 (count_trailing_zeros 128 bits) (omega (arith, lowest.0)), lowest.1) refl
 
--- ---- as far as a loop over the sides has come
-
-held_push : (sides : List Side) (cells : List ℤ) (side : Side) (n : ℤ) → pointwise holds sides cells ≡ true → holds side n ≡ true → pointwise holds (sides ++ side ∷ []) (cells ++ n ∷ []) ≡ true
-held_push [] [] side n held last = and_from (holds side n) true last refl
-held_push [] (m ∷ cells) side n held last = absurd (true≢false (sym held))
-held_push (other ∷ sides) [] side n held last = absurd (true≢false (sym held))
-held_push (other ∷ sides) (m ∷ cells) side n held last =
-    let p = and_parts (holds other m) (pointwise holds sides cells) held in
-    and_from (holds other m) (pointwise holds (sides ++ side ∷ []) (cells ++ n ∷ [])) p.0 (held_push sides cells side n p.1 last)
-
 pub side_like : (sides : List Side) (place : ℕ) (d : Side) → pointwise are_like sides sides ≡ true → place < length sides → are_like (get_or sides place d) (get_or sides place d) ≡ true
 side_like sides place d like inside = like_at sides place d inside like
-
-pub held_more : (sides : List Side) (cells : List ℤ) (place : ℕ) (d : Side) (n : ℤ) → place < length sides → pointwise holds (take place sides) cells ≡ true → holds (get_or sides place d) n ≡ true →
-    pointwise holds (take (place + 1) sides) (cells ++ n ∷ []) ≡ true
-held_more sides cells place d n inside held last = rw (take_more sides place d inside) (held_push (take place sides) cells (get_or sides place d) n held last)
-
-pub held_all : (sides : List Side) (cells : List ℤ) (place : ℕ) → length sides ≤ place → pointwise holds (take place sides) cells ≡ true → pointwise holds sides cells ≡ true
-held_all sides cells place past held = rw (sym (take_all place sides past)) held
-
-pub ruleset steps = (side_like, held_more, held_all)
 
 -- ---- another number at one column
 

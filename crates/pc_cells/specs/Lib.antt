@@ -1,3 +1,4 @@
 pub mod Ends
 pub mod Found
 pub mod Gathering
+pub mod Lowest

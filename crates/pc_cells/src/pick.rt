@@ -1,10 +1,12 @@
 ghost use Rattle.std.specs.Prelude.{◌≡◌, ◌<◌, true, length, All, IfOk, IfSome, slice_set};
 ghost use Rattle.std.specs.Cmp.Lexicographic.{pointwise};
+ghost use Rattle.std.specs.List.{AllZip};
 ghost use Rattle.pc_model.specs.Membership.{has, holds};
 ghost use Rattle.pc_model.specs.CutTrees.{side_at};
 ghost use Rattle.pc_model.specs.Places.{is_place_of};
 ghost use Rattle.pc_box.specs.Boxes.{are_like, IsBox};
 ghost use Rattle.pc_cells.specs.Found.{IsFilled, leaves_at, leaf_in, HasNumber, HoldsNumberIn};
+ghost use Rattle.pc_cells.specs.Lowest.{IsBelowPlaces, IsLeastOf, IsLowestBut};
 
 use crate::cells::Cells;
 use pc_list::Seq;
@@ -13,7 +15,7 @@ use pc_num::Memory;
 use std::alloc::Global;
 
 impl Cells {
-    /// A row of a leaf of a cell, with this number in the column, if one is named.
+    /// The lowest row of a leaf of a cell, but with this number in the column, if one is named.
     pub fn row_at(
         &self,
         alloc: Global,
@@ -28,6 +30,7 @@ impl Cells {
         requires held { IfSome column (λ at. HoldsNumberIn self.now.cells cell leaf at value) }
         ensures row { IfOk result (λ row. has (leaf_in self.now.cells cell leaf) row ≡ true) }
         ensures number { IfOk result (HasNumber column value) }
+        ensures lowest { IfOk result (IsLowestBut column (leaf_in self.now.cells cell leaf)) }
     {
         let leaves = self.leaves(cell);
         row_in(alloc, &leaves[leaf as usize], column, value)
@@ -39,6 +42,7 @@ fn row_in(alloc: Global, region: &Region, column: Option<u8>, value: i64) -> Res
     requires held { IfSome column (λ named. holds (side_at region.now named) value ≡ true) }
     ensures row { IfOk result (λ row. has region.now row ≡ true) }
     ensures number { IfOk result (HasNumber column value) }
+    ensures lowest { IfOk result (IsLowestBut column region.now) }
 {
     let cells = numbers_of(alloc, region.sides.as_slice())?;
     match column {
@@ -64,11 +68,12 @@ fn with_number(cells: Vec<i64>, column: usize, value: i64) -> Vec<i64>
     cells
 }
 
-/// A number of each side.
-#[tactic(auto, using(crate::proofs::Picks::steps))]
+/// The least number of each side.
+#[tactic(auto, using(crate::proofs::Lowest::steps))]
 fn numbers_of(alloc: Global, sides: &[Side]) -> Result<Vec<i64>, Memory>
     requires { pointwise are_like sides.now sides.now ≡ true }
-    ensures { IfOk result (λ cells. pointwise holds sides.now cells.items ≡ true) }
+    ensures held { IfOk result (λ cells. pointwise holds sides.now cells.items ≡ true) }
+    ensures least { IfOk result (λ cells. AllZip IsLeastOf sides.now cells.items) }
 {
     let mut cells = Vec::new(alloc);
     for side in sides {
@@ -78,10 +83,9 @@ fn numbers_of(alloc: Global, sides: &[Side]) -> Result<Vec<i64>, Memory>
 }
 
 /// The least number of a side that is not empty.
-#[tactic(auto, using(crate::proofs::Picks::least_of_span), unfolding(pc_model::specs::Membership::holds))]
 fn number_of(side: &Side) -> i64
     requires { are_like side.now side.now ≡ true }
-    ensures { holds side.now result ≡ true }
+    ensures { IsLeastOf side.now result }
 {
     match side {
         Side::Span { low, .. } => *low,
@@ -89,10 +93,11 @@ fn number_of(side: &Side) -> i64
     }
 }
 
-#[tactic(auto, using(crate::proofs::Picks::lowest_is_place))]
+#[tactic(auto, using(crate::proofs::Picks::lowest_is_place, crate::proofs::Lowest::below_places))]
 fn lowest_place(bits: u128) -> i64
     requires { 0 < bits }
-    ensures { is_place_of bits result ≡ true }
+    ensures place { is_place_of bits result ≡ true }
+    ensures lowest { IsBelowPlaces bits result }
 {
     bits.trailing_zeros() as i64
 }

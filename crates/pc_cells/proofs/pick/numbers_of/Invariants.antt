@@ -1,7 +1,7 @@
-use Rattle.std.proofs.Common.{◌≡◌, true, take}
-use Rattle.std.specs.Cmp.Lexicographic.{pointwise}
-use Rattle.pc_model.specs.Membership.{holds}
+use Rattle.std.proofs.Common.{take}
+use Rattle.std.specs.List.{AllZip}
+use Rattle.pc_cells.specs.Lowest.{IsLeastOf}
 use Rattle.pc_cells.proofs.pick.numbers_of.Given as goal
 
 abbrev pub invariant-loop-side : goal.invariant-loop-side
-invariant-loop-side l = pointwise holds (take l.side-index l.sides) l.cells.items ≡ true
+invariant-loop-side l = AllZip IsLeastOf (take l.side-index l.sides) l.cells.items
