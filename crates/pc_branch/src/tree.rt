@@ -1,4 +1,4 @@
-ghost use Rattle.std.specs.Prelude.{◌≡◌, ◌<◌, ◌≤◌, ◌+◌, List, ◌++◌, length, IfOk};
+ghost use Rattle.std.specs.Prelude.{◌≡◌, ◌<◌, ◌≤◌, ◌+◌, ◌^◌, List, ◌++◌, length, IfOk, IsOk};
 ghost use Rattle.pc_model.specs.declared.tree.TreeNode.{TreeNode};
 ghost use Rattle.pc_program_bound.specs.Sums.{nat_at};
 ghost use Rattle.pc_program_bound.specs.SplitTrees.{nodes_from};
@@ -178,7 +178,8 @@ fn with_children(stack: Vec<u32>, first: Option<u32>) -> Result<Vec<u32>, Memory
 
 // A count as the number of a node; more nodes than numbers would want too much memory.
 fn number(count: usize) -> Result<u32, Memory>
-    ensures { IfOk result (λ number. number ≡ count) }
+    ensures same { IfOk result (λ number. number ≡ count) }
+    ensures given { count < 2 ^ 32 → IsOk result }
 {
     u32::try_from(count).map_err(|_| Memory)
 }
