@@ -8,7 +8,7 @@ use Rattle.pc_model.specs.declared.region.Region.{Region}
 use Rattle.pc_model.specs.Cells.{low_at, high_at}
 use Rattle.pc_cells_laws.proofs.Leasts.{least_is, greatest_is}
 use Rattle.pc_cells.specs.declared.ends.End.{End}
-use Rattle.pc_cells.specs.Ends.{end_at, is_past, last_end}
+use Rattle.pc_cells.specs.Ends.{end_at, is_past, last_end, IsFirstAt}
 use Rattle.pc_cells.specs.Found.{leaf_at}
 
 -- ---- numbers towards an end
@@ -26,6 +26,10 @@ last_further : (low : Bool) (further number other : ℤ) → is_past low further
 last_further true further number other past last = grind (arith, ints)
 last_further false further number other past last = grind (arith, ints)
 
+apart_past : (low : Bool) (further number other : ℤ) → is_past low further number ≡ true → IsLast low number other → further ≡ other → ⊥
+apart_past true further number other past last same = grind (arith, ints)
+apart_past false further number other past last same = grind (arith, ints)
+
 last_still : (low : Bool) (number other : ℤ) → is_past low other number ≡ false → IsLast low number other
 last_still true number other past = grind (arith, ints)
 last_still false number other past = grind (arith, ints)
@@ -40,6 +44,7 @@ pub record IsEnd (low : Bool) (column : ℕ) (leaves : List Region) (count : ℕ
   pub there : place < length leaves
   pub held : number ≡ end_at low column (leaf_at leaves place)
   pub last : All (λ (other : Region). IsLast low number (end_at low column other)) (take count leaves)
+  pub first : IsFirstAt low column leaves place number
 
 module _ (low : Bool) (column : ℕ) (leaves : List Region) (count : ℕ) (region : Region) (end new : End) (inside : count < length leaves) (is : region ≡ get_or leaves count region) where
   region_is : get_or leaves count no_leaf ≡ region
@@ -57,6 +62,7 @@ module _ (low : Bool) (column : ℕ) (leaves : List Region) (count : ℕ) (regio
     held = known.held;
     last = All-more (λ (other : Region). IsLast low end.number (end_at low column other)) leaves count no_leaf inside known.last
         (rw region_is (last_still low end.number number still));
+    first = known.first;
   }
 
   taken : IsEnd low column leaves count end.number end.leaf → is_past low number end.number ≡ true → IsEndNow (record { number = number; leaf = count })
@@ -67,6 +73,8 @@ module _ (low : Bool) (column : ℕ) (leaves : List Region) (count : ℕ) (regio
         (All-weaker (λ (other : Region). IsLast low end.number (end_at low column other)) (λ (other : Region). IsLast low number (end_at low column other))
         (λ other last. last_further low number end.number (end_at low column other) past last) (take count leaves) known.last)
         (rw region_is (last_alone low number));
+    first = All-weaker (λ (other : Region). IsLast low end.number (end_at low column other)) (λ (other : Region). number ≡ end_at low column other → ⊥)
+        (λ other last. apart_past low number end.number (end_at low column other) past last) (take count leaves) known.last;
   }
 
   pub end_step : IsEnd low column leaves count end.number end.leaf → new ≡ cond (is_past low number end.number) (record { number = number; leaf = count }) end →
@@ -80,6 +88,7 @@ end_first low column leaves number region some is e = record {
   there = some;
   held = e ∙ ap (end_at low column) (is ∙ get_or_default leaves 0 region no_leaf some);
   last = All-nil (λ (other : Region). IsLast low number (end_at low column other));
+  first = All-nil (λ (other : Region). number ≡ end_at low column other → ⊥);
 }
 
 end_is : (low : Bool) (column : ℕ) (leaves : List Region) (place : ℕ) (number : ℤ) → place < length leaves → number ≡ end_at low column (leaf_at leaves place) →

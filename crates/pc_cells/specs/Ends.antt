@@ -1,5 +1,5 @@
 -- The low ends of a column and the high ones, by one word for which of them.
-use Rattle.std.specs.Prelude.{ℕ, ℤ, Bool, true, false, cond, List, int_lt}
+use Rattle.std.specs.Prelude.{◌≡◌, ℕ, ℤ, Bool, true, false, cond, List, take, All, int_lt}
 use Rattle.pc_model.specs.declared.region.Region.{Region}
 use Rattle.pc_model.specs.Cells.{low_at, high_at, least_low, greatest_high}
 use Rattle.pc_cells.specs.declared.ends.End.{End}
@@ -12,6 +12,10 @@ end_at false column box = high_at column box
 abbrev pub last_end : Bool → ℕ → List Region → ℤ
 last_end true column boxes = least_low column boxes
 last_end false column boxes = greatest_high column boxes
+
+-- no leaf before this one has the number as its end
+abbrev pub IsFirstAt : Bool → ℕ → List Region → ℕ → ℤ → Type 0
+IsFirstAt low column leaves leaf number = All (λ (other : Region). number ≡ end_at low column other → ⊥) (take leaf leaves)
 
 -- a number lies beyond another
 abbrev pub is_past : Bool → ℤ → ℤ → Bool

@@ -1,12 +1,12 @@
-ghost use Rattle.std.specs.Prelude.{◌≡◌, ◌<◌, ◌^◌, length, All};
+ghost use Rattle.std.specs.Prelude.{◌≡◌, ◌<◌, ◌^◌, true, false, length, All};
 ghost use Rattle.pc_model.specs.Cells.{low_at, high_at, least_low, greatest_high};
-ghost use Rattle.pc_cells.specs.Ends.{end_at, further_end, is_past, last_end};
+ghost use Rattle.pc_cells.specs.Ends.{end_at, further_end, is_past, last_end, IsFirstAt};
 ghost use Rattle.pc_cells.specs.Found.{IsFilled, leaves_at, leaf_at, HaveAtLeast, HaveAtMost, HoldsNumberIn, HasNumbers};
 
 use crate::cells::Cells;
 use pc_model::{Region, Side};
 
-/// The least and the greatest number of a column over a cell, and leaves that hold them.
+/// The least and the greatest number of a column over a cell, and the first leaves that hold them.
 #[derive(Clone, Copy, Debug, PartialEq, Eq)]
 pub struct Ends {
     pub low: i64,
@@ -27,6 +27,8 @@ impl Cells {
         ensures below_high { HaveAtMost (leaves_at self.now.cells cell) column result.high }
         ensures low_leaf { HoldsNumberIn self.now.cells cell result.low_leaf column result.low }
         ensures high_leaf { HoldsNumberIn self.now.cells cell result.high_leaf column result.high }
+        ensures low_first { IsFirstAt true column (leaves_at self.now.cells cell) result.low_leaf result.low }
+        ensures high_first { IsFirstAt false column (leaves_at self.now.cells cell) result.high_leaf result.high }
     {
         ends_of(self.leaves(cell), column as usize)
     }
@@ -41,6 +43,8 @@ fn ends_of(leaves: &[Region], column: usize) -> Ends
     ensures low_held { result.low ≡ low_at column (leaf_at leaves.now result.low_leaf) }
     ensures high_there { result.high_leaf < length leaves.now }
     ensures high_held { result.high ≡ high_at column (leaf_at leaves.now result.high_leaf) }
+    ensures low_first { IsFirstAt true column leaves.now result.low_leaf result.low }
+    ensures high_first { IsFirstAt false column leaves.now result.high_leaf result.high }
 {
     let low = end_of(leaves, column, true);
     let high = end_of(leaves, column, false);
@@ -52,7 +56,7 @@ fn ends_of(leaves: &[Region], column: usize) -> Ends
     }
 }
 
-/// An end of a column, and the place of a leaf that has it.
+/// An end of a column, and the place of the first leaf that has it.
 #[derive(Clone, Copy)]
 struct End {
     number: i64,
@@ -66,6 +70,7 @@ fn end_of(leaves: &[Region], column: usize, low: bool) -> End
     ensures last { result.number ≡ last_end low column leaves.now }
     ensures there { result.leaf < length leaves.now }
     ensures held { result.number ≡ end_at low column (leaf_at leaves.now result.leaf) }
+    ensures first { IsFirstAt low column leaves.now result.leaf result.number }
 {
     let mut end = End {
         number: end_at(&leaves[0], column, low),

@@ -1,3 +1,6 @@
+use Rattle.std.proofs.Common.{true, false, List, subst}
+use Rattle.pc_model.specs.declared.region.Region.{Region}
+use Rattle.pc_cells.specs.Ends.{IsFirstAt}
 use Rattle.pc_cells.proofs.Spans.{cell_above, cell_below, cell_holds_low, cell_holds_high}
 use Rattle.pc_cells.proofs.cells.Cells.extreme.Goals as goal
 
@@ -16,3 +19,9 @@ pub returns-clause-high_leaf : goal.returns-clause-high_leaf
 returns-clause-high_leaf c =
     cell_holds_high c.args.self.now.cells c.args.cell c.requires.there c.requires.filled c.args.column c.requires.numbers c.leaves.result.now c.leaves.ensures c.ends_of.result.high c.ends_of.result.high_leaf
     c.ends_of.ensures.high_there c.ends_of.ensures.high_held
+
+pub returns-clause-low_first : goal.returns-clause-low_first
+returns-clause-low_first c = subst (λ (leaves : List Region). IsFirstAt true c.args.column leaves c.ends_of.result.low_leaf c.ends_of.result.low) c.leaves.ensures c.ends_of.ensures.low_first
+
+pub returns-clause-high_first : goal.returns-clause-high_first
+returns-clause-high_first c = subst (λ (leaves : List Region). IsFirstAt false c.args.column leaves c.ends_of.result.high_leaf c.ends_of.result.high) c.leaves.ensures c.ends_of.ensures.high_first
