@@ -1,4 +1,5 @@
 pub mod Aims
+pub mod Corners
 pub mod Counts
 pub mod Ended
 pub mod Floors

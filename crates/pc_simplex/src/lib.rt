@@ -3,6 +3,7 @@
 
 mod aims;
 mod columns;
+mod corner;
 mod first;
 mod laws;
 mod left;

@@ -4,18 +4,18 @@ ghost use Rattle.pc_program_bound.specs.Bound.{IsFit};
 ghost use Rattle.pc_simplex_tableau.specs.Tableau.{is_turned};
 ghost use Rattle.pc_simplex_tableau.specs.Relaxation.{columns_of, multipliers};
 
+use crate::corner::Corner;
 use pc_list::Seq;
 use pc_model::Mult;
 use pc_num::Memory;
 use pc_program_bound::Program;
-use pc_simplex_tableau::Tableau;
 use std::alloc::Global;
 
 /// The multipliers that the slacks' entries in the objective row give, over a denominator.
 pub(crate) fn multipliers(
     alloc: Global,
     p: &Program,
-    tableau: &Tableau,
+    tableau: &Corner,
     den: i128,
 ) -> Result<Mult, Memory>
     requires turned { length tableau.now.turned ≡ columns_of p.now }
@@ -24,7 +24,7 @@ pub(crate) fn multipliers(
     ensures value { IfOk result (λ mult. mult ≡ multipliers p.now tableau.now den) }
     ensures fits { IfOk result (λ mult. All IsFit mult.by) }
 {
-    let helpers = tableau.aim.len() - p.least.len();
+    let helpers = tableau.columns() - p.least.len();
     let mut by = Seq::new(alloc);
     for slack in p.masks.len()..helpers {
         by.push(multiplier(tableau, slack))?;
@@ -33,13 +33,14 @@ pub(crate) fn multipliers(
 }
 
 /// Minus the slack's entry in the objective row, or plus it where the slack is turned.
-fn multiplier(tableau: &Tableau, slack: usize) -> i128
+fn multiplier(tableau: &Corner, slack: usize) -> i128
     requires turned { slack < length tableau.now.turned }
     requires aim { slack < length tableau.now.aim }
     requires fits { All IsFit tableau.now.aim }
     ensures value { result ≡ cond (is_turned tableau.now slack) (int_at tableau.now.aim slack) (neg_ℤ (int_at tableau.now.aim slack)) }
     ensures fits { IsFit result }
 {
-    let entry = tableau.aim[slack];
-    if tableau.turned[slack] { entry } else { -entry }
+    let entry = tableau.aim_at(slack);
+    let turned = tableau.is_turned(slack);
+    if turned { entry } else { -entry }
 }

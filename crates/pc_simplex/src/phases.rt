@@ -11,6 +11,7 @@ ghost use Rattle.pc_simplex.specs.Phases.{is_left, ending_by, after_phase_one};
 
 use crate::aims::{free_of_basics, with_gains};
 use crate::columns::first_columns;
+use crate::corner::Corner;
 use crate::first::first_tableau;
 use crate::left::{first_overfull, one_at};
 use crate::multipliers::multipliers;
@@ -25,7 +26,7 @@ use std::alloc::Global;
 /// What the steps of a box end in, before the width of it is asked.
 #[derive(Drop)]
 pub(crate) enum Ended {
-    AtVertex(Seq<Step>, Tableau),
+    AtVertex(Seq<Step>, Corner),
     AtVoid(Seq<Step>, Mult),
     AtWide(Seq<Step>),
     AtStall(Seq<Step>),
@@ -142,7 +143,8 @@ fn after_phase_one(
     ensures sound { (floors caps : List ℕ) → columns ≡ phase_one p.now floors caps → IfOk result (λ e. IsSoundEnding p.now floors caps (ending_of e)) }
 {
     if has_helper(&columns, &tableau) {
-        let mult = multipliers(alloc, p, &tableau, 1)?;
+        let corner = Corner::whole(tableau);
+        let mult = multipliers(alloc, p, &corner, 1)?;
         return Ok(Ended::AtVoid(steps, mult));
     }
     let mut columns = columns;
@@ -181,7 +183,7 @@ fn ended_by(run: WholeRun) -> Ended
     ensures { ending_of result ≡ ending_by (run_of run) }
 {
     match run {
-        WholeRun::Ended(_left, steps, tableau) => Ended::AtVertex(steps, tableau),
+        WholeRun::Ended(_left, steps, tableau) => Ended::AtVertex(steps, Corner::whole(tableau)),
         WholeRun::Wide(steps) => Ended::AtWide(steps),
         WholeRun::Stalled(steps) => Ended::AtStall(steps),
     }

@@ -11,10 +11,10 @@ ghost use Rattle.pc_simplex_tableau.specs.Conditions.{IsSized, AreFitNumbers};
 ghost use Rattle.pc_simplex_tableau.specs.Point.{row_of, over_at, under_at, IsCount, IsFitCount};
 ghost use Rattle.pc_simplex.specs.Counts.{numerator, counted, IsFitPoint};
 
+use crate::corner::Corner;
 use pc_list::Seq;
 use pc_num::{Frac, Memory};
 use pc_program_bound::Program;
-use pc_simplex_tableau::Tableau;
 use std::alloc::Global;
 
 // The greatest size of a number that fits.
@@ -26,7 +26,7 @@ pub(crate) fn point(
     p: &Program,
     floor: &[u64],
     cap: &[u64],
-    tableau: &Tableau,
+    tableau: &Corner,
 ) -> Result<Option<Seq<Frac>>, Memory>
     requires program { IsProgram p.now }
     requires inside { IsBox p.now floor.now cap.now }
@@ -47,7 +47,7 @@ pub(crate) fn point(
 }
 
 /// The count of a cell as a reduced fraction, or none where that does not fit.
-fn count(p: &Program, floor: &[u64], cap: &[u64], tableau: &Tableau, cell: usize) -> Option<Frac>
+fn count(p: &Program, floor: &[u64], cap: &[u64], tableau: &Corner, cell: usize) -> Option<Frac>
     requires program { IsProgram p.now }
     requires inside { IsBox p.now floor.now cap.now }
     requires stands { IsStanding p.now floor.now (gain_two p.now) (phase_two p.now floor.now cap.now) tableau.now }
@@ -59,7 +59,7 @@ fn count(p: &Program, floor: &[u64], cap: &[u64], tableau: &Tableau, cell: usize
 {
     let (over, under) = part_of(tableau, p, cell);
     let part = reduced(over, under);
-    let turned = is_turned(tableau, cell);
+    let turned = tableau.is_turned(cell);
     let end = end(floor, cap, turned, cell);
     from_end(end, turned, &part)
 }
@@ -76,13 +76,6 @@ fn reduced(over: i128, under: i128) -> Frac
     }
 }
 
-fn is_turned(tableau: &Tableau, column: usize) -> bool
-    requires { column < length tableau.now.turned }
-    ensures { result ≡ is_turned tableau.now column }
-{
-    tableau.turned[column]
-}
-
 /// The end that the count of a cell is counted from: its cap where its column is turned.
 fn end(floor: &[u64], cap: &[u64], turned: bool, cell: usize) -> u64
     requires floor { cell < length floor.now }
@@ -93,7 +86,7 @@ fn end(floor: &[u64], cap: &[u64], turned: bool, cell: usize) -> u64
 }
 
 /// Where a column stands, as the two numbers of a fraction: in the row that it is basic in, or at 0.
-fn part_of(tableau: &Tableau, p: &Program, column: usize) -> (i128, i128)
+fn part_of(tableau: &Corner, p: &Program, column: usize) -> (i128, i128)
     requires aim { length tableau.now.aim ≡ columns_of p.now }
     requires rows { All (λ row. length row.numbers ≡ columns_of p.now + 1) tableau.now.rows }
     requires column { column < columns_of p.now }
@@ -101,32 +94,22 @@ fn part_of(tableau: &Tableau, p: &Program, column: usize) -> (i128, i128)
     ensures under { result.1 ≡ under_at tableau.now column }
 {
     match row_of(tableau, column) {
-        Some(at) => {
-            let numbers = tableau.rows[at].numbers.as_slice();
-            (numbers[tableau.aim.len()], numbers[column])
-        }
+        Some(at) => { (tableau.value_at(at), tableau.entry_at(at, column)) }
         None => (0, 1),
     }
 }
 
 /// The row in which a column is basic.
-fn row_of(tableau: &Tableau, column: usize) -> Option<usize>
+fn row_of(tableau: &Corner, column: usize) -> Option<usize>
     ensures value { result ≡ row_of tableau.now column }
     ensures within { IfSome result (λ at. at < length tableau.now.rows) }
 {
-    for at in 0..tableau.rows.len() {
-        if is_basic_in(tableau, at, column) {
+    for at in 0..tableau.count() {
+        if tableau.is_basic_in(at, column) {
             return Some(at);
         }
     }
     None
-}
-
-fn is_basic_in(tableau: &Tableau, at: usize, column: usize) -> bool
-    requires { at < length tableau.now.rows }
-    ensures { result ≡ ((row_at tableau.now at).basic == column) }
-{
-    tableau.rows[at].basic == column
 }
 
 /// The end and a part above it, or below it where the column is turned; none where that does not fit.

@@ -7,6 +7,7 @@ ghost use Rattle.pc_simplex_tableau.specs.Point.{IsRelaxation};
 ghost use Rattle.pc_simplex.specs.Relaxed.{relaxation_of};
 ghost use Rattle.pc_simplex.specs.Vertices.{IsShown, IsGreatest, AreFitMultipliers};
 
+use crate::corner::Corner;
 use crate::multipliers::multipliers;
 use crate::phases::{Ended, take_both_phases};
 use crate::point::point;
@@ -14,7 +15,7 @@ use pc_list::Seq;
 use pc_model::Mult;
 use pc_num::{Frac, Memory};
 use pc_program_bound::{Program, dual_bound};
-use pc_simplex_tableau::{Step, Tableau};
+use pc_simplex_tableau::Step;
 use std::alloc::Global;
 
 /// The relaxation of a program over a box. The steps that were taken are kept where they end in nothing that can be said:
@@ -52,7 +53,7 @@ fn at_vertex(
     floor: &[u64],
     cap: &[u64],
     steps: Seq<Step>,
-    tableau: &Tableau,
+    tableau: &Corner,
 ) -> Result<Relaxed, Memory>
     requires program { IsProgram p.now }
     requires inside { IsBox p.now floor.now cap.now }
@@ -62,7 +63,7 @@ fn at_vertex(
     ensures relaxation { IfOk result (λ r. IsRelaxation p.now floor.now cap.now (relaxation_of r)) }
     ensures fits { IfOk result (λ r. AreFitMultipliers (relaxation_of r)) }
 {
-    let mult = multipliers(alloc, p, tableau, tableau.weight)?;
+    let mult = multipliers(alloc, p, tableau, tableau.weight())?;
     if !fits_width(p, floor, cap, &mult) {
         return Ok(Relaxed::Wide { steps });
     }

@@ -11,6 +11,7 @@ ghost use Rattle.pc_simplex.specs.Ended.{ending_of, IsSoundEnding};
 ghost use Rattle.pc_simplex.specs.Phases.{after_phase_one};
 ghost use Rattle.pc_simplex.specs.Shorts.{AreColumns, setting_of, is_left_short, has_left, IsEndingFrom, IsSoundEnd};
 
+use crate::corner::Corner;
 use crate::multipliers::multipliers;
 use crate::phases::Ended;
 use crate::setting::{first_setting, second_setting};
@@ -18,7 +19,7 @@ use crate::short_first::{first_short, second_short};
 use pc_list::Seq;
 use pc_num::Memory;
 use pc_program_bound::Program;
-use pc_simplex_short::{ShortRow, ShortRun, ShortSetting, ShortTableau, spell_out, take_steps};
+use pc_simplex_short::{ShortRow, ShortRun, ShortSetting, ShortTableau, take_steps};
 use pc_simplex_tableau::{Columns, Step};
 use std::alloc::Global;
 
@@ -90,7 +91,7 @@ fn after_phase_one(
     ensures sound { (floors caps : List ℕ) → setting.columns ≡ phase_one p.now floors caps → IfOk result (λ o. IfSome o (λ e. IsSoundEnding p.now floors caps (ending_of e))) }
 {
     if has_helper(&setting, &tableau) {
-        return Ok(Some(void_by(alloc, p, &setting, steps, tableau)?));
+        return Ok(Some(void_by(alloc, p, setting, steps, tableau)?));
     }
     phase_two(alloc, p, setting, left, steps, tableau)
 }
@@ -99,18 +100,18 @@ fn after_phase_one(
 fn void_by(
     alloc: Global,
     p: &Program,
-    setting: &ShortSetting,
+    setting: ShortSetting,
     steps: Seq<Step>,
     tableau: ShortTableau,
 ) -> Result<Ended, Memory>
-    requires count { setting.now.columns.count ≡ columns_of p.now }
-    requires setting { IsSetting setting.now }
-    requires short { IsShort setting.now tableau }
-    ensures value { IfOk result (λ e. ending_of e ≡ at_void steps (multipliers p.now (spelled setting.now tableau) (pos 1))) }
+    requires count { setting.columns.count ≡ columns_of p.now }
+    requires setting { IsSetting setting }
+    requires short { IsShort setting tableau }
+    ensures value { IfOk result (λ e. ending_of e ≡ at_void steps (multipliers p.now (spelled setting tableau) (pos 1))) }
     ensures sound { (floors caps : List ℕ) → IfOk result (λ e. IsSoundEnding p.now floors caps (ending_of e)) }
 {
-    let whole = spell_out(alloc, setting, tableau)?;
-    let mult = multipliers(alloc, p, &whole, 1)?;
+    let corner = Corner::short(setting, tableau);
+    let mult = multipliers(alloc, p, &corner, 1)?;
     Ok(Ended::AtVoid(steps, mult))
 }
 
@@ -133,32 +134,31 @@ fn phase_two(
 {
     let setting = second_setting(alloc, p, setting)?;
     match second_short(alloc, p, tableau, setting.top)? {
-        Some(start) => phase_two_from(alloc, &setting, left, steps, start),
+        Some(start) => phase_two_from(setting, left, steps, start),
         None => Ok(None),
     }
 }
 
-/// Takes the steps of the second phase from the tableau in which it starts, and spells out the one in which they end.
+/// Takes the steps of the second phase from the tableau in which it starts.
 fn phase_two_from(
-    alloc: Global,
-    setting: &ShortSetting,
+    setting: ShortSetting,
     left: usize,
     steps: Seq<Step>,
     start: ShortTableau,
 ) -> Result<Option<Ended>, Memory>
-    requires setting { IsSetting setting.now }
-    requires short { IsShort setting.now start }
-    ensures value { IfOk result (λ o. IfSome o (λ e. IsEndingFrom setting.now.columns left steps (spelled setting.now start) (ending_of e))) }
-    ensures sound { IfOk result (λ o. IfSome o (λ e. IsSoundEnd setting.now.columns (ending_of e))) }
+    requires setting { IsSetting setting }
+    requires short { IsShort setting start }
+    ensures value { IfOk result (λ o. IfSome o (λ e. IsEndingFrom setting.columns left steps (spelled setting start) (ending_of e))) }
+    ensures sound { IfOk result (λ o. IfSome o (λ e. IsSoundEnd setting.columns (ending_of e))) }
 {
     let mut tableau = start;
-    if !free_of_basics(&mut tableau, setting) {
+    if !free_of_basics(&mut tableau, &setting) {
         return Ok(None);
     }
-    match take_steps(setting, tableau, left, steps)? {
+    match take_steps(&setting, tableau, left, steps)? {
         Some(ShortRun::Ended(_left, steps, tableau)) => {
-            let whole = spell_out(alloc, setting, tableau)?;
-            Ok(Some(Ended::AtVertex(steps, whole)))
+            let corner = Corner::short(setting, tableau);
+            Ok(Some(Ended::AtVertex(steps, corner)))
         }
         Some(ShortRun::Stalled(steps)) => Ok(Some(Ended::AtStall(steps))),
         None => Ok(None),

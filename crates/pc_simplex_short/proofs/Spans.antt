@@ -13,14 +13,12 @@ cut_kept zero zero (x ∷ all) more h = refl
 cut_kept (suc n) zero (x ∷ all) more h = ap (λ xs. x ∷ xs) (cut_kept n zero all more (omega (arith, h)))
 cut_kept n (suc from) (x ∷ all) more h = cut_kept n from all more (omega (arith, h))
 
-last_part : (all more : List ℕ) → take (length (all ++ more) - length all) (drop (length all) (all ++ more)) ≡ more
-last_part [] more = take_all (length more - 0) more (omega arith)
-last_part (x ∷ all) more =
-    let less : suc (length (all ++ more)) - suc (length all) ≡ length (all ++ more) - length all = omega arith in
-    rw less (last_part all more)
+last_part : (all more : List ℕ) → take (length more) (drop (length all) (all ++ more)) ≡ more
+last_part [] more = take_all (length more) more (omega arith)
+last_part (x ∷ all) more = last_part all more
 
 part_kept : (all more : List ℕ) (span : Span) → IsSpan (length all) span → part (all ++ more) span ≡ part all span
-part_kept all more span h = cut_kept (span.end - span.from) span.from all more (omega (arith, h.order, h.within))
+part_kept all more span h = cut_kept span.count span.from all more (omega (arith, h))
 
 pub parts_kept : (all more : List ℕ) (spans : List Span) → All (IsSpan (length all)) spans → map (part (all ++ more)) spans ≡ map (part all) spans
 parts_kept all more [] h = refl
@@ -36,11 +34,9 @@ module _ (all more whole : List ℕ) (spans : List Span) (h : All (IsSpan (lengt
   pub parts_same : map (part whole) spans ≡ map (part all) spans
   parts_same = ap (λ xs. map (part xs) spans) whole_is ∙ parts_kept all more spans h
 
-  pub parts_pushed : (made : List Span) (from end : ℕ) → from ≡ length all → end ≡ length whole → made ≡ spans ++ record { from = from; end = end } ∷ []
+  pub parts_pushed : (made : List Span) (from count : ℕ) → from ≡ length all → count ≡ length more → made ≡ spans ++ record { from = from; count = count } ∷ []
       → map (part whole) made ≡ map (part all) spans ++ more ∷ []
-  parts_pushed made from end from_is end_is made_is =
-      let ends : end ≡ length (all ++ more) = end_is ∙ ap length whole_is in
-      let last : part whole (record { from = from; end = end }) ≡ more =
-      ap₂ (λ (n : ℕ) (xs : List ℕ). take n xs) (ap₂ (λ e f. e - f) ends from_is) (ap₂ drop from_is whole_is) ∙ last_part all more in
-      ap (map (part whole)) made_is ∙ put_part whole spans (record { from = from; end = end })
+  parts_pushed made from count from_is count_is made_is =
+      let last : part whole (record { from = from; count = count }) ≡ more = ap₂ take count_is (ap₂ drop from_is whole_is) ∙ last_part all more in
+      ap (map (part whole)) made_is ∙ put_part whole spans (record { from = from; count = count })
       ∙ ap₂ (λ xs x. xs ++ x ∷ []) parts_same last

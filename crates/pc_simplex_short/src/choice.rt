@@ -94,7 +94,8 @@ fn narrow_weight(weight: i128, top: u128) -> i64
     weight as i64
 }
 
-fn aim_at(tableau: &ShortTableau, setting: &ShortSetting, column: usize) -> i128
+/// The number of the objective row at a column, as the whole tableau has it.
+pub fn aim_at(tableau: &ShortTableau, setting: &ShortSetting, column: usize) -> i128
     requires setting { IsSetting setting.now }
     requires short { IsShort setting.now tableau.now }
     requires column { column < setting.now.columns.count }

@@ -9,6 +9,7 @@ mod lesser;
 mod limit;
 mod narrow;
 mod places;
+mod read;
 mod reduce;
 mod row;
 mod rows;
@@ -20,7 +21,9 @@ mod tableau;
 mod together;
 mod word;
 
+pub use choice::aim_at;
 pub use places::{Places, Span};
+pub use read::{entry_at, value_at};
 pub use row::ShortRow;
 pub use run::{ShortRun, take_steps};
 pub use setting::ShortSetting;

@@ -108,7 +108,12 @@ fn with_upper(column: usize, over: i128, own: i64, at: usize, best: Limit) -> Li
 }
 
 /// The number of a row at a column.
-fn entry_of(setting: &ShortSetting, turned: &[bool], row: &ShortRow, column: usize) -> i64
+pub(crate) fn entry_of(
+    setting: &ShortSetting,
+    turned: &[bool],
+    row: &ShortRow,
+    column: usize,
+) -> i64
     requires setting { IsSetting setting.now }
     requires row { IsShortRow setting.now row.now }
     requires turned { length turned.now ≡ setting.now.columns.count }
@@ -119,7 +124,7 @@ fn entry_of(setting: &ShortSetting, turned: &[bool], row: &ShortRow, column: usi
     entry(setting, turned, row.numbers.as_slice(), column)
 }
 
-fn value_of(setting: &ShortSetting, row: &ShortRow) -> i64
+pub(crate) fn value_of(setting: &ShortSetting, row: &ShortRow) -> i64
     requires row { IsShortRow setting.now row.now }
     ensures value { result ≡ int_at row.now.numbers setting.now.constraints }
     ensures small { IsWithin 50 result }

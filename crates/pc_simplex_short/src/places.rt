@@ -8,7 +8,7 @@ use std::marker::Model;
 #[derive(Clone, Copy, Drop)]
 pub struct Span {
     from: usize,
-    end: usize,
+    count: usize,
 }
 
 /// Lists of places. They stand one after the other, so that however many there are, they take two pieces of memory.
@@ -47,8 +47,8 @@ impl Places {
     {
         let from = self.all.len();
         self.all.extend_from_slice(list)?;
-        let end = self.all.len();
-        self.spans.push(Span { from, end })?;
+        let count = list.len();
+        self.spans.push(Span { from, count })?;
         Ok(())
     }
 
@@ -59,6 +59,6 @@ impl Places {
     {
         let span = self.spans[column];
         let all = self.all.as_slice();
-        &all[span.from..span.end]
+        &all[span.from..span.from + span.count]
     }
 }

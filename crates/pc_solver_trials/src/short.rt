@@ -3,7 +3,9 @@ ghost use Rattle.pc_solver_trials.specs.ShortSamples.{sample_setting, sample_sta
 
 use pc_list::Seq;
 use pc_num::Memory;
-use pc_simplex_short::{ShortRow, ShortRun, ShortSetting, ShortTableau, spell_out, take_steps};
+use pc_simplex_short::{
+    Places, ShortRow, ShortRun, ShortSetting, ShortTableau, spell_out, take_steps,
+};
 use pc_simplex_tableau::Columns;
 use std::alloc::{AllocError, Global};
 use std::test::Fail;
@@ -19,18 +21,19 @@ fn columns(alloc: Global) -> Result<Columns, AllocError>
     })
 }
 
-fn setting(alloc: Global) -> Result<ShortSetting, AllocError>
+fn setting(alloc: Global) -> Result<ShortSetting, Memory>
     ensures { IfOk result (λ f. f ≡ sample_setting) }
 {
     let columns = columns(alloc)?;
-    let first = Seq::from_vec(vec![in alloc; 0usize]?);
-    let second = Seq::from_vec(vec![in alloc; 0usize]?);
-    let third = Seq::from_vec(vec![in alloc; 0usize]?);
-    let places = vec![in alloc; first, second, third]?;
+    let only = [0usize];
+    let mut places = Places::new(alloc);
+    places.push(only.as_slice())?;
+    places.push(only.as_slice())?;
+    places.push(only.as_slice())?;
     let gains = vec![in alloc; 1i128, 0, 0]?;
     Ok(ShortSetting {
         columns,
-        places: Seq::from_vec(places),
+        places,
         gains: Seq::from_vec(gains),
         top: 1,
         constraints: 1,

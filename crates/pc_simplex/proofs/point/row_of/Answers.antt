@@ -1,5 +1,5 @@
-use Rattle.std.proofs.Common.{◌≡◌, ◌==◌, ◌<◌, length, ap, arith}
-use Rattle.pc_simplex_tableau.specs.Tableau.{Tableau, row_at}
+use Rattle.std.proofs.Common.{◌==◌, ◌<◌, length, arith}
+use Rattle.pc_simplex_tableau.specs.Tableau.{row_at}
 use Rattle.pc_simplex_tableau.proofs.Deciding.{none_first, none_more, first_found}
 use Rattle.pc_simplex.proofs.point.row_of.Goals as goal
 
@@ -8,8 +8,7 @@ loop-at-init c = none_first (λ r. (row_at c.args.tableau.now r).basic == c.args
 
 pub returns-then-is_basic_in-clause-value : goal.returns-then-is_basic_in-clause-value
 returns-then-is_basic_in-clause-value c =
-    let counted : length c.tableau.inside.rows.items ≡ length c.args.tableau.now.rows = ap (λ (t : Tableau). length t.rows) c.tableau.view_is in
-    let within : c.loop-at.at < length c.args.tableau.now.rows = omega (arith, c.loop-at-test.true, c.len-at-end.ensures, counted) in
+    let within : c.loop-at.at < length c.args.tableau.now.rows = omega (arith, c.loop-at-test.true, c.count-at-end.ensures) in
     first_found (λ r. (row_at c.args.tableau.now r).basic == c.args.column) (length c.args.tableau.now.rows) c.loop-at.at within c.loop-at.invariant c.if-is_basic_in.ensures
 
 pub loop-at-preserved : goal.loop-at-preserved

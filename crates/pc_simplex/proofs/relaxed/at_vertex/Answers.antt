@@ -15,8 +15,8 @@ pub fits_width-requires-clause-positive : goal.fits_width-requires-clause-positi
 fits_width-requires-clause-positive c =
     let above = (vertex_stands c.args.p.now c.args.floor.now c.args.cap.now c.args.steps c.args.tableau.now c.requires.program c.requires.inside c.requires.ending).0.meant.solved.weighed in
     let fits = c.requires.fits.weight in
-    let seen : c.tableau.inside.weight ≡ c.args.tableau.now.weight = ap (λ (t : Tableau). t.weight) c.tableau.view_is in
-    let same : to_z w128 (of_z w128 c.tableau.inside.weight) ≡ c.tableau.inside.weight = omega (arith, ints, seen, fits) in
+    let seen : c.weight.result ≡ c.args.tableau.now.weight = c.weight.ensures in
+    let same : to_z w128 (of_z w128 c.weight.result) ≡ c.weight.result = omega (arith, ints, seen, fits) in
     rw (c.in_ok-mult.ensures.value, same, seen) (omega (arith, ints, above))
 
 pub point-requires-clause-stands : goal.point-requires-clause-stands
@@ -26,6 +26,6 @@ point-requires-clause-stands c =
 pub returns-in-Some-clause-fits : goal.returns-in-Some-clause-fits
 returns-in-Some-clause-fits c =
     let fits = c.requires.fits.weight in
-    let seen : c.tableau.inside.weight ≡ c.args.tableau.now.weight = ap (λ (t : Tableau). t.weight) c.tableau.view_is in
-    let same : to_z w128 (of_z w128 c.tableau.inside.weight) ≡ c.tableau.inside.weight = omega (arith, ints, seen, fits) in
+    let seen : c.weight.result ≡ c.args.tableau.now.weight = c.weight.ensures in
+    let same : to_z w128 (of_z w128 c.weight.result) ≡ c.weight.result = omega (arith, ints, seen, fits) in
     (c.in_ok-mult.ensures.fits, rw (c.in_ok-mult.ensures.value, same, seen) fits)

@@ -1,4 +1,4 @@
-use Rattle.std.proofs.Common.{◌≡◌, ◌∙◌, length, map, ap, arith}
+use Rattle.std.proofs.Common.{◌≡◌, ◌∙◌, length, map, ap, refl, arith}
 use Rattle.std.proofs.lemmas.Result.{err_from_is_err_and}
 use Rattle.pc_simplex_short.specs.Spans.{part}
 use Rattle.pc_simplex_short.proofs.Spans.{parts_same, parts_pushed}
@@ -16,7 +16,6 @@ returns-clause-ok c =
     let all = c.self.inside.all.items in
     let spans = c.self.inside.spans.items in
     let from_is : c.len-from.result ≡ length all = omega (arith, c.len-from.ensures, c.self.inside.all.ok) in
-    let end_is : c.len-end.result ≡ length c.extend_from_slice.new.self.items = omega (arith, c.len-end.ensures, c.extend_from_slice.new.self.ok) in
     let pushed = parts_pushed all c.args.list.now c.extend_from_slice.new.self.items spans c.self.invariant c.in_ok-extend_from_slice.ensures.items
-    c.push.new.self.items c.len-from.result c.len-end.result from_is end_is c.in_ok-push.ensures.items in
+    c.push.new.self.items c.len-from.result (length c.args.list.now) from_is refl c.in_ok-push.ensures.items in
     rw (← c.self.view_is) pushed
