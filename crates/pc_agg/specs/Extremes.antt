@@ -34,6 +34,7 @@ use Rattle.pc_agg.specs.declared.stand.Stood.{Stood}
 use Rattle.pc_agg.specs.declared.stand.Stood.TheVariants as stoods
 use Rattle.pc_agg_search.specs.declared.want.Want.TheVariants as wants
 use Rattle.pc_agg.specs.Answered.{impossible_by, bounded_by}
+use Rattle.pc_agg.specs.Marks.{AreOfFirst}
 use Rattle.pc_agg_search.specs.Ends.{signed}
 use Rattle.pc_agg_search.specs.Fitting.{IsVoidTree}
 use Rattle.pc_agg_search.specs.Wants.{fewest_chosen, most_chosen}
@@ -92,6 +93,8 @@ abbrev pub IsOpenLack : Setting → List Row → List (List ℕ) → Lack → Ty
 IsOpenLack s picks found (lacks.Sometimes without given) =
     Any (λ counts. IsFound (fewest_chosen s) wants.Without counts × (without ≡ runs_from picks counts)) found
     × Any (λ counts. IsFound (most_chosen s) wants.Gaining counts × (given ≡ runs_from picks counts)) found
+    × AreOfFirst (IsFound (fewest_chosen s) wants.Without) picks found without
+    × AreOfFirst (IsFound (most_chosen s) wants.Gaining) picks found given
 IsOpenLack s picks found lacks.Undecided =
     All (λ counts. IsFound (fewest_chosen s) wants.Without counts → ⊥) found ⊎ All (λ counts. IsFound (most_chosen s) wants.Gaining counts → ⊥) found
 IsOpenLack s picks found lacks.Silent = ⊥

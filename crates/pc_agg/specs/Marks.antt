@@ -1,7 +1,8 @@
 -- The end of a range that a limit gives: reached where some counts that were found are worth the most.
-use Rattle.std.specs.Prelude.{◌≡◌, ℕ, ⊤, ℤ, pos, List, All, Any, IfSome, Contains}
+use Rattle.std.specs.Prelude.{◌≡◌, ℕ, ◌<◌, ⊤, ℤ, pos, List, [], length, take, All, Any, IfSome, Contains, slice_index_or}
 use Rattle.std.specs.List.{AllZip}
 use Rattle.pc_model.specs.declared.row.Row.{Row}
+use Rattle.pc_model.specs.declared.row.Run.{Run}
 use Rattle.pc_model.specs.declared.query.Agg.{Agg}
 use Rattle.pc_model.specs.Runs.{runs_from}
 use Rattle.pc_program_bound.specs.declared.program.Program.{Program}
@@ -24,6 +25,15 @@ use Rattle.pc_agg_search.specs.Ends.{IsPick, program_towards}
 use Rattle.pc_agg_search.specs.Fitting.{IsVoidTree}
 use Rattle.pc_agg_search.specs.Limits.{IsLimit, IsReached}
 
+-- the runs are those of counts before which none has it
+abbrev pub AreOfFirst : (List ℕ → Type 0) → List Row → List (List ℕ) → List Run → Type 0
+AreOfFirst P picks found runs =
+    (k : ℕ) × (k < length found) × (runs ≡ runs_from picks (slice_index_or found k [])) × All (λ counts. P counts → ⊥) (take k found)
+
+abbrev pub ShowsFirst : (List ℕ → Type 0) → List Row → List (List ℕ) → Mark → Type 0
+ShowsFirst P picks found (marks.Exact runs) = AreOfFirst P picks found runs
+ShowsFirst P picks found marks.Outer = ⊤
+
 -- the runs are those of counts that were found and are worth the most; or none of those that were found is
 abbrev pub IsMarked : Program → ℤ → List Row → List (List ℕ) → Mark → Type 0
 IsMarked p most picks found (marks.Exact runs) = Any (λ counts. (worth p counts ≡ most) × (runs ≡ runs_from picks counts)) found
@@ -32,6 +42,7 @@ IsMarked p most picks found marks.Outer = All (λ counts. worth p counts ≡ mos
 pub record IsEndOf (limit : Limit) (picks : List Row) (found : List (List ℕ)) (number : ℤ) (end : End) : Type 0 where
   pub value : end.value ≡ record { num = number; den = pos 1 }
   pub marked : IsMarked limit.program limit.most picks found end.mark
+  pub first : ShowsFirst (λ counts. worth limit.program counts ≡ limit.most) picks found end.mark
   pub proof : end.proof ≡ proofs.Tree limit.tree
 
 -- the limit of an end's program, and a row of each cell that gains towards the end what the cell does

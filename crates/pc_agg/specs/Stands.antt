@@ -26,6 +26,7 @@ use Rattle.pc_agg_search.specs.declared.want.Want.TheVariants as wants
 use Rattle.pc_agg.specs.declared.stand.Stand.{Stand}
 use Rattle.pc_agg.specs.declared.stand.Stood.{Stood}
 use Rattle.pc_agg.specs.declared.stand.Stood.TheVariants as stoods
+use Rattle.pc_agg.specs.Marks.{ShowsFirst}
 use Rattle.pc_agg_search.specs.Ends.{signed}
 use Rattle.pc_agg_search.specs.Fitting.{IsVoidTree}
 use Rattle.pc_agg_search.specs.Flat.{flat_tree}
@@ -144,7 +145,7 @@ pub record IsStoodOn (s : Setting) (constraints : ℕ) (ladder : Ladder) (observ
 
 -- ---- the end that a stand gives
 
--- the runs of the first wanted counts; or none of those that were found are wanted
+-- the runs of wanted counts; or none of those that were found are wanted
 abbrev pub IsMarkedBy : Stand → List (List ℕ) → Mark → Type 0
 IsMarkedBy stand found (marks.Exact runs) = Any (λ counts. IsFound stand.program stand.want counts × (runs ≡ runs_from stand.picks counts)) found
 IsMarkedBy stand found marks.Outer = All (λ counts. IsFound stand.program stand.want counts → ⊥) found
@@ -152,4 +153,5 @@ IsMarkedBy stand found marks.Outer = All (λ counts. IsFound stand.program stand
 pub record IsEndAt (extreme : Extreme) (stand : Stand) (found : List (List ℕ)) (end : End) : Type 0 where
   pub value : end.value ≡ record { num = signed extreme stand.key; den = pos 1 }
   pub marked : IsMarkedBy stand found end.mark
+  pub first : ShowsFirst (IsFound stand.program stand.want) stand.picks found end.mark
   pub proof : end.proof ≡ stand.proof

@@ -1,9 +1,9 @@
 ghost use Rattle.std.specs.Prelude.{◌≡◌, ◌≤◌, ◌^◌, ◌+ℤ◌, length, nat_abs, IfOk};
-ghost use Rattle.pc_program_bound.specs.Allocation.{IsProgram, cells_of};
+ghost use Rattle.pc_program_bound.specs.Allocation.{IsProgram, cells_of, worth};
 ghost use Rattle.pc_branch.specs.Ends.{HasSmallGains};
 ghost use Rattle.pc_agg.specs.Answered.{CanEnd, IsEnd, AreAllowed};
 ghost use Rattle.pc_agg_search.specs.Ends.{signed};
-ghost use Rattle.pc_agg.specs.Marks.{IsMarked, IsEndOf};
+ghost use Rattle.pc_agg.specs.Marks.{IsMarked, IsEndOf, ShowsFirst};
 ghost use Rattle.pc_agg.specs.Observed.{folded_value};
 
 use crate::aim::Aim;
@@ -66,7 +66,8 @@ fn mark_of(alloc: Global, limit: &Limit, picks: &[Row], found: &[Seq<u64>]) -> R
     requires small { HasSmallGains limit.now.program }
     requires allowed { AreAllowed limit.now.program found.now }
     requires picked { length picks.now ≡ cells_of limit.now.program }
-    ensures { IfOk result (IsMarked limit.now.program limit.now.most picks.now found.now) }
+    ensures marked { IfOk result (IsMarked limit.now.program limit.now.most picks.now found.now) }
+    ensures first { IfOk result (ShowsFirst (λ counts. worth limit.now.program counts ≡ limit.now.most) picks.now found.now) }
 {
     match find_worth(&limit.program, found, limit.most) {
         Some(place) => {

@@ -9,6 +9,7 @@ ghost use Rattle.pc_agg.specs.Extremes.{always_as, crossed, judged, relation_fro
 ghost use Rattle.pc_agg_search.specs.Ends.{signed};
 ghost use Rattle.pc_agg_search.specs.Problem.{IsPosed, setting_of};
 ghost use Rattle.pc_agg_search.specs.Wants.{IsFound, IsMet, IsPlaceOf};
+ghost use Rattle.pc_agg.specs.Marks.{ShowsFirst};
 ghost use Rattle.pc_agg.specs.Stands.{IsEndAt, IsMarkedBy};
 ghost use Rattle.pc_agg_search.specs.Targets.{AreRowsIn};
 
@@ -253,7 +254,8 @@ fn number_at(extreme: Extreme, key: i128) -> i128
 
 fn mark_at(alloc: Global, stand: &Stand, found: &[Seq<u64>]) -> Result<Mark, Memory>
     requires can { CanStand stand.now found.now }
-    ensures { IfOk result (IsMarkedBy stand.now found.now) }
+    ensures marked { IfOk result (IsMarkedBy stand.now found.now) }
+    ensures first { IfOk result (ShowsFirst (IsFound stand.now.program stand.now.want) stand.now.picks found.now) }
 {
     match find_wanted(&stand.program, stand.want, found) {
         Some(place) => {

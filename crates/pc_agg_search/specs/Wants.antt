@@ -1,5 +1,5 @@
 -- Counts that are looked for, and what a search says of them.
-use Rattle.std.specs.Prelude.{◌≡◌, ℕ, ℤ, pos, neg_ℤ, ◌≤ℤ◌, ◌<ℤ◌, ◌<◌, ◌⊎◌, ⊤, Bool, true, false, List, length, ◌++◌, All, Any, Option, None, MatchOption, slice_index_or, []}
+use Rattle.std.specs.Prelude.{◌≡◌, ℕ, ℤ, pos, neg_ℤ, ◌≤ℤ◌, ◌<ℤ◌, ◌<◌, ◌⊎◌, ⊤, Bool, true, false, List, length, ◌++◌, take, All, Any, Option, None, MatchOption, slice_index_or, []}
 use Rattle.pc_model.specs.declared.tree.Tree.{Tree}
 use Rattle.pc_program_bound.specs.declared.program.Program.{Program}
 use Rattle.pc_program_bound.specs.Sums.{nat_at}
@@ -42,9 +42,10 @@ IsUnder (wants.From least) k = k <ℤ least
 abbrev pub IsFound : Program → Want → List ℕ → Type 0
 IsFound p want counts = IsAllocation p p.floor p.cap counts × Reaches want (worth p counts)
 
--- the place of counts that have it, or none of them has
+-- the place of the first counts that have it, or none of them has
 abbrev pub IsPlaceOf : (List ℕ → Type 0) → List (List ℕ) → Option ℕ → Type 0
-IsPlaceOf P found place = MatchOption place (All (λ counts. P counts → ⊥) found) (λ k. (k < length found) × P (slice_index_or found k []))
+IsPlaceOf P found place =
+    MatchOption place (All (λ counts. P counts → ⊥) found) (λ k. (k < length found) × P (slice_index_or found k []) × All (λ counts. P counts → ⊥) (take k found))
 
 -- each constraint allows the counts, whatever the cells hold
 pub record IsMet (p : Program) (counts : List ℕ) : Type 0 where
