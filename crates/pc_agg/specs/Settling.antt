@@ -1,5 +1,5 @@
 -- What settles a relation: a list that was found, that there is none, or both totals whose searches were cut short.
-use Rattle.std.specs.Prelude.{◌≡◌, ℕ, ℤ, pos, neg_ℤ, ◌<ℤ◌, int_lt, cond, List, [], All, Contains, Some, None, slice_index_or}
+use Rattle.std.specs.Prelude.{◌≡◌, ℕ, ℤ, pos, neg_ℤ, ◌<◌, ◌<ℤ◌, int_lt, cond, List, [], ◌++◌, length, All, Contains, Some, None, slice_index_or}
 use Rattle.std.specs.List.{AllZip}
 use Rattle.pc_model.specs.declared.row.Row.{Row}
 use Rattle.pc_model.specs.declared.row.Run.{Run}
@@ -16,12 +16,13 @@ use Rattle.pc_proof.specs.Table.{one, minus_one, ShowsImpossible}
 use Rattle.pc_proof.specs.Unbroken.{IsDecided}
 use Rattle.pc_branch_licences.specs.Pools.{AreLawful}
 use Rattle.pc_branch_licences.specs.Wanted.{any, LeavesOpen}
+use Rattle.pc_agg.specs.declared.aim.Aims.{Aims}
 use Rattle.pc_agg.specs.declared.settling.Settled.{Settled}
 use Rattle.pc_agg.specs.declared.settling.Total.{Total}
 use Rattle.pc_agg.specs.declared.settling.Total.TheVariants as totals
 use Rattle.pc_agg_search.specs.declared.limit.Limit.{Limit}
 use Rattle.pc_agg_search.specs.Fitting.{IsFitTree}
-use Rattle.pc_agg_search.specs.Limits.{IsLimit}
+use Rattle.pc_agg_search.specs.Limits.{found_of, IsLimit}
 
 -- a row of each cell
 abbrev pub AreRowsOfCells : Setting → List Row → Type 0
@@ -94,6 +95,14 @@ IsTotalDecided (totals.Open limit) = ⊥
 -- a list with the first of these counts, by a row of each cell
 abbrev pub listed : List Row → List (List ℕ) → Settled
 listed picks found = record { relation = relations.Possible (runs_from picks (slice_index_or found 0 [])); lack = lacks.Silent; found = found }
+
+-- what the searches of both ends found, the low end's first
+abbrev pub found_by : Aims → List (List ℕ)
+found_by aims = found_of aims.low.limit.found ++ found_of aims.high.limit.found
+
+-- where they found something, the first of it settles the relation, by the rows of the low end
+abbrev pub IsListedByLow : Aims → Settled → Type 0
+IsListedByLow aims settled = 0 < length (found_by aims) → settled ≡ listed aims.low.picks (found_by aims)
 
 abbrev pub impossible : Why → Settled
 impossible why = record { relation = relations.Impossible why; lack = lacks.Silent; found = [] }

@@ -5,7 +5,7 @@ ghost use Rattle.pc_proof.specs.Unbroken.{IsDecided};
 ghost use Rattle.pc_agg_search.specs.declared.extreme.Extreme.TheVariants.{Low, High};
 ghost use Rattle.pc_agg.specs.Answered.{answer_between, answer_over, bounded_by, impossible_by, is_open, CanEnd, IsAnswer, IsEnd};
 ghost use Rattle.pc_agg.specs.Marks.{IsAmong};
-ghost use Rattle.pc_agg.specs.Settling.{IsSettled};
+ghost use Rattle.pc_agg.specs.Settling.{IsListedByLow, IsSettled};
 ghost use Rattle.pc_agg_search.specs.Limits.{found_of};
 ghost use Rattle.pc_agg_search.specs.Asked.{AreAsked};
 ghost use Rattle.pc_agg_search.specs.Problem.{IsEasyFor, IsPosed, setting_of};
@@ -97,6 +97,7 @@ fn settle_over(alloc: Global, problem: &Problem<'_>, aims: &Aims) -> Result<Sett
     ensures low { IfOk result (λ settled. IsAmong settled.found aims.now.low.limit) }
     ensures high { IfOk result (λ settled. IsAmong settled.found aims.now.high.limit) }
     ensures nested { IsEasyFor problem.now → IfOk result (λ settled. IsDecided settled.relation) }
+    ensures listed { IfOk result (IsListedByLow aims.now) }
 {
     let found = found_by(alloc, &aims.low.limit, &aims.high.limit)?;
     if !found.is_empty() {

@@ -1,4 +1,4 @@
-use Rattle.std.proofs.Common.{All, sym, subst, ◌∙◌}
+use Rattle.std.proofs.Common.{ℕ, All, List, length, ap, ap₂, sym, subst, ◌∙◌, arith}
 use Rattle.std.proofs.lemmas.Result.{IfOk-weaker}
 use Rattle.pc_model.specs.Cells.{IsRowOf}
 use Rattle.pc_witness.proofs.Zipped.{AllZip-weaker}
@@ -9,6 +9,7 @@ use Rattle.pc_agg_search.specs.Ends.{gain_towards, IsPick}
 use Rattle.pc_agg_search.specs.Problem.{setting_of}
 use Rattle.pc_agg.specs.declared.settling.Settled.{Settled}
 use Rattle.pc_agg.specs.Marks.{IsAmong}
+use Rattle.pc_agg.specs.Settling.{listed}
 use Rattle.pc_agg.proofs.Aiming.{lawful_both, low_among, high_among, none_among_both, sized_first, none_of, some_of}
 use Rattle.pc_agg.proofs.Totals.{settled_listed}
 use Rattle.pc_agg.proofs.bounds.settle_over.Goals as goal
@@ -85,3 +86,12 @@ returns-clause-high c =
     IfOk-weaker c.settle_open.result _ _
     (λ settled is. (none_among_both c.args.problem.now.schema.now c.args.problem.now.constraints.now c.args.problem.now.query.now c.args.problem.now.cells.now.tree.nodes c.requires.posed.limited c.args.problem.now.query.now.agg c.args.problem.now.nodes Low High c.args.aims.now.low c.args.aims.now.high aims.low aims.high settled.found none).1)
     c.settle_open.ensures.settled
+
+pub returns-then-not-is_empty-clause-listed : goal.returns-then-not-is_empty-clause-listed
+returns-then-not-is_empty-clause-listed c = IfOk-weaker c.listed.result _ _ (λ settled is some. is ∙ ap₂ listed c.as_slice.ensures c.in_ok-found.ensures) c.listed.ensures
+
+pub returns-clause-listed : goal.returns-clause-listed
+returns-clause-listed c =
+    let none = none_of c.in_ok-found.found _ c.in_ok-found.ensures (sym c.is_empty.ensures ∙ c.if-not-is_empty.false) in
+    let short = ap (λ (list : List (List ℕ)). length list) none in
+    IfOk-weaker c.settle_open.result _ _ (λ settled is some. absurd (omega (arith, some, short))) c.settle_open.ensures.settled
