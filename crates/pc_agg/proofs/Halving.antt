@@ -1,5 +1,5 @@
 -- What a test of the rung in the middle leaves of a span.
-use Rattle.std.proofs.Common.{◌≡◌, ℕ, suc, ◌<◌, ◌≤◌, ℤ, Bool, true, false, cond, ◌&&◌, inl, inr, List, length, ◌++◌, map, get_or, All, Any, MatchOption, refl, sym, ap, subst, ◌∙◌, arith}
+use Rattle.std.proofs.Common.{◌≡◌, ℕ, suc, ◌+◌, ◌-◌, ◌/◌, ◌<◌, ◌≤◌, ℤ, Bool, true, false, cond, ◌&&◌, inl, inr, List, length, ◌++◌, map, get_or, All, Any, MatchOption, refl, sym, ap, subst, ◌∙◌, arith}
 use Rattle.std.specs.Prelude.{⊤, int_le, int_lt}
 use Rattle.std.proofs.lemmas.List.{append_assoc, length-map, length-append, get_or-map, get_or_append_left}
 use Rattle.std.proofs.lemmas.List.Elements.{All-append, All-weaker}
@@ -87,7 +87,8 @@ module _ (s : Setting) where
 
     -- ---- a step
 
-    module _ (found : List (List ℕ)) (span : Span) (middle : ℕ) (is : IsSpan s budget ladder want found span) (from : span.from ≤ middle) (to : middle < span.to) where
+    module _ (found : List (List ℕ)) (span : Span) (middle : ℕ) (is : IsSpan s budget ladder want found span) (from : span.from ≤ middle) (to : middle < span.to)
+        (half : middle ≡ span.from + (span.to - span.from) / 2) where
       abbrev Middle : Program
       Middle = program_at s ladder middle
 
@@ -125,12 +126,12 @@ module _ (s : Setting) where
         by_empty : (test : Test) → ladder.test ≡ test → (tree : Tree) → IsEmpty Middle budget tree → IsHalved s budget ladder want found span (if_empty test (above middle span.to tree after) tree)
         by_empty Reach is_test tree empty = none_by ladder.extreme (int_at ladder.rungs middle) budget tree
             (subst (λ test. IsEmpty (rung_program s ladder.extreme test (int_at ladder.rungs middle)) budget tree) is_test empty)
-        by_empty Avoid is_test tree empty = (past_it tree (short_of_empty Middle want budget tree empty), omega (arith, from, to))
+        by_empty Avoid is_test tree empty = (past_it tree (short_of_empty Middle want budget tree empty), omega (arith, from, to), omega (arith, from, to, half))
 
         by_verdict : (verdict : ProbeVerdict) → IsVerdict Middle want budget after verdict → IsHalved s budget ladder want found span (narrowed ladder.test span.from span.to middle span.tree after verdict)
         by_verdict (verdicts.Empty tree) empty = by_empty ladder.test refl tree empty
-        by_verdict (verdicts.Short tree) short = (past_it tree short, omega (arith, from, to))
-        by_verdict verdicts.Open doubt = (up_to_it doubt, omega (arith, from, to))
+        by_verdict (verdicts.Short tree) short = (past_it tree short, omega (arith, from, to), omega (arith, from, to, half))
+        by_verdict verdicts.Open doubt = (up_to_it doubt, omega (arith, from, to), omega (arith, from, to, half))
 
       pub is_halved : (probed : Probed) → IsProbed Middle want budget span.found probed → IsHalved s budget ladder want found span (narrowed ladder.test span.from span.to middle span.tree probed.found probed.verdict)
       is_halved probed are = by_verdict probed.found are.more are.grown are.allowed probed.verdict are.verdict

@@ -1,5 +1,5 @@
 -- The rungs among which an end stands, as halving leaves them.
-use Rattle.std.specs.Prelude.{◌≡◌, ⊤, ℕ, suc, ◌+◌, ◌-◌, ◌<◌, ◌≤◌, List, length, ◌++◌, All, Any, Option, Some}
+use Rattle.std.specs.Prelude.{◌≡◌, ⊤, ℕ, suc, ◌+◌, ◌-◌, ◌*◌, ◌<◌, ◌≤◌, List, length, ◌++◌, All, Any, Option, Some}
 use Rattle.pc_model.specs.declared.tree.Tree.{Tree}
 use Rattle.pc_proof.specs.Setting.{Setting}
 use Rattle.pc_branch_licences.specs.Pools.{AreLawful}
@@ -29,9 +29,10 @@ pub record IsSpan (s : Setting) (budget : ℕ) (ladder : Ladder) (want : Want) (
 abbrev pub IsSureSpan : Setting → Ladder → Want → Span → Type 0
 IsSureSpan s ladder want span = suc span.to < length ladder.rungs → Any (IsFound (program_at s ladder span.to) want) span.found
 
--- fewer rungs, or a tree that shows that there is no list
+-- fewer rungs, the last at most half as far from the first, or a tree that shows that there is no list
 abbrev pub IsHalved : Setting → ℕ → Ladder → Want → List (List ℕ) → Span → Halved → Type 0
-IsHalved s budget ladder want found old (halves.Within span) = IsSpan s budget ladder want found span × (span.to - span.from < old.to - old.from)
+IsHalved s budget ladder want found old (halves.Within span) =
+    IsSpan s budget ladder want found span × (span.to - span.from < old.to - old.from) × (2 * (span.to - span.from) ≤ old.to - old.from)
 IsHalved s budget ladder want found old (halves.Empty tree) = IsVoidTree s tree
 
 abbrev pub IsSureHalf : Setting → Ladder → Want → Halved → Type 0

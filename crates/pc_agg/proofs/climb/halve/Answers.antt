@@ -1,4 +1,4 @@
-use Rattle.std.proofs.Common.{◌+◌, ◌-◌, ◌/◌, All, sym, subst, arith}
+use Rattle.std.proofs.Common.{◌+◌, ◌-◌, ◌/◌, All, refl, sym, subst, arith}
 use Rattle.pc_agg.specs.Climbing.{IsHalved, IsSureHalf}
 use Rattle.pc_agg_search.specs.Problem.{setting_of}
 use Rattle.pc_agg_search.specs.Wants.{IsMet, IsProbed, IsSure}
@@ -20,7 +20,7 @@ returns-clause-halved c = λ found is.
     let middle = span.from + (span.to - span.from) / 2 in
     let probed = subst (λ p. IsProbed p c.args.want c.args.problem.now.nodes span.found c.in_ok-probed.probed) c.in_ok-program.ensures.program c.in_ok-probed.ensures.probed in
     subst (IsHalved u c.args.problem.now.nodes c.args.ladder.now c.args.want found span) (sym c.narrowed.ensures)
-    (is_halved u c.args.problem.now.nodes c.args.ladder.now c.args.want found span middle is (omega arith) (omega (arith, c.requires.several)) c.in_ok-probed.probed probed)
+    (is_halved u c.args.problem.now.nodes c.args.ladder.now c.args.want found span middle is (omega arith) (omega (arith, c.requires.several)) refl c.in_ok-probed.probed probed)
 
 pub returns-clause-nested : goal.returns-clause-nested
 returns-clause-nested c = λ nested sure.
