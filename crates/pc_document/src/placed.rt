@@ -1,4 +1,4 @@
-ghost use Rattle.std.specs.Prelude.{◌≡◌, ◌+◌, ◌<◌, get_or, map, length, IfOk};
+ghost use Rattle.std.specs.Prelude.{◌≡◌, ◌+◌, ◌<◌, ◌^◌, get_or, map, length, IfOk, IsOk};
 ghost use Rattle.pc_model.specs.declared.tree.TreeNode.{TreeNode};
 ghost use Rattle.pc_document_format.specs.Formats.{AreTrees};
 ghost use Rattle.pc_document_lines.specs.NodeLines.{IsBareNode, is_split};
@@ -60,7 +60,8 @@ fn with_places(alloc: Global, nodes: Seq<TreeNode>, past: &[usize]) -> Result<Se
 /// A node with the places of its parts: the first stands next, the second where the tree that begins there ends.
 fn with_place(node: TreeNode, place: usize, past: &[usize]) -> Result<TreeNode, Memory>
     requires { place < length past.now }
-    ensures { IfOk result (λ more. more ≡ placed_node (place + 1) (get_or past.now (place + 1) (place + 1)) node) }
+    ensures placed { IfOk result (λ more. more ≡ placed_node (place + 1) (get_or past.now (place + 1) (place + 1)) node) }
+    ensures given { place + 1 < 2 ^ 32 → get_or past.now (place + 1) (place + 1) < 2 ^ 32 → IsOk result }
 {
     let next = place + 1;
     let second = past.get(next).copied().unwrap_or(next);
@@ -78,7 +79,8 @@ fn with_place(node: TreeNode, place: usize, past: &[usize]) -> Result<TreeNode, 
 
 /// A place as a node has it, where it is not too great.
 pub(crate) fn place_number(place: usize) -> Result<u32, Memory>
-    ensures { IfOk result (λ number. number ≡ place) }
+    ensures same { IfOk result (λ number. number ≡ place) }
+    ensures given { place < 2 ^ 32 → IsOk result }
 {
     if place >= 1 << 32 {
         return Err(Memory);

@@ -1,4 +1,4 @@
-ghost use Rattle.std.specs.Prelude.{◌≡◌, ◌+◌, ◌<◌, get_or, map, length, IfOk};
+ghost use Rattle.std.specs.Prelude.{◌≡◌, ◌+◌, ◌<◌, ◌^◌, get_or, map, length, IfOk, IsOk};
 ghost use Rattle.pc_model.specs.declared.schema.Schema.{Schema};
 ghost use Rattle.pc_model.specs.declared.tree.CutNode.{CutNode};
 ghost use Rattle.pc_document_format.specs.Formats.{AreTrees};
@@ -62,7 +62,8 @@ fn with_places(alloc: Global, nodes: Seq<CutNode>, past: &[usize]) -> Result<Seq
 /// A node with the places of its parts: the first stands next, the second where the tree that begins there ends.
 fn with_place(node: CutNode, place: usize, past: &[usize]) -> Result<CutNode, Memory>
     requires { place < length past.now }
-    ensures { IfOk result (λ more. more ≡ placed_cut (place + 1) (get_or past.now (place + 1) (place + 1)) node) }
+    ensures placed { IfOk result (λ more. more ≡ placed_cut (place + 1) (get_or past.now (place + 1) (place + 1)) node) }
+    ensures given { place + 1 < 2 ^ 32 → get_or past.now (place + 1) (place + 1) < 2 ^ 32 → IsOk result }
 {
     let next = place + 1;
     let second = past.get(next).copied().unwrap_or(next);
