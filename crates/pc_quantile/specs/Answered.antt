@@ -15,6 +15,7 @@ use Rattle.pc_branch_licences.specs.Pools.{AreLawful}
 use Rattle.pc_agg.specs.declared.grounds.Grounds.{Grounds}
 use Rattle.pc_agg.specs.declared.settling.Settled.{Settled}
 use Rattle.pc_agg.specs.Extremes.{relation_from, IsLackFrom}
+use Rattle.pc_agg.specs.Marks.{ShowsFirst}
 use Rattle.pc_agg.specs.Settling.{AreRowsOfCells}
 use Rattle.pc_agg_search.specs.declared.extreme.Extreme.{Extreme}
 use Rattle.pc_agg_search.specs.declared.extreme.Extreme.TheVariants.{Low, High}
@@ -116,6 +117,7 @@ IsMarkedBy stand found marks.Outer = All (λ counts. IsFound stand.program stand
 pub record IsEndAt (extreme : Extreme) (stand : Stand) (found : List (List ℕ)) (end : QuantileEnd) : Type 0 where
   pub value : end.value ≡ signed extreme stand.key
   pub marked : IsMarkedBy stand found end.mark
+  pub first : ShowsFirst (IsFound stand.program stand.want) stand.picks found end.mark
 
 pub record IsJudgedOver (observed : Bool) (settled : Settled) (low high : Stand) (answer : QuantileAnswer) : Type 0 where
   pub low_end : QuantileEnd

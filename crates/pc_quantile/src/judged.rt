@@ -2,6 +2,8 @@
 ghost use Rattle.std.specs.Prelude.{◌≡◌, All, IfOk};
 ghost use Rattle.pc_branch_licences.specs.Pools.{AreLawful};
 ghost use Rattle.pc_agg_search.specs.declared.extreme.Extreme.TheVariants.{Low, High};
+ghost use Rattle.pc_agg.specs.Marks.{ShowsFirst};
+ghost use Rattle.pc_agg_search.specs.Wants.{IsFound};
 ghost use Rattle.pc_quantile.specs.Answered.{CanEnd, CanMark, IsEndAt, IsJudged, IsJudgedOver, IsMarkedBy, always_as, judged, told_lack, told_relation};
 ghost use Rattle.pc_quantile.specs.Measure.{IsMeasured, cells_for, has_numbers};
 
@@ -97,7 +99,8 @@ fn end_at(
 
 fn mark_at(alloc: Global, stand: &Stand, found: &[Seq<u64>]) -> Result<Mark, Memory>
     requires can { CanMark found.now stand.now }
-    ensures { IfOk result (IsMarkedBy stand.now found.now) }
+    ensures marked { IfOk result (IsMarkedBy stand.now found.now) }
+    ensures first { IfOk result (ShowsFirst (IsFound stand.now.program stand.now.want) stand.now.picks found.now) }
 {
     match find_wanted(&stand.program, stand.want, found) {
         Some(place) => {
