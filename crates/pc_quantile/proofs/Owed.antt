@@ -79,6 +79,7 @@ module _ (schema : Schema) (observed : List Row) (constraints : List Constraint)
     right = record { relation = nothing; lack = tt; said = refl; absent = refl; ends = tt };
     licensed = record { relation = tt; lack = tt; low = tt; high = tt };
     sharp = λ nested. (record { decided = tt; ends = tt }, tt);
+    ordered = tt;
   }
 
   -- where the rows have no least number, they have no quantile
@@ -151,6 +152,7 @@ module _ (schema : Schema) (observed : List Row) (constraints : List Constraint)
         high = tt;
       };
       sharp = λ nested. (record { decided = told_decided (sure nested); ends = tt }, tt);
+      ordered = tt;
     }
       where
         or_true : (b : Bool) → (b || true) ≡ true
@@ -242,8 +244,9 @@ module _ (schema : Schema) (observed : List Row) (constraints : List Constraint)
       abbrev AreSure : Type 0
       AreSure = IsEasy schema constraints → (0 < length found) × Any (IsFound low.program low.want) found × Any (IsFound high.program high.want) found × IsSettledLack lack
 
-      owed_ends : AreSure → IsOwed here asked budget answer
-      owed_ends sure = record {
+      owed_ends : low_end.value ≤ℤ high_end.value → AreSure → IsOwed here asked budget answer
+      owed_ends in_order sure = record {
+        ordered = in_order;
         right = record {
           relation = told_right;
           lack = lack_right lack done.holds done.given;
@@ -313,5 +316,5 @@ module _ (schema : Schema) (observed : List Row) (constraints : List Constraint)
       owed_judged sure = by_test (int_le low_end.value high_end.value) refl
         where
           by_test : (test : Bool) → int_le low_end.value high_end.value ≡ test → IsOwed here asked budget (cond test answer (crossed (has_numbers (seen_numbers here.question)) told))
-          by_test true e = owed_ends sure
+          by_test true e = owed_ends (omega (arith, ints, e)) sure
           by_test false e = owed_crossed (has_numbers (seen_numbers here.question)) refl (omega (arith, ints, e)) sure

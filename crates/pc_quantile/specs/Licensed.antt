@@ -60,11 +60,17 @@ pub record IsLicensed (s : Setting) (asked : Quantile) (budget : ℕ) (answer : 
   pub low : IfSome answer.ends (λ ends. IfOuter ends.0.mark (LicensedEnd s asked budget answer Low ends.0.value.num))
   pub high : IfSome answer.ends (λ ends. IfOuter ends.1.mark (LicensedEnd s asked budget answer High ends.1.value.num))
 
--- an answer that is right, whose open parts are licensed, and that leaves nothing open where predicates are nested
+-- the low end is not above the high one
+abbrev pub AreOrdered : QuantileAnswer → Type 0
+AreOrdered answer = IfSome answer.ends (λ ends. ends.0.value ≤ℤ ends.1.value)
+
+-- an answer that is right, whose open parts are licensed, that leaves nothing open where predicates are nested, and whose ends do
+-- not cross
 pub record IsOwed (s : Setting) (asked : Quantile) (budget : ℕ) (answer : QuantileAnswer) : Type 0 where
   pub right : IsRight s.question asked (plain_answer (shown answer))
   pub licensed : IsLicensed s asked budget (shown answer)
   pub sharp : IsEasy s.question.schema s.question.constraints → IsSharp (shown answer) × IsSettledLack (shown answer).lack
+  pub ordered : AreOrdered answer
 
 abbrev pub question_of : Schema → List Row → List Constraint → Quantile → Question
 question_of schema observed constraints asked =
