@@ -1,5 +1,5 @@
 -- What a test of the rung after the one in the middle leaves of a span.
-use Rattle.std.proofs.Common.{◌≡◌, ℕ, suc, ◌+◌, ◌<◌, ◌≤◌, ℤ, pos, ◌+ℤ◌, ◌-ℤ◌, ◌≤ℤ◌, inr, List, length, ◌++◌, All, Any, Option, Some, None, MatchOption, sym, ap, subst, ◌∙◌, arith}
+use Rattle.std.proofs.Common.{◌≡◌, ℕ, suc, ◌+◌, ◌-◌, ◌/◌, ◌<◌, ◌≤◌, ℤ, pos, ◌+ℤ◌, ◌-ℤ◌, ◌≤ℤ◌, inr, List, length, ◌++◌, All, Any, Option, Some, None, MatchOption, sym, ap, subst, ◌∙◌, arith}
 use Rattle.std.specs.Prelude.{⊤}
 use Rattle.std.proofs.lemmas.Int.{ints}
 use Rattle.std.proofs.lemmas.List.{append_assoc}
@@ -66,7 +66,8 @@ module _ (s : Setting) (budget : ℕ) (seen : List ℤ) (extreme : Extreme) (ask
   module _ (rungs : List ℤ) where
     -- ---- a step
 
-    module _ (found : List (List ℕ)) (span : Span) (middle : ℕ) (is : IsSpan s budget seen extreme asked rungs found span) (from : span.from ≤ middle) (to : middle < span.to) where
+    module _ (found : List (List ℕ)) (span : Span) (middle : ℕ) (is : IsSpan s budget seen extreme asked rungs found span) (from : span.from ≤ middle) (to : middle < span.to)
+        (half : middle ≡ span.from + (span.to - span.from) / 2) where
       abbrev After : Program
       After = program_after s extreme asked rungs middle
 
@@ -108,8 +109,8 @@ module _ (s : Setting) (budget : ℕ) (seen : List ℤ) (extreme : Extreme) (ask
 
         by_verdict : (verdict : ProbeVerdict) → IsVerdict After wanted budget after verdict → IsHalved s budget seen extreme asked rungs found span (halved span.from span.to middle after verdict)
         by_verdict (verdicts.Empty tree) empty = none_by s gain budget tree empty
-        by_verdict (verdicts.Short tree) short = (past_it tree short, omega (arith, from, to))
-        by_verdict verdicts.Open doubt = (up_to_it doubt, omega (arith, from, to))
+        by_verdict (verdicts.Short tree) short = (past_it tree short, omega (arith, from, to), omega (arith, from, to, half))
+        by_verdict verdicts.Open doubt = (up_to_it doubt, omega (arith, from, to), omega (arith, from, to, half))
 
       pub is_halved : (probed : Probed) → IsProbed After wanted budget span.found probed → IsHalved s budget seen extreme asked rungs found span (halved span.from span.to middle probed.found probed.verdict)
       is_halved probed are = by_verdict probed.found are.more are.grown are.allowed probed.verdict are.verdict

@@ -1,5 +1,5 @@
 -- Where an end of a quantile stands among its candidates, as halving leaves them.
-use Rattle.std.specs.Prelude.{◌≡◌, ⊤, ◌⊎◌, ℕ, suc, ◌-◌, ◌<◌, ◌≤◌, ◌^◌, ℤ, ◌<ℤ◌, nat_abs, List, ◌++◌, length, All, Any, Contains}
+use Rattle.std.specs.Prelude.{◌≡◌, ⊤, ◌⊎◌, ℕ, suc, ◌-◌, ◌*◌, ◌<◌, ◌≤◌, ◌^◌, ℤ, ◌<ℤ◌, nat_abs, List, ◌++◌, length, All, Any, Contains}
 use Rattle.std.specs.List.{AllZip}
 use Rattle.pc_model.specs.declared.row.Row.{Row}
 use Rattle.pc_program_bound.specs.declared.program.Program.{Program}
@@ -76,9 +76,10 @@ pub record IsSpan (s : Setting) (budget : ℕ) (seen : List ℤ) (extreme : Extr
 abbrev pub IsSureSpan : Setting → List ℤ → Extreme → Quantile → List ℤ → Span → Type 0
 IsSureSpan s seen extreme asked rungs span = suc span.to < length rungs → StandsOn s seen extreme asked rungs span.found span.to
 
--- fewer rungs, or that no list is possible
+-- fewer rungs, the last at most half as far from the first, or that no list is possible
 abbrev pub IsHalved : Setting → ℕ → List ℤ → Extreme → Quantile → List ℤ → List (List ℕ) → Span → Halved → Type 0
-IsHalved s budget seen extreme asked rungs found old (halves.Within span) = IsSpan s budget seen extreme asked rungs found span × (span.to - span.from < old.to - old.from)
+IsHalved s budget seen extreme asked rungs found old (halves.Within span) =
+    IsSpan s budget seen extreme asked rungs found span × (span.to - span.from < old.to - old.from) × (2 * (span.to - span.from) ≤ old.to - old.from)
 IsHalved s budget seen extreme asked rungs found old halves.Empty = AllowsNone s
 
 abbrev pub IsSureHalf : Setting → List ℤ → Extreme → Quantile → List ℤ → Halved → Type 0

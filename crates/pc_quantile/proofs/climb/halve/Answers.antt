@@ -1,4 +1,4 @@
-use Rattle.std.proofs.Common.{◌+◌, ◌-◌, ◌/◌, sym, subst, arith}
+use Rattle.std.proofs.Common.{◌+◌, ◌-◌, ◌/◌, refl, sym, subst, arith}
 use Rattle.pc_quantile.specs.Climbing.{IsHalved, IsSureHalf}
 use Rattle.pc_quantile.specs.Measure.{cells_for}
 use Rattle.pc_quantile.proofs.Halving.{is_halved, is_sure_half}
@@ -11,7 +11,7 @@ returns-clause-halved c = λ found is.
     let span = c.args.span in
     let middle = span.from + (span.to - span.from) / 2 in
     subst (IsHalved (cells_for m) m.problem.nodes m.seen.now ladder.extreme m.asked.now ladder.rungs found span) (sym c.halved_at.ensures)
-    (is_halved (cells_for m) m.problem.nodes m.seen.now ladder.extreme m.asked.now ladder.rungs found span middle is (omega arith) (omega (arith, c.requires.several)) c.in_ok-probed.probed c.in_ok-probed.ensures.probed)
+    (is_halved (cells_for m) m.problem.nodes m.seen.now ladder.extreme m.asked.now ladder.rungs found span middle is (omega arith) (omega (arith, c.requires.several)) refl c.in_ok-probed.probed c.in_ok-probed.ensures.probed)
 
 pub returns-clause-nested : goal.returns-clause-nested
 returns-clause-nested c = λ nested sure.
