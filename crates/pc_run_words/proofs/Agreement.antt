@@ -263,7 +263,7 @@ dashed_value words word = by_reading (given_in true words false (Some (45 ∷ wo
     by_reading None kept = tt
     by_reading (Some g) kept = (refl, ap budget_of kept ∙ text_dash 1 100_000 word)
 
-given_word : (has_nodes : Bool) (word : Text) (rest : List Text) (known : Option Text)
+pub given_word : (has_nodes : Bool) (word : Text) (rest : List Text) (known : Option Text)
     → given_in has_nodes (word ∷ rest) false known ≡ after_word has_nodes word rest known (given_in has_nodes rest)
 unfolding given_in
 given_word has_nodes word rest known = refl
@@ -276,11 +276,11 @@ given_no_value : given_in true [] true None ≡ None
 unfolding given_in
 given_no_value = refl
 
-given_end : (has_nodes : Bool) (known : Option Text) → given_in has_nodes [] false known ≡ Some (record { value = known; plain = [] })
+pub given_end : (has_nodes : Bool) (known : Option Text) → given_in has_nodes [] false known ≡ Some (record { value = known; plain = [] })
 unfolding given_in
 given_end has_nodes known = refl
 
-given_plain : (has_nodes : Bool) (word : Text) (rest : List Text) (known : Option Text) → IsPlainWord word
+pub given_plain : (has_nodes : Bool) (word : Text) (rest : List Text) (known : Option Text) → IsPlainWord word
     → given_in has_nodes (word ∷ rest) false known ≡ option_map (with_plain word) (given_in has_nodes rest false known)
 given_plain has_nodes word rest known plain =
     given_word has_nodes word rest known

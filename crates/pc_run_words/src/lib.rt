@@ -1,10 +1,14 @@
-//! The words of a call, read as a command.
+//! The words of a call, read as a command; with laws on how plain words, `--` and `--nodes` are read.
 #![tactic(auto)]
 
 mod command;
 mod given;
+mod laws;
 mod number;
 
 pub use command::{
     Bound, Check, Command, Conflict, Gen, Quantile, Session, Show, USUAL_NODES, read_command,
+};
+pub use laws::{
+    nodes_leave_the_other_words, plain_words_are_read_as_they_stand, words_after_two_dashes_stand,
 };
