@@ -1,11 +1,11 @@
 -- How whole lists of words are read, where plain words stand in front.
 use Rattle.std.proofs.Common.{◌≡◌, ◌∙◌, Bool, true, false, List, [], ◌∷◌, ◌++◌, Option, Some, None, All, codes, refl, sym, ap, true≢false}
-use Rattle.std.specs.Prelude.{if◌then◌else◌, option_map}
+use Rattle.std.specs.Prelude.{if◌then◌else◌, option_and_then, option_map}
 use Rattle.std.specs.Str.{bytes_eq}
 use Rattle.std.proofs.lemmas.List.{append-nil}
 use Rattle.std.proofs.lemmas.List.Elements.{All-head, All-tail}
 use Rattle.clap.specs.Walk.{Text}
-use Rattle.pc_run_words.specs.Words.{Given, given, given_in, is_option, with_plain}
+use Rattle.pc_run_words.specs.Words.{Given, after_option, given, given_in, is_option, value_in, with_plain}
 use Rattle.pc_run_words.proofs.Agreement.{given_end, given_plain, given_word}
 use Rattle.pc_run_words.proofs.WordKinds.{IsPlainWord, by_word}
 
@@ -101,3 +101,30 @@ apart_read value front rest plain = value_read value front rest (codes "--nodes"
 pub joined_read : (value : Text) (front rest : List Text) → ArePlain front
     → given true (front ++ (codes "--nodes=" ++ value) ∷ rest) ≡ option_map (with_value value) (given false (front ++ rest))
 joined_read value front rest plain = value_read value front rest ((codes "--nodes=" ++ value) ∷ rest) plain (value_joined value rest)
+
+-- ---- other options
+
+lone_refused : (has_nodes : Bool) (word : Text) (rest : List Text) → is_option word ≡ true → bytes_eq word (codes "--") ≡ false
+    → given has_nodes (word ∷ rest) ≡ after_option has_nodes word None (given_in has_nodes rest)
+lone_refused has_nodes word rest flag more =
+    given_word has_nodes word rest None
+    ∙ ap (λ test. if test then read_as None rest
+    else (if is_option word then after_option has_nodes word None (given_in has_nodes rest) else option_map (with_plain word) (given_in has_nodes rest false None))) more
+    ∙ ap (λ test. if test then after_option has_nodes word None (given_in has_nodes rest) else option_map (with_plain word) (given_in has_nodes rest false None)) flag
+
+none_behind : (has_nodes : Bool) (front words : List Text) → ArePlain front → given has_nodes words ≡ None → given has_nodes (front ++ words) ≡ None
+none_behind has_nodes front words plain e = front_read has_nodes front words plain ∙ ap (option_map (with_front front)) e
+
+pub none_known : (word : Text) (front rest : List Text) → ArePlain front → is_option word ≡ true → bytes_eq word (codes "--") ≡ false
+    → given false (front ++ word ∷ rest) ≡ None
+none_known word front rest plain flag more = none_behind false front (word ∷ rest) plain (lone_refused false word rest flag more)
+
+no_nodes : (word : Text) (next : Bool → Option Text → Option Given) → bytes_eq word (codes "--nodes") ≡ false → value_in word ≡ None → after_option true word None next ≡ None
+no_nodes word next alone joined =
+    ap (λ test. if test then next true None else option_and_then (λ found. next false (Some found)) (value_in word)) alone
+    ∙ ap (option_and_then (λ found. next false (Some found))) joined
+
+pub one_known : (word : Text) (front rest : List Text) → ArePlain front → is_option word ≡ true → bytes_eq word (codes "--") ≡ false
+    → bytes_eq word (codes "--nodes") ≡ false → value_in word ≡ None → given true (front ++ word ∷ rest) ≡ None
+one_known word front rest plain flag more alone joined =
+    none_behind true front (word ∷ rest) plain (lone_refused true word rest flag more ∙ no_nodes word (given_in true rest) alone joined)

@@ -1,5 +1,6 @@
 ghost use Rattle.std.specs.Prelude.{◌≡◌, ℕ, Bool, true, false, List, ◌∷◌, ◌++◌, All, Some, None, codes, option_map};
-ghost use Rattle.pc_run_words.specs.Words.{Given, given, is_option};
+ghost use Rattle.std.specs.Str.{bytes_eq};
+ghost use Rattle.pc_run_words.specs.Words.{Given, given, is_option, value_in};
 
 /// Words of which none is an option are read as they stand, of every command: as many, in their order, and no value of
 /// `--nodes`. An option is what begins with `-` and is longer than that, so that a lone `-` is a word like others.
@@ -19,4 +20,11 @@ pub fn words_after_two_dashes_stand()
 pub fn nodes_leave_the_other_words()
     ensures apart { (value : List ℕ) (front rest : List (List ℕ)) → All (λ word. is_option word ≡ false) front → given true (front ++ codes "--nodes" ∷ value ∷ rest) ≡ option_map (λ (found : Given). record found { value = Some value }) (given false (front ++ rest)) }
     ensures joined { (value : List ℕ) (front rest : List (List ℕ)) → All (λ word. is_option word ≡ false) front → given true (front ++ (codes "--nodes=" ++ value) ∷ rest) ≡ option_map (λ (found : Given). record found { value = Some value }) (given false (front ++ rest)) }
+{}
+
+/// No command takes words whose first option is none of its own: of a command without options any option but `--`, of the
+/// others what is neither `--nodes` nor `--nodes=VALUE`.
+pub fn other_options_are_refused()
+    ensures none_known { (word : List ℕ) (front rest : List (List ℕ)) → All (λ w. is_option w ≡ false) front → is_option word ≡ true → bytes_eq word (codes "--") ≡ false → given false (front ++ word ∷ rest) ≡ None }
+    ensures nodes_known { (word : List ℕ) (front rest : List (List ℕ)) → All (λ w. is_option w ≡ false) front → is_option word ≡ true → bytes_eq word (codes "--") ≡ false → bytes_eq word (codes "--nodes") ≡ false → value_in word ≡ None → given true (front ++ word ∷ rest) ≡ None }
 {}
