@@ -128,3 +128,11 @@ pub one_known : (word : Text) (front rest : List Text) → ArePlain front → is
     → bytes_eq word (codes "--nodes") ≡ false → value_in word ≡ None → given true (front ++ word ∷ rest) ≡ None
 one_known word front rest plain flag more alone joined =
     none_behind true front (word ∷ rest) plain (lone_refused true word rest flag more ∙ no_nodes word (given_in true rest) alone joined)
+
+-- `--nodes` as the last word has no value
+last_refused : given true (codes "--nodes" ∷ []) ≡ None
+unfolding given_in
+last_refused = refl
+
+pub valueless : (front : List Text) → ArePlain front → given true (front ++ codes "--nodes" ∷ []) ≡ None
+valueless front plain = none_behind true front (codes "--nodes" ∷ []) plain last_refused

@@ -1,4 +1,4 @@
-ghost use Rattle.std.specs.Prelude.{◌≡◌, ℕ, Bool, true, false, List, ◌∷◌, ◌++◌, All, Some, None, codes, option_map};
+ghost use Rattle.std.specs.Prelude.{◌≡◌, ℕ, Bool, true, false, List, [], ◌∷◌, ◌++◌, All, Some, None, codes, option_map};
 ghost use Rattle.std.specs.Str.{bytes_eq};
 ghost use Rattle.pc_run_words.specs.Words.{Given, given, is_option, value_in};
 
@@ -22,9 +22,10 @@ pub fn nodes_leave_the_other_words()
     ensures joined { (value : List ℕ) (front rest : List (List ℕ)) → All (λ word. is_option word ≡ false) front → given true (front ++ (codes "--nodes=" ++ value) ∷ rest) ≡ option_map (λ (found : Given). record found { value = Some value }) (given false (front ++ rest)) }
 {}
 
-/// No command takes words whose first option is none of its own: of a command without options any option but `--`, of the
-/// others what is neither `--nodes` nor `--nodes=VALUE`.
+/// No command takes words whose first option is none that it knows: of a command without options any option but `--`,
+/// of the others what is neither `--`, `--nodes` nor `--nodes=VALUE`, and a `--nodes` that no word follows.
 pub fn other_options_are_refused()
     ensures none_known { (word : List ℕ) (front rest : List (List ℕ)) → All (λ w. is_option w ≡ false) front → is_option word ≡ true → bytes_eq word (codes "--") ≡ false → given false (front ++ word ∷ rest) ≡ None }
     ensures nodes_known { (word : List ℕ) (front rest : List (List ℕ)) → All (λ w. is_option w ≡ false) front → is_option word ≡ true → bytes_eq word (codes "--") ≡ false → bytes_eq word (codes "--nodes") ≡ false → value_in word ≡ None → given true (front ++ word ∷ rest) ≡ None }
+    ensures no_value { (front : List (List ℕ)) → All (λ w. is_option w ≡ false) front → given true (front ++ codes "--nodes" ∷ []) ≡ None }
 {}
