@@ -7,6 +7,7 @@ pub mod CutsFormat
 pub mod DocumentFormat
 pub mod InPlace
 pub mod LineStarts
+pub mod NodePlaces
 pub mod NodeSteps
 pub mod PartFormats
 pub mod PlacedCuts

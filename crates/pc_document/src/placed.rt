@@ -1,4 +1,4 @@
-ghost use Rattle.std.specs.Prelude.{◌≡◌, ◌+◌, ◌<◌, ◌^◌, get_or, map, length, IfOk, IsOk};
+ghost use Rattle.std.specs.Prelude.{◌≡◌, ◌+◌, ◌<◌, ◌^◌, get_or, map, length, IfOk, IsOk, OnOk};
 ghost use Rattle.pc_model.specs.declared.tree.TreeNode.{TreeNode};
 ghost use Rattle.pc_document_format.specs.Formats.{AreTrees};
 ghost use Rattle.pc_document_lines.specs.NodeLines.{IsBareNode, is_split};
@@ -19,7 +19,7 @@ pub(crate) fn placed(alloc: Global, nodes: Seq<TreeNode>) -> Result<Tree, Memory
 {
     let flags = flags_of(alloc, nodes.as_slice())?;
     let past = past_of(alloc, flags.as_slice())?;
-    let nodes = with_places(alloc, nodes, past.as_slice())?;
+    let nodes = with_places(nodes, past.as_slice())?;
     Ok(Tree { nodes })
 }
 
@@ -43,38 +43,33 @@ fn is_split(node: &TreeNode) -> bool
     }
 }
 
-/// The nodes with the places of their parts, of which it is known where each tree ends.
-#[tactic(auto, using(crate::proofs::PlacingSteps::place_end))]
-fn with_places(alloc: Global, nodes: Seq<TreeNode>, past: &[usize]) -> Result<Seq<TreeNode>, Memory>
+/// The nodes with the places of their parts, of which it is known where each tree ends. The list is changed in place, since a
+/// second one would want as much memory again.
+#[tactic(auto, using(crate::proofs::NodePlaces::node_end))]
+fn with_places(nodes: Seq<TreeNode>, past: &[usize]) -> Result<Seq<TreeNode>, Memory>
     requires { ArePast (map is_split nodes) past.now 0 }
     ensures { IfOk result (λ list. list ≡ placed_from 0 nodes) }
 {
-    let mut list = Seq::new(alloc);
-    for node in nodes.into_vec() {
-        let node = with_place(node, list.len(), past)?;
-        list.push(node)?;
+    let mut list = nodes.into_vec();
+    for place in 0..list.len() {
+        put_places(&mut list[place], place, past)?;
     }
-    Ok(list)
+    Ok(Seq::from_vec(list))
 }
 
-/// A node with the places of its parts: the first stands next, the second where the tree that begins there ends.
-fn with_place(node: TreeNode, place: usize, past: &[usize]) -> Result<TreeNode, Memory>
+/// Sets the places of a node's parts: the first stands next, the second where the tree that begins there ends.
+fn put_places(node: &mut TreeNode, place: usize, past: &[usize]) -> Result<(), Memory>
     requires { place < length past.now }
-    ensures placed { IfOk result (λ more. more ≡ placed_node (place + 1) (get_or past.now (place + 1) (place + 1)) node) }
+    ensures placed { OnOk result (node.new ≡ placed_node (place + 1) (get_or past.now (place + 1) (place + 1)) node.old) }
     ensures given { place + 1 < 2 ^ 32 → get_or past.now (place + 1) (place + 1) < 2 ^ 32 → IsOk result }
 {
     let next = place + 1;
     let second = past.get(next).copied().unwrap_or(next);
-    match node {
-        TreeNode::Split { cell, at, .. } => Ok(TreeNode::Split {
-            cell,
-            at,
-            less: place_number(next)?,
-            more: place_number(second)?,
-        }),
-        TreeNode::Bound { mult } => Ok(TreeNode::Bound { mult }),
-        TreeNode::Void { mult } => Ok(TreeNode::Void { mult }),
+    if let TreeNode::Split { less, more, .. } = node {
+        *less = place_number(next)?;
+        *more = place_number(second)?;
     }
+    Ok(())
 }
 
 /// A place as a node has it, where it is not too great.
