@@ -1,54 +1,27 @@
--- Nodes of trees of cuts get the places of their parts one after another.
-use Rattle.std.proofs.Common.{◌≡◌, ℕ, ◌+◌, ◌<◌, Bool, List, [], ◌∷◌, ◌++◌, length, map, drop, get_or, refl, sym, ap, ◌∙◌, subst, arith, append_assoc}
-use Rattle.std.proofs.lemmas.List.{append-nil, length-append, length-map, drop_at, get_or_past, get_or_default}
+-- The nodes of trees of cuts get the places of their parts.
+use Rattle.std.proofs.Common.{◌≡◌, ℕ, ◌+◌, ◌<◌, ◌≤◌, List, ◌++◌, length, map, take, drop, get_or, set, refl, sym, ap, ◌∙◌, subst}
 use Rattle.pc_model.specs.declared.tree.CutNode.{CutNode}
+use Rattle.pc_model.specs.declared.tree.CutNode.TheVariants as cut_nodes
 use Rattle.pc_document_lines.specs.TokenLines.{is_inner}
-use Rattle.pc_document.specs.Spans.{ArePast, span, placed_cut, placed_cuts_from}
+use Rattle.pc_document.specs.Spans.{ArePast, placed_cut, placed_cuts_from}
+use Rattle.pc_document.proofs.PlacingSteps.{place_more, place_end, kinds_kept}
 
-no_node : span 1 [] ≡ 0
-unfolding span
-no_node = refl
-
-map_append : {A B : Type 0} (f : A → B) (xs ys : List A) → map f (xs ++ ys) ≡ map f xs ++ map f ys
-map_append f [] ys = refl
-map_append {B = B} f (x ∷ xs) ys = ap (λ (later : List B). f x ∷ later) (map_append f xs ys)
-
--- what is noted at the place after a node is where the tree that begins there ends
-second_is : {A : Type 0} (f : A → Bool) (before : List A) (x : A) (rest : List A) (past : List ℕ) → ArePast (map f (before ++ x ∷ rest)) past 0
-    → get_or past (length before + 1) (length before + 1) ≡ length before + 1 + span 1 (map f rest)
-second_is f before x [] past known =
-    let many = known.as_many in
-    let long = length-map (before ++ x ∷ []) f in
-    let parts = length-append before (x ∷ []) in
-    get_or_past past (length before + 1) (length before + 1) (omega arith) ∙ (let none = no_node in omega arith)
-second_is f before x (y ∷ rest) past known =
-    let many = known.as_many in
-    let long = length-map (before ++ x ∷ y ∷ rest) f in
-    let parts = length-append before (x ∷ y ∷ rest) in
-    let here : map f (before ++ x ∷ y ∷ rest) ≡ map f (before ++ x ∷ []) ++ map f (y ∷ rest) = ap (map f) (sym (append_assoc before (x ∷ []) (y ∷ rest))) ∙ map_append f (before ++ x ∷ []) (y ∷ rest) in
-    let front : length (map f (before ++ x ∷ [])) ≡ length before + 1 = length-map (before ++ x ∷ []) f ∙ length-append before (x ∷ []) in
-    let left : drop (length before + 1) (map f (before ++ x ∷ y ∷ rest)) ≡ map f (y ∷ rest) = ap (drop (length before + 1)) here ∙ drop_at (map f (before ++ x ∷ [])) (map f (y ∷ rest)) (length before + 1) front in
-    get_or_default past (length before + 1) (length before + 1) 0 (omega arith) ∙ known.each (length before + 1) (omega arith) (omega arith) ∙ ap (λ (flags : List Bool). length before + 1 + span 1 flags) left
+same_kind : (first second : ℕ) (node : CutNode) → is_inner (placed_cut first second node) ≡ is_inner node
+same_kind first second (cut_nodes.Leaf mark) = refl
+same_kind first second (cut_nodes.Inner cut one two) = refl
 
 -- a node more
-pub cut_more : (before rest list whole : List CutNode) (node : CutNode) (past : List ℕ) → ArePast (map is_inner (before ++ node ∷ rest)) past 0 → length list ≡ length before
-    → list ++ placed_cuts_from (length list) (node ∷ rest) ≡ whole
-    → (list ++ placed_cut (length list + 1) (get_or past (length list + 1) (length list + 1)) node ∷ [])
-    ++ placed_cuts_from (length (list ++ placed_cut (length list + 1) (get_or past (length list + 1) (length list + 1)) node ∷ [])) rest ≡ whole
+pub cut_more : (list nodes : List CutNode) (i : ℕ) (past : List ℕ) (x y : CutNode) → ArePast (map is_inner nodes) past 0 → i < length list
+    → (map is_inner list ≡ map is_inner nodes) × (take i list ++ placed_cuts_from i (drop i list) ≡ placed_cuts_from 0 nodes)
+    → x ≡ get_or list i x → y ≡ placed_cut (i + 1) (get_or past (i + 1) (i + 1)) x
+    → (map is_inner (set list i y) ≡ map is_inner nodes) × (take (i + 1) (set list i y) ++ placed_cuts_from (i + 1) (drop (i + 1) (set list i y)) ≡ placed_cuts_from 0 nodes)
 unfolding placed_cuts_from
-cut_more before rest list whole node past known same so_far =
-    let second : get_or past (length list + 1) (length list + 1) ≡ length list + 1 + span 1 (map is_inner rest) = subst (λ (n : ℕ). get_or past (n + 1) (n + 1) ≡ n + 1 + span 1 (map is_inner rest)) (sym same) (second_is is_inner before node rest past known) in
-    let long : length (list ++ placed_cut (length list + 1) (length list + 1 + span 1 (map is_inner rest)) node ∷ []) ≡ length list + 1 = length-append list (placed_cut (length list + 1) (length list + 1 + span 1 (map is_inner rest)) node ∷ []) in
-    rw (second, long) (append_assoc list (placed_cut (length list + 1) (length list + 1 + span 1 (map is_inner rest)) node ∷ []) (placed_cuts_from (length list + 1) rest) ∙ so_far)
+cut_more list nodes i past x y known inside so_far read put =
+    let is : y ≡ placed_cut (i + 1) (get_or past (i + 1) (i + 1)) (get_or list i x) = put ∙ ap (placed_cut (i + 1) (get_or past (i + 1) (i + 1))) read in (
+      kinds_kept is_inner list i x y inside (ap is_inner is ∙ same_kind (i + 1) (get_or past (i + 1) (i + 1)) (get_or list i x)) ∙ so_far.0,
+      place_more is_inner placed_cut placed_cuts_from (λ k x rest. refl) list i past x y (subst (λ flags. ArePast flags past 0) (sym so_far.0) known) inside is ∙ so_far.1,
+    )
 
-pub cut_end : (list whole : List CutNode) → list ++ placed_cuts_from (length list) [] ≡ whole → list ≡ whole
+pub cut_end : (list nodes : List CutNode) (i : ℕ) → length list ≤ i → take i list ++ placed_cuts_from i (drop i list) ≡ placed_cuts_from 0 nodes → list ≡ placed_cuts_from 0 nodes
 unfolding placed_cuts_from
-cut_end list whole so_far = sym (append-nil list) ∙ so_far
-
--- a node that is left has its place
-pub cut_inside : (before rest : List CutNode) (node : CutNode) (past : List ℕ) → ArePast (map is_inner (before ++ node ∷ rest)) past 0 → length before < length past
-cut_inside before rest node past known =
-    let many = known.as_many in
-    let long = length-map (before ++ node ∷ rest) is_inner in
-    let parts = length-append before (node ∷ rest) in
-    omega arith
+cut_end list nodes i past_all so_far = sym (place_end is_inner placed_cut placed_cuts_from (λ k. refl) list i past_all) ∙ so_far

@@ -27,13 +27,6 @@ module _ {A : Type 0} (f : A → Bool) (list : List A) (i : ℕ) (past : List �
           get_or_default past (i + 1) (i + 1) 0 (omega arith) ∙ known.each (i + 1) (omega arith) (omega arith)
           ∙ ap (λ (flags : List Bool). i + 1 + span 1 flags) (drop-map f (i + 1) list ∙ ap (map f) left)
 
-  -- a node has its place
-  pub inside_past : i < length past
-  inside_past =
-      let many = known.as_many in
-      let long = length-map list f in
-      omega arith
-
 -- how nodes of a kind get places
 module _ {A : Type 0} (f : A → Bool) (put : ℕ → ℕ → A → A) (from : ℕ → List A → List A) where
   -- a node more

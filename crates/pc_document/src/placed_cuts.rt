@@ -1,4 +1,4 @@
-ghost use Rattle.std.specs.Prelude.{◌≡◌, ◌+◌, ◌<◌, ◌^◌, get_or, map, length, IfOk, IsOk};
+ghost use Rattle.std.specs.Prelude.{◌≡◌, ◌+◌, ◌<◌, ◌^◌, get_or, map, length, IfOk, IsOk, OnOk};
 ghost use Rattle.pc_model.specs.declared.schema.Schema.{Schema};
 ghost use Rattle.pc_model.specs.declared.tree.CutNode.{CutNode};
 ghost use Rattle.pc_document_format.specs.Formats.{AreTrees};
@@ -21,7 +21,7 @@ pub(crate) fn placed_cuts(alloc: Global, nodes: Seq<CutNode>) -> Result<CutTree,
 {
     let flags = flags_of(alloc, nodes.as_slice())?;
     let past = past_of(alloc, flags.as_slice())?;
-    let nodes = with_places(alloc, nodes, past.as_slice())?;
+    let nodes = with_places(nodes, past.as_slice())?;
     Ok(CutTree { nodes })
 }
 
@@ -45,34 +45,31 @@ fn is_inner(node: &CutNode) -> bool
     }
 }
 
-/// The nodes with the places of their parts, of which it is known where each tree ends.
+/// The nodes with the places of their parts, of which it is known where each tree ends. The list is changed in place, since a
+/// second one would want as much memory again.
 #[tactic(auto, using(crate::proofs::CutPlacing::cut_end))]
-fn with_places(alloc: Global, nodes: Seq<CutNode>, past: &[usize]) -> Result<Seq<CutNode>, Memory>
+fn with_places(nodes: Seq<CutNode>, past: &[usize]) -> Result<Seq<CutNode>, Memory>
     requires { ArePast (map is_inner nodes) past.now 0 }
     ensures { IfOk result (λ list. list ≡ placed_cuts_from 0 nodes) }
 {
-    let mut list = Seq::new(alloc);
-    for node in nodes.into_vec() {
-        let node = with_place(node, list.len(), past)?;
-        list.push(node)?;
+    let mut list = nodes.into_vec();
+    for place in 0..list.len() {
+        put_places(&mut list[place], place, past)?;
     }
-    Ok(list)
+    Ok(Seq::from_vec(list))
 }
 
-/// A node with the places of its parts: the first stands next, the second where the tree that begins there ends.
-fn with_place(node: CutNode, place: usize, past: &[usize]) -> Result<CutNode, Memory>
+/// Sets the places of a node's parts: the first stands next, the second where the tree that begins there ends.
+fn put_places(node: &mut CutNode, place: usize, past: &[usize]) -> Result<(), Memory>
     requires { place < length past.now }
-    ensures placed { IfOk result (λ more. more ≡ placed_cut (place + 1) (get_or past.now (place + 1) (place + 1)) node) }
+    ensures placed { OnOk result (node.new ≡ placed_cut (place + 1) (get_or past.now (place + 1) (place + 1)) node.old) }
     ensures given { place + 1 < 2 ^ 32 → get_or past.now (place + 1) (place + 1) < 2 ^ 32 → IsOk result }
 {
     let next = place + 1;
-    let second = past.get(next).copied().unwrap_or(next);
-    match node {
-        CutNode::Inner { cut, .. } => Ok(CutNode::Inner {
-            cut,
-            first: place_number(next)?,
-            second: place_number(second)?,
-        }),
-        CutNode::Leaf { mark } => Ok(CutNode::Leaf { mark }),
+    let end = past.get(next).copied().unwrap_or(next);
+    if let CutNode::Inner { first, second, .. } = node {
+        *first = place_number(next)?;
+        *second = place_number(end)?;
     }
+    Ok(())
 }

@@ -1,33 +1,10 @@
-use Rattle.std.proofs.Common.{rules, ◌≡◌, ℕ, ◌+◌, List, ◌∷◌, ◌++◌, [], length, map, get_or, sym, ap, ◌∙◌, subst, append_assoc, arith}
-use Rattle.std.proofs.lemmas.List.{length-append, nil_from_length}
-use Rattle.std.specs.Vec.Iter.{into_iter_items}
-use Rattle.pc_model.specs.declared.tree.CutNode.{CutNode}
-use Rattle.pc_document_lines.specs.TokenLines.{is_inner}
-use Rattle.pc_document.specs.Spans.{ArePast, placed_cuts_from, placed_cut}
-use Rattle.pc_document.proofs.CutPlacing.{cut_more, cut_end}
+use Rattle.std.proofs.Common.{rules, ◌<◌, length}
+use Rattle.pc_document.proofs.CutPlacing.{cut_more}
 use Rattle.pc_document.proofs.placed_cuts.with_places.Goals as goal
 
-pub loop-node-preserved : goal.loop-node-preserved
-loop-node-preserved c =
-    let at = c.loop-node in
-    let steps : into_iter_items at.node-iterator ≡ c.in-Some.node ∷ into_iter_items c.next.new.self = c.in-Some.ensures.steps.0 in
-    let whole : at.yielded ++ c.in-Some.node ∷ into_iter_items c.next.new.self ≡ c.args.nodes = rw (← steps) at.invariant.0 in
-    let known : ArePast (map is_inner (at.yielded ++ c.in-Some.node ∷ into_iter_items c.next.new.self)) c.args.past.now 0 = subst (λ (nodes : List CutNode). ArePast (map is_inner nodes) c.args.past.now 0) (sym whole) c.requires in
-    let node_is : c.in_ok-node.node ≡ placed_cut (length at.list + 1) (get_or c.args.past.now (length at.list + 1) (length at.list + 1)) c.in-Some.node = search rules in
-    let pushed : c.push.new.self ≡ at.list ++ c.in_ok-node.node ∷ [] = search rules in
-    let more = cut_more at.yielded (into_iter_items c.next.new.self) at.list (placed_cuts_from 0 c.args.nodes) c.in-Some.node c.args.past.now known at.invariant.1 (rw (← steps) at.invariant.2) in (
-      append_assoc at.yielded (c.in-Some.node ∷ []) _ ∙ whole,
-      ap (λ (list : List CutNode). length list) pushed ∙ length-append at.list (c.in_ok-node.node ∷ []) ∙ ap (λ (n : ℕ). n + 1) at.invariant.1 ∙ sym (length-append at.yielded (c.in-Some.node ∷ [])),
-      rw (pushed, node_is) more,
-      let was = at.invariant.3 in
-          let gone = c.in-Some.ensures.steps.1 in
-          let short = ap length steps in
-          omega arith,
-    )
-
-pub returns : goal.returns
-returns c =
-    let same = c.loop-node.invariant.3 in
-    let gone = c.in-None.ensures.steps in
-    let none : into_iter_items c.loop-node.node-iterator ≡ [] = nil_from_length (into_iter_items c.loop-node.node-iterator) (omega arith) in
-    cut_end c.loop-node.list (placed_cuts_from 0 c.args.nodes) (rw (← none) c.loop-node.invariant.2)
+pub loop-place-preserved : goal.loop-place-preserved
+loop-place-preserved c =
+    let l = c.loop-place in
+    let inside : l.place < length l.list.items = search rules in
+    cut_more l.list.items c.args.nodes l.place c.args.past.now c.index_mut.result.now c.put_places.new.node c.requires inside l.invariant
+    c.index_mut.ensures.value c.in_ok-put_places.ensures.placed
