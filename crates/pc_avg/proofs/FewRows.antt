@@ -1,5 +1,5 @@
 -- How many rows the cells can have: what the constraints allow together, and what the caps allow.
-use Rattle.std.proofs.Common.{◌≡◌, ℕ, zero, suc, ◌+◌, ◌*◌, ◌/◌, ◌^◌, ◌<◌, ◌≤◌, min, ℤ, pos, ◌+ℤ◌, ◌*ℤ◌, ◌≤ℤ◌, Bool, true, false, cond, inl, inr, ◌⊎◌, List, [], ◌∷◌, length, map, get_or, All, AllPairs, refl, sym, ap, subst, ◌∙◌, arith}
+use Rattle.std.proofs.Common.{◌≡◌, ℕ, suc, ◌+◌, ◌*◌, ◌/◌, ◌^◌, ◌<◌, ◌≤◌, min, ℤ, pos, ◌+ℤ◌, ◌*ℤ◌, ◌≤ℤ◌, Bool, true, false, cond, inl, inr, ◌⊎◌, List, [], ◌∷◌, length, map, get_or, All, AllPairs, refl, sym, ap, subst, ◌∙◌, arith}
 use Rattle.std.specs.Prelude.{unwrap_or, if◌then◌else◌}
 use Rattle.std.specs.List.{reduce}
 use Rattle.std.proofs.Math.Nat.{mul-le-mul_right}
@@ -18,7 +18,7 @@ use Rattle.pc_program_bound.specs.Sums.{sum_below, nat_at, int_at}
 use Rattle.pc_program_bound.specs.Allocation.{IsAllocation, cells_of, constraints_of, count_for, total, worth}
 use Rattle.pc_program_bound.specs.CellPrograms.{members, cap_of, program_with}
 use Rattle.pc_program_bound.proofs.CellPlaces.{no_class, no_constraint, cell_inside, constraint_inside, mask_is, cap_is, most_is}
-use Rattle.pc_program_bound.proofs.SumBelow.{sum_below-zero, sum_below-suc, sum_below-same, sum_below-zeros, sum_below-swap, sum_below_mono, sum_below-front}
+use Rattle.pc_program_bound.proofs.SumBelow.{sum_below-zero, sum_below-same, sum_below-zeros, sum_below-swap, sum_below_mono, sum_below-front}
 use Rattle.pc_avg_ratio.specs.Fractional.{most_added, most_room}
 use Rattle.pc_agg_search.proofs.CellPrograms.{cap_small}
 use Rattle.pc_agg_search.proofs.ManyCells.{many_cells, sum_at_most}

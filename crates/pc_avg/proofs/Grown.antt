@@ -26,7 +26,7 @@ use Rattle.pc_proof.specs.Unbroken.{plain_relation, plain_lack}
 use Rattle.pc_proof.proofs.Parts.{All-front, All-back}
 use Rattle.pc_branch_licences.specs.Licensed.{IsSpent, MayHave, MayGive, BothTotals, LicensedRelation, LicensedLack}
 use Rattle.pc_branch_licences.specs.Pools.{ShownFrom, HoldsNone}
-use Rattle.pc_branch_licences.specs.Shown.{runs_of_relation, runs_of_lack, shown_runs, counts_of_runs}
+use Rattle.pc_branch_licences.specs.Shown.{runs_of_relation, runs_of_lack, counts_of_runs}
 use Rattle.pc_branch_licences.specs.Wanted.{any, some, without, Has, LeavesOpen}
 use Rattle.pc_branch_licences.proofs.Found.{shown-found}
 use Rattle.pc_agg_search.specs.Wants.{most_chosen, fewest_chosen}

@@ -2,7 +2,6 @@
 use Rattle.std.proofs.Common.{◌≡◌, ℕ, ℤ, pos, neg_ℤ, ◌+ℤ◌, ◌*ℤ◌, ◌≤ℤ◌, ◌<ℤ◌, Bool, true, false, cond, List, [], ◌∷◌, length, map, get_or, All, Option, Some, IsSomeAnd, refl, sym, ap, ap₂, subst, ◌∙◌, true≢false, arith}
 use lib.IntN.{*ℤ_comm}
 use Rattle.std.proofs.lemmas.Int.{ints}
-use Rattle.std.proofs.lemmas.List.Elements.{All-head, All-tail}
 use Rattle.pc_model.specs.declared.schema.Schema.{Schema}
 use Rattle.pc_model.specs.declared.row.Row.{Row}
 use Rattle.pc_model.specs.declared.row.Run.{Run}
@@ -33,7 +32,7 @@ use Rattle.pc_proof.proofs.Ends.{AsksNumbers, asks_numbers}
 use Rattle.pc_proof.proofs.Gains.{gains_of}
 use Rattle.pc_proof.proofs.Groups.{keeps_area}
 use Rattle.pc_proof.proofs.Kept.{kept_count, kept_sum, cell_of, count_is, between}
-use Rattle.pc_proof.proofs.Seen.{keeps, all_numbers, how_many, what_sum, int_sum-neg, int_sum_mono}
+use Rattle.pc_proof.proofs.Seen.{keeps, all_numbers, how_many, what_sum, int_sum_mono}
 use Rattle.pc_branch_licences.specs.Picked.{AreOfCells}
 use Rattle.pc_branch_licences.specs.Pools.{AreLawful}
 use Rattle.pc_branch_licences.specs.Shown.{counts_of_runs}
