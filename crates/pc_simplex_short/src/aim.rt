@@ -5,6 +5,7 @@ ghost use Rattle.pc_simplex_tableau.specs.Tableau.{freed_aim};
 ghost use Rattle.pc_simplex_tableau.specs.Conditions.{aim_alone, freed_entries, freed_weight};
 ghost use Rattle.pc_simplex_short.specs.Short.{spelled_numbers, spelled_aim};
 ghost use Rattle.pc_simplex_short.specs.Kept.{IsWithin, IsSetting, IsShortAim};
+ghost use Rattle.pc_simplex_short.specs.Stays.{HasShortAim};
 
 use crate::entry::{aim_entry, entry};
 use crate::setting::ShortSetting;
@@ -31,6 +32,7 @@ pub(crate) fn free(
     ensures aim { IsTrue result → spelled_aim setting.now turned.now weight.new aim.new ≡ (freed_aim column (spelled_numbers setting.now turned.now other.now) (aim_alone (spelled_aim setting.now turned.now weight.old aim.old) weight.old)).aim }
     ensures weight { IsTrue result → weight.new ≡ (freed_aim column (spelled_numbers setting.now turned.now other.now) (aim_alone (spelled_aim setting.now turned.now weight.old aim.old) weight.old)).weight }
     ensures short { IsTrue result → IsShortAim setting.now weight.new aim.new }
+    ensures given { HasShortAim setting.now turned.now (freed_aim column (spelled_numbers setting.now turned.now other.now) (aim_alone (spelled_aim setting.now turned.now weight.old aim.old) weight.old)) → IsTrue result }
 {
     let own = aim_entry(setting, turned, *weight, aim, column);
     if own == 0 {
