@@ -1,5 +1,5 @@
 -- The numbers of a column in the leaves of a cell.
-use Rattle.std.proofs.Common.{◌≡◌, ℕ, zero, suc, ◌<◌, int_le, true, false, ℤ, ◌≤ℤ◌, List, [], ◌∷◌, length, get_or, All, sym, subst, arith}
+use Rattle.std.proofs.Common.{◌≡◌, ℕ, zero, suc, ◌<◌, int_le, true, ℤ, ◌≤ℤ◌, List, [], ◌∷◌, length, get_or, All, sym, subst, arith}
 use Rattle.std.specs.Cmp.Lexicographic.{pointwise}
 use Rattle.std.proofs.lemmas.Bool.{and_parts}
 use Rattle.std.proofs.lemmas.Int.{ints}
@@ -14,7 +14,7 @@ use Rattle.pc_model.specs.Cells.{IsInSome, IsSpanned, low_of, high_of, low_at, h
 use Rattle.pc_model.proofs.Between.{le_from_test, between_from}
 use Rattle.pc_box.specs.Boxes.{are_like, IsBox}
 use Rattle.pc_cells.specs.declared.cells.Cell.{Cell}
-use Rattle.pc_cells.specs.Found.{IsFilled, leaves_at, leaf_at, HoldsNumber, HasNumbers}
+use Rattle.pc_cells.specs.Found.{IsFilled, cell_at, leaves_at, leaf_at, HoldsNumber, HasNumbers}
 use Rattle.pc_cells_laws.proofs.Spans.{spanned_inside, above_least, below_greatest}
 
 -- ---- one side
@@ -61,26 +61,23 @@ module _ (column : ℕ) (leaves : List Region) (spans : All (λ (leaf : Region).
 
 -- ---- a cell at its place
 
-abbrev no_cell : Cell
-no_cell = record { mask = 0; chosen = false; leaves = [] }
-
-module _ (cells : List Cell) (place : ℕ) (there : place < length cells) (filled : All IsFilled cells) where
-  module _ (column : ℕ) (numbers : All (HasNumbers column) cells) (leaves : List Region) (same : leaves ≡ leaves_at cells place) (number : ℤ) where
+module _ (cells : List Cell) (place : ℕ) (filled : IsFilled (cell_at cells place)) where
+  module _ (column : ℕ) (numbers : HasNumbers column (cell_at cells place)) (leaves : List Region) (same : leaves ≡ leaves_at cells place) (number : ℤ) where
     pub cell_above : number ≡ least_low column leaves → (row : Row) → IsInSome (leaves_at cells place) row → number ≤ℤ number_at row column
     cell_above is row found =
-        subst (λ n. n ≤ℤ number_at row column) (sym (subst (λ (l : List Region). number ≡ least_low column l) same is)) (above_least column (leaves_at cells place) (numbers place no_cell there) row found)
+        subst (λ n. n ≤ℤ number_at row column) (sym (subst (λ (l : List Region). number ≡ least_low column l) same is)) (above_least column (leaves_at cells place) numbers row found)
 
     pub cell_below : number ≡ greatest_high column leaves → (row : Row) → IsInSome (leaves_at cells place) row → number_at row column ≤ℤ number
     cell_below is row found =
-        subst (λ n. number_at row column ≤ℤ n) (sym (subst (λ (l : List Region). number ≡ greatest_high column l) same is)) (below_greatest column (leaves_at cells place) (numbers place no_cell there) row found)
+        subst (λ n. number_at row column ≤ℤ n) (sym (subst (λ (l : List Region). number ≡ greatest_high column l) same is)) (below_greatest column (leaves_at cells place) numbers row found)
 
     module _ (leaf : ℕ) (inside : leaf < length leaves) where
       pub cell_holds_low : number ≡ low_at column (leaf_at leaves leaf) → HoldsNumber (leaves_at cells place) leaf column number
       cell_holds_low is =
-          holds_low column (leaves_at cells place) (numbers place no_cell there) (filled place no_cell there).boxes leaf number (subst (λ (l : List Region). leaf < length l) same inside)
+          holds_low column (leaves_at cells place) numbers filled.boxes leaf number (subst (λ (l : List Region). leaf < length l) same inside)
           (subst (λ (l : List Region). number ≡ low_at column (leaf_at l leaf)) same is)
 
       pub cell_holds_high : number ≡ high_at column (leaf_at leaves leaf) → HoldsNumber (leaves_at cells place) leaf column number
       cell_holds_high is =
-          holds_high column (leaves_at cells place) (numbers place no_cell there) (filled place no_cell there).boxes leaf number (subst (λ (l : List Region). leaf < length l) same inside)
+          holds_high column (leaves_at cells place) numbers filled.boxes leaf number (subst (λ (l : List Region). leaf < length l) same inside)
           (subst (λ (l : List Region). number ≡ high_at column (leaf_at l leaf)) same is)

@@ -37,8 +37,11 @@ pub record IsFilled (cell : Cell) : Type 0 where
 
 -- ---- one cell, and one of its leaves
 
+abbrev pub cell_at : List Cell → ℕ → Cell
+cell_at cells place = slice_index_or cells place (record { mask = 0; chosen = false; leaves = [] })
+
 abbrev pub leaves_at : List Cell → ℕ → List Region
-leaves_at cells place = (slice_index_or cells place (record { mask = 0; chosen = false; leaves = [] })).leaves
+leaves_at cells place = (cell_at cells place).leaves
 
 abbrev pub leaf_at : List Region → ℕ → Region
 leaf_at leaves place = slice_index_or leaves place (record { sides = [] })

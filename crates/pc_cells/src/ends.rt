@@ -1,7 +1,7 @@
-ghost use Rattle.std.specs.Prelude.{◌≡◌, ◌<◌, ◌^◌, true, false, length, All};
+ghost use Rattle.std.specs.Prelude.{◌≡◌, ◌<◌, ◌^◌, true, false, length};
 ghost use Rattle.pc_model.specs.Cells.{low_at, high_at, least_low, greatest_high};
 ghost use Rattle.pc_cells.specs.Ends.{end_at, further_end, is_past, last_end, IsFirstAt};
-ghost use Rattle.pc_cells.specs.Found.{IsFilled, leaves_at, leaf_at, HaveAtLeast, HaveAtMost, HoldsNumberIn, HasNumbers};
+ghost use Rattle.pc_cells.specs.Found.{IsFilled, cell_at, leaves_at, leaf_at, HaveAtLeast, HaveAtMost, HoldsNumberIn, HasNumbers};
 
 use crate::cells::Cells;
 use pc_model::{Region, Side};
@@ -19,8 +19,8 @@ impl Cells {
     /// The ends of a column of numbers over a cell.
     pub fn extreme(&self, cell: usize, column: u8) -> Ends
         requires there { cell < length self.now.cells }
-        requires filled { All IsFilled self.now.cells }
-        requires numbers { All (HasNumbers column) self.now.cells }
+        requires filled { IsFilled (cell_at self.now.cells cell) }
+        requires numbers { HasNumbers column (cell_at self.now.cells cell) }
         ensures low { result.low ≡ least_low column (leaves_at self.now.cells cell) }
         ensures high { result.high ≡ greatest_high column (leaves_at self.now.cells cell) }
         ensures above_low { HaveAtLeast (leaves_at self.now.cells cell) column result.low }

@@ -1,11 +1,11 @@
-ghost use Rattle.std.specs.Prelude.{◌≡◌, ◌<◌, true, length, All, IfOk, IfSome, slice_set};
+ghost use Rattle.std.specs.Prelude.{◌≡◌, ◌<◌, true, length, IfOk, IfSome, slice_set};
 ghost use Rattle.std.specs.Cmp.Lexicographic.{pointwise};
 ghost use Rattle.std.specs.List.{AllZip};
 ghost use Rattle.pc_model.specs.Membership.{has, holds};
 ghost use Rattle.pc_model.specs.CutTrees.{side_at};
 ghost use Rattle.pc_model.specs.Places.{is_place_of};
 ghost use Rattle.pc_box.specs.Boxes.{are_like, IsBox};
-ghost use Rattle.pc_cells.specs.Found.{IsFilled, leaves_at, leaf_in, HasNumber, HoldsNumberIn};
+ghost use Rattle.pc_cells.specs.Found.{IsFilled, cell_at, leaves_at, leaf_in, HasNumber, HoldsNumberIn};
 ghost use Rattle.pc_cells.specs.Lowest.{IsBelowPlaces, IsLeastOf, IsLowestBut};
 
 use crate::cells::Cells;
@@ -26,7 +26,7 @@ impl Cells {
     ) -> Result<Row, Memory>
         requires there { cell < length self.now.cells }
         requires leaf_there { leaf < length (leaves_at self.now.cells cell) }
-        requires filled { All IsFilled self.now.cells }
+        requires filled { IsFilled (cell_at self.now.cells cell) }
         requires held { IfSome column (λ at. HoldsNumberIn self.now.cells cell leaf at value) }
         ensures row { IfOk result (λ row. has (leaf_in self.now.cells cell leaf) row ≡ true) }
         ensures number { IfOk result (HasNumber column value) }
