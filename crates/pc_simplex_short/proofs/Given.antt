@@ -1,18 +1,16 @@
 -- Where a step makes what stands in short form, the numbers that it puts are small.
-use Rattle.std.proofs.Common.{◌≡◌, ℕ, zero, suc, ◌+◌, ◌-◌, ◌^◌, ◌<◌, ◌≤◌, ◌==◌, Bool, true, false, cond, List, ◌++◌, ◌∷◌, map, set, take, drop, length, get_or, All, Option, Some, None, refl, ap, ap₂, sym, subst, ◌∙◌, arith}
+use Rattle.std.proofs.Common.{◌≡◌, ℕ, zero, suc, ◌+◌, ◌-◌, ◌^◌, ◌<◌, ◌≤◌, ◌==◌, Bool, true, false, cond, List, map, length, get_or, All, Option, Some, None, refl, ap, sym, subst, ◌∙◌, arith}
 use Rattle.std.specs.Prelude.{ℤ, pos, neg_ℤ, nat_abs, ◌-ℤ◌, ◌*ℤ◌}
-use Rattle.std.proofs.lemmas.List.{length-map, length-set, get_or-map, get_or-set_same, get_or-set_other}
-use Rattle.std.proofs.lemmas.List.Elements.{All-set, All-map, All-from_get_or}
+use Rattle.std.proofs.lemmas.List.{length-map, length-set, get_or-set_same}
+use Rattle.std.proofs.lemmas.List.Elements.{All-map}
 use Rattle.pc_program_bound.specs.Sums.{int_at}
 use Rattle.pc_simplex_tableau.specs.Numbers.{primitive, combined, is_zero}
-use Rattle.pc_simplex_tableau.specs.Tableau.{TableauRow, Tableau, Columns, no_row, row_at, turned, freed_aim, pivoted, entering}
-use Rattle.pc_simplex_tableau.specs.Conditions.{aim_alone, row_in}
+use Rattle.pc_simplex_tableau.specs.Tableau.{TableauRow, Tableau, Columns, turned, entering}
 use Rattle.pc_simplex_tableau.proofs.Places.{length-combined, length-primitive}
-use Rattle.pc_simplex_tableau.proofs.Pivoting.{IsSplit}
-use Rattle.pc_simplex_short.specs.Short.{ShortSetting, entry, spelled_numbers, spelled_aim, spelled, flipped, lowered, turned_short, freed_short}
-use Rattle.pc_simplex_short.specs.Kept.{IsWithin, IsSetting, IsShortRow, IsSmallRow, IsShort}
-use Rattle.pc_simplex_short.specs.Stays.{HasShort, HasShortAim, IsShortAt, StaysShort, stepped, after_steps}
-use Rattle.pc_simplex_short.proofs.Alike.{AreLong, small_rows, aim_held}
+use Rattle.pc_simplex_short.specs.Short.{ShortSetting, entry, spelled, flipped, lowered, turned_short, freed_short}
+use Rattle.pc_simplex_short.specs.Kept.{IsWithin, IsSetting, IsSmallRow, IsShort}
+use Rattle.pc_simplex_short.specs.Stays.{HasShort, IsShortAt, StaysShort, stepped, after_steps}
+use Rattle.pc_simplex_short.proofs.Alike.{small_rows}
 use Rattle.pc_simplex_short.proofs.Flips.{at_signed, left_by, turned-spelled}
 use Rattle.pc_simplex_short.proofs.Multiples.{size_of_signed}
 
@@ -79,16 +77,18 @@ after-zero : (f : Columns) (t : Tableau) → after_steps f zero t ≡ t
 unfolding after_steps
 after-zero f t = refl
 
-pub stays_here : (f : ShortSetting) (left c : ℕ) (t : Tableau) → (left ≡ 0 → ⊥) → Some c ≡ entering f.columns t → StaysShort f left t → IsShortAt f c t
+pub stays_here : (f : ShortSetting) (left c : ℕ) (t : Tableau) → (left ≡ 0 → ⊥) → Some c ≡ entering f.columns (spelled f t) → StaysShort f left t
+    → IsShortAt f c (spelled f t)
 stays_here f left c t some enters stays =
-    let same = after-zero f.columns t in
+    let same = after-zero f.columns (spelled f t) in
     subst (IsShortAt f c) same (stays.each 0 c (omega (arith, some)) (subst (λ now. Some c ≡ entering f.columns now) (sym same) enters))
 
-pub stays_further : (f : ShortSetting) (left c : ℕ) (t next : Tableau) → (left ≡ 0 → ⊥) → Some c ≡ entering f.columns t → next ≡ stepped f.columns c t
+pub stays_further : (f : ShortSetting) (left c : ℕ) (t next : Tableau) → (left ≡ 0 → ⊥) → Some c ≡ entering f.columns (spelled f t) → spelled f next ≡ stepped f.columns c (spelled f t)
     → StaysShort f left t → StaysShort f (left - 1) next
 stays_further f left c t next some enters is stays = record { each = each }
   where
-    each : (n d : ℕ) → n < left - 1 → Some d ≡ entering f.columns (after_steps f.columns n next) → IsShortAt f d (after_steps f.columns n next)
+    each : (n d : ℕ) → n < left - 1 → Some d ≡ entering f.columns (after_steps f.columns n (spelled f next)) → IsShortAt f d (after_steps f.columns n (spelled f next))
     each n d lt found =
-        let same : after_steps f.columns (suc n) t ≡ after_steps f.columns n next = after-suc f.columns n c t enters ∙ ap (after_steps f.columns n) (sym is) in
+        let same : after_steps f.columns (suc n) (spelled f t) ≡ after_steps f.columns n (spelled f next) =
+        after-suc f.columns n c (spelled f t) enters ∙ ap (after_steps f.columns n) (sym is) in
         subst (IsShortAt f d) same (stays.each (suc n) d (omega (arith, lt)) (subst (λ now. Some d ≡ entering f.columns now) (sym same) found))

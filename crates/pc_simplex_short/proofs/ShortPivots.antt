@@ -7,7 +7,7 @@ use Rattle.pc_program_bound.specs.Sums.{int_at}
 use Rattle.pc_simplex_tableau.specs.Numbers.{is_zero}
 use Rattle.pc_simplex_tableau.specs.Tableau.{TableauRow, Tableau, no_row, row_at, freed_row, combined_aim, freed_aim, pivoted}
 use Rattle.pc_simplex_tableau.specs.Conditions.{aim_alone, row_in}
-use Rattle.pc_simplex_short.specs.Short.{ShortSetting, spelled_numbers, spelled_row, spelled_aim, spelled, freed_short}
+use Rattle.pc_simplex_short.specs.Short.{ShortSetting, spelled_numbers, spelled_row, spelled_aim, spelled, freed_short, aim_from}
 use Rattle.pc_simplex_short.specs.Kept.{IsWithin, IsSetting, IsShortRow, IsSmallRow, IsShort}
 use Rattle.pc_simplex_short.specs.Stays.{HasShort, HasShortAim}
 use Rattle.pc_simplex_short.proofs.Alike.{AreLong, small_rows, aim_held}
@@ -112,9 +112,6 @@ module _ (f : ShortSetting) (h : IsSetting f) (t : Tableau) (s : IsShort f t) (c
         pivoted_by numbers = with_rows (freed_aim c numbers (spelled f t)) (set (map (freed_row c numbers) (map (spelled_row f t.turned) t.rows)) r (own_row numbers))
 
 -- ---- as the code does it, in whose hands the parts of the tableau are
-
-abbrev aim_from : ShortSetting → ℕ → List Bool → List ℤ → ℤ → List ℤ → Tableau
-aim_from f c turned numbers weight aim = freed_aim c (spelled_numbers f turned numbers) (aim_alone (spelled_aim f turned weight aim) weight)
 
 module _ (f : ShortSetting) (h : IsSetting f) (t now : Tableau) (view : t ≡ now) (s : IsShort f now) (c r : ℕ) (column : c < f.columns.count) (lt : r < length now.rows)
     (row : TableauRow) (row_is : row ≡ get_or t.rows r row) where

@@ -2,7 +2,8 @@ ghost use Rattle.std.specs.Prelude.{◌≡◌, ◌<◌, ◌*ℤ◌, ◌-ℤ◌, 
 ghost use Rattle.pc_program_bound.specs.Sums.{int_at};
 ghost use Rattle.pc_program_bound.specs.Bound.{IsFit};
 ghost use Rattle.pc_simplex_short.specs.Short.{entry, turned_short, freed_short};
-ghost use Rattle.pc_simplex_short.specs.Kept.{IsWithin, IsSetting, IsShortRow, IsSmallRow};
+ghost use Rattle.pc_simplex_short.specs.Kept.{IsWithin, IsSetting, IsShortRow};
+ghost use Rattle.pc_simplex_short.specs.Stays.{IsSmallTurned, IsSmallFreed};
 
 use crate::entry::entry;
 use crate::reduce::reduce;
@@ -41,7 +42,7 @@ impl ShortRow {
         requires column { column < setting.now.columns.count }
         ensures turned { IsTrue result → self.new ≡ turned_short setting.now turned.now column range self.old }
         ensures short { IsTrue result → IsShortRow setting.now self.new }
-        ensures given { IsSmallRow (turned_short setting.now turned.now column range self.old) → IsTrue result }
+        ensures given { IsSmallTurned setting.now turned.now column range self.old → IsTrue result }
     {
         let entry = entry(setting, turned, self.numbers.as_slice(), column);
         turn_numbers(
@@ -70,7 +71,7 @@ impl ShortRow {
         requires column { column < setting.now.columns.count }
         ensures freed { IsTrue result → self.new ≡ freed_short setting.now turned.now column other.now self.old }
         ensures short { IsTrue result → IsShortRow setting.now self.new }
-        ensures given { IsSmallRow (freed_short setting.now turned.now column other.now self.old) → IsTrue result }
+        ensures given { IsSmallFreed setting.now turned.now column other.now self.old → IsTrue result }
     {
         let own = entry(setting, turned, self.numbers.as_slice(), column);
         if own == 0 {

@@ -32,7 +32,7 @@ pub fn take_steps(
     requires short { IsShort setting.now start }
     ensures value { IfOk result (λ o. IfSome o (λ r. run_of setting.now r ≡ run setting.now.columns most taken (spelled setting.now start))) }
     ensures short { IfOk result (λ o. IfSome o (IsShortEnd setting.now)) }
-    ensures given { StaysShort setting.now most (spelled setting.now start) → IfOk result (λ o. IsSome o) }
+    ensures given { StaysShort setting.now most start → IfOk result (λ o. IsSome o) }
 {
     let mut tableau = start;
     let mut left = most;

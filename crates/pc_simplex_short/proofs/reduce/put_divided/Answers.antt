@@ -1,9 +1,8 @@
-use Rattle.std.proofs.Common.{◌≡◌, ◌<◌, ◌-ℤ◌, ◌*ℤ◌, ◌∙◌, pos, get_or, length, to_z-of_z, ap, arith}
+use Rattle.std.proofs.Common.{◌≡◌, ◌<◌, ◌-ℤ◌, ◌*ℤ◌, pos, get_or, length, to_z-of_z, arith}
 use Rattle.std.specs.Int.{int_div_euclid}
-use Rattle.pc_program_bound.specs.Bound.{IsFit}
 use Rattle.pc_num.proofs.Signed.{passed}
 use Rattle.pc_simplex_short.specs.Kept.{IsWithin}
-use Rattle.pc_simplex_short.proofs.Reducing.{reduced_start, reduced_more, reduced_end, reduced_read, reduced_small, made_fits}
+use Rattle.pc_simplex_short.proofs.Reducing.{reduced_start, reduced_more, reduced_end, reduced_small}
 use Rattle.pc_simplex_short.proofs.Words.{FitsWord, passed_word}
 use Rattle.pc_simplex_short.proofs.reduce.put_divided.Goals as goal
 

@@ -1,4 +1,4 @@
-use Rattle.std.proofs.Common.{◌∙◌, to_z-of_z, pos, All, sym, subst, arith}
+use Rattle.std.proofs.Common.{◌∙◌, to_z-of_z, All, sym, subst, arith}
 use Rattle.std.proofs.lemmas.Int.{ints}
 use Rattle.pc_num.proofs.Signed.{passed}
 use Rattle.pc_simplex_tableau.specs.Numbers.{combined}

@@ -28,4 +28,4 @@ returns-clause-value c =
 pub returns-in-None-clause-given : goal.returns-in-None-clause-given
 returns-in-None-clause-given c all =
     let l = c.loop-enters in
-    c.in-None.ensures.given (stays_here c.args.setting.now l.left c.in-Some.enters (spelled c.args.setting.now l.tableau) c.if-left-eq0.false c.in-Some.ensures.value (l.invariant.stays all))
+    c.in-None.ensures.given (stays_here c.args.setting.now l.left c.in-Some.enters l.tableau c.if-left-eq0.false c.in-Some.ensures.value (l.invariant.stays all))
