@@ -13,7 +13,8 @@ Leaves (Some old) (Some new) piece All = new ≡ old ++ piece
 Leaves (Some old) (Some new) piece Failed = (n : ℕ) × (new ≡ old ++ take n piece)
 Leaves (Some old) (Some new) piece Memory = new ≡ old
 
+-- a put that failed is counted, and one of the whole piece is not
 abbrev pub HasPutCause : ℕ → ℕ → Put → Type 0
 HasPutCause before now Failed = Rose before now
-HasPutCause before now All = ⊤
+HasPutCause before now All = now ≡ before
 HasPutCause before now Memory = ⊤

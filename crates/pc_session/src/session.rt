@@ -1,10 +1,12 @@
 ghost use Rattle.std.specs.Prelude.{◌≡◌, ◌+◌, ◌*◌, ◌<◌, ◌≤◌, ◌∷◌, ◌++◌, [], true, length, IfOk, OnErr, OnOk};
 ghost use Rattle.std.specs.List.{AllPass, remove};
+ghost use Rattle.pc_model.specs.declared.tree.LeafMark.TheVariants.{Barren};
+ghost use Rattle.pc_model.specs.declared.tree.CutNode.TheVariants as forms;
 ghost use Rattle.pc_model.specs.Accepted.{AreConstraints};
 ghost use Rattle.pc_model.specs.Membership.{in_domain};
 ghost use Rattle.pc_model.specs.Regions.{whole_area};
 ghost use Rattle.pc_model.specs.WellFormed.{IsWellFormed, HaveFewNames};
-ghost use Rattle.pc_cells_tree.specs.Linked.{KeepsInner, leaf_count};
+ghost use Rattle.pc_cells_tree.specs.Linked.{HasNeededCuts, KeepsInner, leaf_count};
 ghost use Rattle.pc_rows.specs.Stored.{row_limit};
 ghost use Rattle.pc_session.specs.Edited.{CanEdit, edited};
 ghost use Rattle.pc_session.specs.Sessions.{AddsOneBox, IsHeldOver, IsOfRows, IsSession, held_by};
@@ -44,6 +46,7 @@ impl Session {
         ensures rows { IfOk result (λ session. session.rows ≡ rows) }
         ensures constraints { IfOk result (λ session. session.constraints ≡ constraints) }
         ensures session { IfOk result IsSession }
+        ensures needed { IfOk result (λ session. HasNeededCuts schema constraints (whole_area schema) (forms.Leaf Barren ∷ []) session.tree.nodes) }
     {
         let whole = schema.whole_area(alloc)?;
         let mut tree = Shared::new(alloc, &schema)?;
@@ -65,6 +68,7 @@ impl Session {
         ensures schema { self.new.schema ≡ self.old.schema }
         ensures session { IsSession self.new }
         ensures kept { KeepsInner self.old.tree.nodes self.new.tree.nodes }
+        ensures needed { HasNeededCuts self.old.schema self.new.constraints (whole_area self.old.schema) self.old.tree.nodes self.new.tree.nodes }
         ensures cuts { IfOk result (λ cuts. length self.new.tree.nodes ≡ length self.old.tree.nodes + 2 * cuts) }
         ensures of_rows { IsOfRows edit → IfOk result (λ cuts. (cuts ≡ 0) × (self.new.tree ≡ self.old.tree)) }
         ensures frugal { AddsOneBox edit → IfOk result (λ cuts. cuts ≤ 4 * length self.old.schema.columns * leaf_count self.old.tree.nodes) }
