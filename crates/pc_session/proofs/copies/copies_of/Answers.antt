@@ -8,6 +8,7 @@ loop-constraint-preserved c =
     let constraints = c.args.constraints.now in
     let place = c.loop-constraint.constraint-index in
     let constraint = c.constraint-item.result in
+    let same : c.in_ok-copy.copy ≡ constraint = search rules in
     let pushed : c.push.new.self ≡ c.loop-constraint.copies ++ c.in_ok-copy.copy ∷ [] = search rules in
-    pushed ∙ ap (λ (copy : Constraint). c.loop-constraint.copies ++ copy ∷ []) (c.in_ok-copy.ensures ∙ c.constraint-item.is)
+    pushed ∙ ap (λ (copy : Constraint). c.loop-constraint.copies ++ copy ∷ []) (same ∙ c.constraint-item.is)
     ∙ ap (λ (copies : List Constraint). copies ++ get_or constraints place constraint ∷ []) c.loop-constraint.invariant ∙ sym (take_more constraints place constraint c.loop-constraint-test.true)
