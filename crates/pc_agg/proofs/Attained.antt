@@ -44,11 +44,11 @@ signed_twice : (extreme : Extreme) (n : ℤ) → signed extreme (signed extreme 
 signed_twice High n = refl
 signed_twice Low n = omega (arith, ints)
 
-signed_sum : (extreme : Extreme) (f : Row → ℤ) (rows : List Row) → int_sum (map (λ row. signed extreme (f row)) rows) ≡ signed extreme (int_sum (map f rows))
+pub signed_sum : (extreme : Extreme) (f : Row → ℤ) (rows : List Row) → int_sum (map (λ row. signed extreme (f row)) rows) ≡ signed extreme (int_sum (map f rows))
 signed_sum High f rows = refl
 signed_sum Low f rows = int_sum-neg f rows
 
-sum_alike : (f g : Row → ℤ) (rows : List Row) → All (λ row. f row ≡ g row) rows → int_sum (map f rows) ≡ int_sum (map g rows)
+pub sum_alike : (f g : Row → ℤ) (rows : List Row) → All (λ row. f row ≡ g row) rows → int_sum (map f rows) ≡ int_sum (map g rows)
 sum_alike f g [] same = refl
 sum_alike f g (row ∷ rows) same = ap₂ (λ a b. a +ℤ b) (All-head (λ r. f r ≡ g r) row rows same) (sum_alike f g rows (All-tail (λ r. f r ≡ g r) row rows same))
 

@@ -5,6 +5,7 @@ use Rattle.std.specs.List.{AllZip}
 use Rattle.std.proofs.lemmas.Int.{ints}
 use Rattle.std.proofs.lemmas.List.{length-map}
 use Rattle.std.proofs.lemmas.List.Elements.{All-nil, All-cons, All-map}
+use Rattle.pc_num.specs.Scaled.{greatest_size}
 use Rattle.pc_model.specs.declared.schema.Schema.{Schema}
 use Rattle.pc_model.specs.declared.row.Row.{Row}
 use Rattle.pc_model.specs.declared.constraint.Constraint.{Constraint}
@@ -35,18 +36,18 @@ use Rattle.pc_agg.specs.Observed.{folded_value}
 
 -- ---- what a row adds
 
-if_small : (test : Bool) (n : ℤ) → nat_abs n ≤ 10 ^ 15 → nat_abs (cond test n (pos 0)) ≤ 10 ^ 15
+if_small : (test : Bool) (n : ℤ) → nat_abs n ≤ greatest_size → nat_abs (cond test n (pos 0)) ≤ greatest_size
 if_small true n small = small
 if_small false n small = omega arith
 
-adds_small : (schema : Schema) (agg : Agg) (query : Query) (row : Row) → IsWellFormed schema → in_domain schema row ≡ true → nat_abs (adds agg query row) ≤ 10 ^ 15
+adds_small : (schema : Schema) (agg : Agg) (query : Query) (row : Row) → IsWellFormed schema → in_domain schema row ≡ true → nat_abs (adds agg query row) ≤ greatest_size
 adds_small schema Count query row formed allowed = if_small (is_in query.chosen row) (pos 1) (omega arith)
 adds_small schema Sum query row formed allowed = if_small (is_in query.chosen row) (asked query row) (asked_small schema query row formed allowed)
 adds_small schema Min query row formed allowed = omega arith
 adds_small schema Max query row formed allowed = omega arith
 adds_small schema Avg query row formed allowed = omega arith
 
-signed_small : (extreme : Extreme) (n : ℤ) → nat_abs n ≤ 10 ^ 15 → nat_abs (signed extreme n) ≤ 10 ^ 15
+signed_small : (extreme : Extreme) (n : ℤ) → nat_abs n ≤ greatest_size → nat_abs (signed extreme n) ≤ greatest_size
 signed_small Low n small = omega (arith, ints, small)
 signed_small High n small = small
 
@@ -54,11 +55,11 @@ signed_small High n small = small
 
 module _ (s : Setting) (formed : IsWellFormed s.question.schema) (agg : Agg) (extreme : Extreme) where
   abbrev IsSmallGain : Class → Type 0
-  IsSmallGain class = nat_abs (gain_towards s agg extreme class) ≤ 10 ^ 15
+  IsSmallGain class = nat_abs (gain_towards s agg extreme class) ≤ greatest_size
 
   gain_small : (class : Class) (row : Row) → IsPick s agg extreme class row → IsSmallGain class
   gain_small class row pick =
-      subst (λ n. nat_abs n ≤ 10 ^ 15) pick.adds
+      subst (λ n. nat_abs n ≤ greatest_size) pick.adds
       (signed_small extreme (adds agg s.question.query row) (adds_small s.question.schema agg s.question.query row formed pick.of_cell.allowed))
 
   each_small : (classes : List Class) (picks : List Row) → AllZip (IsPick s agg extreme) classes picks → All IsSmallGain classes
@@ -81,8 +82,8 @@ module _ (schema : Schema) (constraints : List Constraint) (query : Query) (node
   most_small =
       let rows = have_rows schema constraints query.chosen nodes formed tree in
       let many = many_cells schema constraints query.chosen (cells u) rows (classes_of-differ (leaves_in schema nodes)) in
-      let small = All-map (λ g. nat_abs g ≤ 10 ^ 15) (gain_towards u query.agg extreme) (cells u) (each_small u formed query.agg extreme (cells u) aim.picks is.picked) in
-      let most = worth_at_most constraints (cells u) gains schema limited many (length-map (cells u) (gain_towards u query.agg extreme)) (10 ^ 15) small in
+      let small = All-map (λ g. nat_abs g ≤ greatest_size) (gain_towards u query.agg extreme) (cells u) (each_small u formed query.agg extreme (cells u) aim.picks is.picked) in
+      let most = worth_at_most constraints (cells u) gains schema limited many (length-map (cells u) (gain_towards u query.agg extreme)) (greatest_size) small in
       let gained = is.limit.gained in
       omega (arith, ints, most, gained)
 

@@ -60,7 +60,7 @@ use Rattle.pc_agg.proofs.Ending.{IsEndDone, IsDone, end_done, end_exact}
 use Rattle.pc_agg.proofs.Questions.{posed, tree_for}
 
 -- nothing shown has counts in an empty list
-none_among : (s : Setting) (answer : Answer) (found : List (List ℕ)) → found ≡ [] → ShownFrom s found answer → (P : List Run → Type 0) → All P (shown_runs answer)
+pub none_among : (s : Setting) (answer : Answer) (found : List (List ℕ)) → found ≡ [] → ShownFrom s found answer → (P : List Run → Type 0) → All P (shown_runs answer)
 none_among s answer found none from P place d inside =
     let there = subst (λ l. Contains l (counts_of_runs s (get_or (shown_runs answer) place d))) none (from place d inside) in
     absurd (omega (arith, there.1))

@@ -43,7 +43,7 @@ key_some extreme (Some n) = refl
 
 -- ---- of a question that is asked
 
-some_here : (column : Option ℕ) (P : ℕ → Type 0) (Q : Type 0) → IsSomeAnd column P → IfSome column (λ _. Q) → Q
+pub some_here : (column : Option ℕ) (P : ℕ → Type 0) (Q : Type 0) → IsSomeAnd column P → IfSome column (λ _. Q) → Q
 some_here None P Q some known = absurd some
 some_here (Some named) P Q some known = known
 

@@ -1,9 +1,10 @@
 -- The keys of the cells are small.
-use Rattle.std.proofs.Common.{ℕ, ◌≤◌, ◌^◌, ℤ, pos, Bool, true, false, cond, List, [], ◌∷◌, map, All, subst, arith}
+use Rattle.std.proofs.Common.{ℕ, ◌≤◌, ℤ, pos, Bool, true, false, cond, List, [], ◌∷◌, map, All, subst, arith}
 use Rattle.std.specs.Prelude.{nat_abs}
 use Rattle.std.specs.List.{AllZip}
 use Rattle.std.proofs.lemmas.Int.{ints}
 use Rattle.std.proofs.lemmas.List.Elements.{All-nil, All-cons, All-map}
+use Rattle.pc_num.specs.Scaled.{greatest_size}
 use Rattle.pc_model.specs.declared.row.Row.{Row}
 use Rattle.pc_model.specs.Aggregate.{asked}
 use Rattle.pc_model.specs.Cells.{Class}
@@ -19,18 +20,18 @@ signed_small : (extreme : Extreme) (n : ℤ) (most : ℕ) → nat_abs n ≤ most
 signed_small Low n most small = omega (arith, ints, small)
 signed_small High n most small = small
 
-if_chosen : (chosen : Bool) (n : ℤ) → nat_abs n ≤ 10 ^ 15 → nat_abs (cond chosen n (pos 0)) ≤ 10 ^ 15
+if_chosen : (chosen : Bool) (n : ℤ) → nat_abs n ≤ greatest_size → nat_abs (cond chosen n (pos 0)) ≤ greatest_size
 if_chosen true n small = small
 if_chosen false n small = omega arith
 
 module _ (s : Setting) (extreme : Extreme) (formed : IsWellFormed s.question.schema) where
   abbrev pub IsSmallKey : Class → Type 0
-  IsSmallKey class = nat_abs (on_chosen (key_of s extreme) class) ≤ 10 ^ 15
+  IsSmallKey class = nat_abs (on_chosen (key_of s extreme) class) ≤ greatest_size
 
   key_small : (class : Class) (row : Row) → IsAtEnd s extreme class row → IsSmallKey class
   key_small class row at_end =
-      if_chosen class.chosen (key_of s extreme class) (subst (λ n. nat_abs n ≤ 10 ^ 15) at_end.number
-      (signed_small extreme (asked s.question.query row) (10 ^ 15) (asked_small s.question.schema s.question.query row formed at_end.of_cell.allowed)))
+      if_chosen class.chosen (key_of s extreme class) (subst (λ n. nat_abs n ≤ greatest_size) at_end.number
+      (signed_small extreme (asked s.question.query row) (greatest_size) (asked_small s.question.schema s.question.query row formed at_end.of_cell.allowed)))
 
   pub each_small : (classes : List Class) (picks : List Row) → AllZip (IsAtEnd s extreme) classes picks → All IsSmallKey classes
   each_small [] [] picked = All-nil IsSmallKey
@@ -38,5 +39,5 @@ module _ (s : Setting) (extreme : Extreme) (formed : IsWellFormed s.question.sch
   each_small (class ∷ classes) [] picked = absurd picked
   each_small (class ∷ classes) (row ∷ picks) picked = All-cons IsSmallKey class classes (key_small class row picked.0) (each_small classes picks picked.1)
 
-  pub keys_small : (classes : List Class) (picks : List Row) → AllZip (IsAtEnd s extreme) classes picks → All (λ n. nat_abs n ≤ 10 ^ 15) (map (on_chosen (key_of s extreme)) classes)
-  keys_small classes picks picked = All-map (λ n. nat_abs n ≤ 10 ^ 15) (on_chosen (key_of s extreme)) classes (each_small classes picks picked)
+  pub keys_small : (classes : List Class) (picks : List Row) → AllZip (IsAtEnd s extreme) classes picks → All (λ n. nat_abs n ≤ greatest_size) (map (on_chosen (key_of s extreme)) classes)
+  keys_small classes picks picked = All-map (λ n. nat_abs n ≤ greatest_size) (on_chosen (key_of s extreme)) classes (each_small classes picks picked)

@@ -82,7 +82,7 @@ module _ (schema : Schema) (constraints : List Constraint) (chosen : Area) (clas
 
 -- ---- sizes
 
-sum_at_most : (n m : ℕ) (f : ℕ → ℤ) → ((i : ℕ) → i < n → f i ≤ℤ pos m) → sum_below n f ≤ℤ pos (n * m)
+pub sum_at_most : (n m : ℕ) (f : ℕ → ℤ) → ((i : ℕ) → i < n → f i ≤ℤ pos m) → sum_below n f ≤ℤ pos (n * m)
 sum_at_most zero m f each = rw (sum_below-zero f) (omega (arith, ints))
 sum_at_most (suc n) m f each =
     let before = sum_at_most n m f (λ i h. each i (omega arith)) in

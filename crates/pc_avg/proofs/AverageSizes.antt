@@ -7,6 +7,7 @@ use Rattle.std.proofs.Math.Nat.{dvd-mul_left}
 use Rattle.std.proofs.lemmas.Int.{ints, unsigned_abs-mul}
 use Rattle.std.proofs.lemmas.List.Elements.{All-filter, All-map}
 use Rattle.std.proofs.lemmas.Nat.Gcd.{le_of_dvd}
+use Rattle.pc_num.specs.Scaled.{greatest_size}
 use Rattle.pc_num.specs.declared.fraction.Frac.{Frac}
 use Rattle.pc_num.specs.Fractions.{IsFrac}
 use Rattle.pc_num.proofs.Divisors.{gauss}
@@ -78,11 +79,11 @@ least_num v n d lowest same below =
     omega (arith, ints, less)
 
 -- the lesser of a fraction that is not far below 0 and of a small whole number
-module _ (v : Frac) (n d key : ℤ) (lowest : IsFrac v) (few : v.den ≤ℤ pos (3 * 10 ^ 16)) (positive : pos 0 <ℤ d) (small : nat_abs key ≤ 10 ^ 15) (from : neg_ℤ (pos (3 * 10 ^ 31)) ≤ℤ n) where
+module _ (v : Frac) (n d key : ℤ) (lowest : IsFrac v) (few : v.den ≤ℤ pos (3 * 10 ^ 16)) (positive : pos 0 <ℤ d) (small : nat_abs key ≤ greatest_size) (from : neg_ℤ (pos (3 * 10 ^ 31)) ≤ℤ n) where
   product_small : nat_abs (v.den *ℤ key) ≤ 3 * 10 ^ 31
   product_small =
       let above = lowest.above in
-      let size = size_of_product-le v.den key (3 * 10 ^ 16) (10 ^ 15) (omega (arith, ints, few, above)) small in
+      let size = size_of_product-le v.den key (3 * 10 ^ 16) (greatest_size) (omega (arith, ints, few, above)) small in
       omega (arith, size)
 
   module _ (same : v.num *ℤ d ≡ n *ℤ v.den) where
@@ -121,7 +122,7 @@ module _ (v : Frac) (n d key : ℤ) (lowest : IsFrac v) (few : v.den ≤ℤ pos 
       let turned' = *ℤ_comm key v.den in
       omega (arith, ints, size, is, turned')
 
-pub value_formed : (f : Fractional) (key : ℤ) (budget : ℕ) (first : Ratio) (ratio : Frac) (counts : List ℕ) (tree : Tree) (value : Frac) → f.count ≤ 1_000_000 → nat_abs key ≤ 10 ^ 15 →
+pub value_formed : (f : Fractional) (key : ℤ) (budget : ℕ) (first : Ratio) (ratio : Frac) (counts : List ℕ) (tree : Tree) (value : Frac) → f.count ≤ 1_000_000 → nat_abs key ≤ greatest_size →
     IsAbove f key budget first ratio counts tree value → IsFormedRatio value
 value_formed f key budget first ratio counts tree value few small above =
     let top = ratio.num *ℤ fewest_rows f +ℤ (over_before f (ratio_of ratio) +ℤ above.bound) in
@@ -144,7 +145,7 @@ module _ (schema : Schema) (constraints : List Constraint) (query : Query) (seen
   s = setting_for schema constraints query seen nodes asking
 
   abbrev IsSmall : ℤ → Type 0
-  IsSmall n = nat_abs n ≤ 10 ^ 15
+  IsSmall n = nat_abs n ≤ greatest_size
 
   numbers_small : AreObserved s → All IsSmall (seen_numbers s.question)
   numbers_small inside =
@@ -160,7 +161,7 @@ module _ (schema : Schema) (constraints : List Constraint) (query : Query) (seen
       let small : IsSmall (neg_ℤ key) = subst (λ (o : Option ℤ). IfSome o IsSmall) least (least_keeps IsSmall (seen_numbers s.question) (numbers_small inside)) in
       omega (arith, ints, small)
 
-  pub key_small : (extreme : Extreme) (side : Side) → IsSide u seen extreme side → (key : ℤ) → side.outermost ≡ Some key → AreObserved s → nat_abs key ≤ 10 ^ 15
+  pub key_small : (extreme : Extreme) (side : Side) → IsSide u seen extreme side → (key : ℤ) → side.outermost ≡ Some key → AreObserved s → nat_abs key ≤ greatest_size
   key_small extreme side is key key_is inside = by_origin own.of_cell
     where
       own : IsOutermostKey u extreme (observed_key seen extreme) key

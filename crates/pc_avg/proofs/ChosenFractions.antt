@@ -1,9 +1,10 @@
 -- The fraction of the chosen rows of cells meets what its greatest ratio asks.
-use Rattle.std.proofs.Common.{◌≡◌, ℕ, ◌<◌, ◌≤◌, ◌*◌, ◌^◌, ℤ, pos, Bool, true, false, cond, inl, inr, ◌⊎◌, List, length, get_or, All, Contains, refl, sym, subst, ◌∙◌, arith}
+use Rattle.std.proofs.Common.{◌≡◌, ℕ, ◌<◌, ◌≤◌, ◌*◌, ℤ, pos, Bool, true, false, cond, inl, inr, ◌⊎◌, List, length, get_or, All, Contains, refl, sym, subst, ◌∙◌, arith}
 use Rattle.std.specs.Prelude.{nat_abs}
 use Rattle.std.specs.List.{AllZip}
 use Rattle.std.proofs.lemmas.List.{length-map, get_or-map}
 use Rattle.std.proofs.lemmas.List.Elements.{All-weaker, All-contains_itself}
+use Rattle.pc_num.specs.Scaled.{greatest_size}
 use Rattle.pc_model.specs.declared.schema.Schema.{Schema}
 use Rattle.pc_model.specs.declared.row.Row.{Row}
 use Rattle.pc_model.specs.declared.constraint.Constraint.{Constraint}
@@ -73,13 +74,13 @@ module _ (schema : Schema) (constraints : List Constraint) (query : Query) (node
       either (inl none) = inl none.0
       either (inr one) = inr one
 
-  pub small_keys : All (λ n. nat_abs n ≤ 10 ^ 15) sums.gain
+  pub small_keys : All (λ n. nat_abs n ≤ greatest_size) sums.gain
   small_keys = keys_small u extreme formed (cells u) picks picked
 
   sized_sums : length sums.gain ≡ allocations.cells_of rows
   sized_sums = length-map (cells u) (on_chosen (key_of u extreme)) ∙ sym (length-map (cells u) (λ (class : Class). class.mask))
 
-  pub is_fractional : (own_rows own_sums : Program) (count : ℕ) (sum : ℤ) → own_rows ≡ rows → own_sums ≡ sums → count ≤ 1_000_000 → nat_abs sum ≤ 1_000_000 * 10 ^ 15 → (count ≡ 0 → sum ≡ pos 0)
+  pub is_fractional : (own_rows own_sums : Program) (count : ℕ) (sum : ℤ) → own_rows ≡ rows → own_sums ≡ sums → count ≤ 1_000_000 → nat_abs sum ≤ 1_000_000 * greatest_size → (count ≡ 0 → sum ≡ pos 0)
       → IsFractional (record { rows = own_rows; sums = own_sums; count = count; sum = sum })
   is_fractional own_rows own_sums count sum rows_are sums_are few small none =
       subst (λ (r : Program). IsFractional (record { rows = r; sums = own_sums; count = count; sum = sum })) (sym rows_are)

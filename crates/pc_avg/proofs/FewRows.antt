@@ -1,5 +1,5 @@
 -- How many rows the cells can have: what the constraints allow together, and what the caps allow.
-use Rattle.std.proofs.Common.{◌≡◌, ℕ, zero, suc, ◌+◌, ◌*◌, ◌/◌, ◌^◌, ◌<◌, ◌≤◌, min, ℤ, pos, ◌+ℤ◌, ◌*ℤ◌, ◌≤ℤ◌, Bool, true, false, cond, inl, inr, ◌⊎◌, List, [], ◌∷◌, length, map, get_or, All, AllPairs, refl, sym, ap, subst, ◌∙◌, arith}
+use Rattle.std.proofs.Common.{◌≡◌, ℕ, suc, ◌+◌, ◌*◌, ◌/◌, ◌^◌, ◌<◌, ◌≤◌, min, ℤ, pos, ◌+ℤ◌, ◌*ℤ◌, ◌≤ℤ◌, Bool, true, false, cond, inl, inr, ◌⊎◌, List, [], ◌∷◌, length, map, get_or, All, AllPairs, refl, sym, ap, subst, ◌∙◌, arith}
 use Rattle.std.specs.Prelude.{unwrap_or, if◌then◌else◌}
 use Rattle.std.specs.List.{reduce}
 use Rattle.std.proofs.Math.Nat.{mul-le-mul_right}
@@ -18,19 +18,11 @@ use Rattle.pc_program_bound.specs.Sums.{sum_below, nat_at, int_at}
 use Rattle.pc_program_bound.specs.Allocation.{IsAllocation, cells_of, constraints_of, count_for, total, worth}
 use Rattle.pc_program_bound.specs.CellPrograms.{members, cap_of, program_with}
 use Rattle.pc_program_bound.proofs.CellPlaces.{no_class, no_constraint, cell_inside, constraint_inside, mask_is, cap_is, most_is}
-use Rattle.pc_program_bound.proofs.SumBelow.{sum_below-zero, sum_below-suc, sum_below-same, sum_below-zeros, sum_below-swap, sum_below_mono, sum_below-front}
+use Rattle.pc_program_bound.proofs.SumBelow.{sum_below-zero, sum_below-same, sum_below-zeros, sum_below-swap, sum_below_mono, sum_below-front}
 use Rattle.pc_avg_ratio.specs.Fractional.{most_added, most_room}
 use Rattle.pc_agg_search.proofs.CellPrograms.{cap_small}
-use Rattle.pc_agg_search.proofs.ManyCells.{many_cells}
+use Rattle.pc_agg_search.proofs.ManyCells.{many_cells, sum_at_most}
 use Rattle.pc_agg_search.proofs.NestedCells.{Differ}
-
-sum_small : (n m : ℕ) (f : ℕ → ℤ) → ((i : ℕ) → i < n → f i ≤ℤ pos m) → sum_below n f ≤ℤ pos (n * m)
-sum_small zero m f each = rw (sum_below-zero f) (omega (arith, ints))
-sum_small (suc n) m f each =
-    let before = sum_small n m f (λ i h. each i (omega arith)) in
-    let last = each n (omega arith) in
-    let longer : suc n * m ≡ n * m + m = omega arith in
-    rw (sum_below-suc n f, longer) (omega (arith, ints, before, last))
 
 -- ---- a count within the cap is counted by some constraint
 
@@ -101,7 +93,7 @@ module _ (schema : Schema) (constraints : List Constraint) (are : AreConstraints
 
     few_counted : sum_below (cells_of p) count ≤ℤ pos most_added
     few_counted =
-        let all = sum_small (constraints_of p) 10_000_000 (total p counts) total_small in
+        let all = sum_at_most (constraints_of p) 10_000_000 (total p counts) total_small in
         let few : constraints_of p ≤ 20 = omega (arith, are.few, length-map constraints (λ (c : Constraint). c.least)) in
         let less : constraints_of p * 10_000_000 ≤ 20 * 10_000_000 = mul-le-mul_right 10_000_000 few in
         omega (arith, ints, all, less, all_counted)
@@ -125,7 +117,7 @@ module _ (schema : Schema) (constraints : List Constraint) (are : AreConstraints
 
     pub room : sum_below (cells_of p) (λ i. pos (nat_at p.cap i)) ≤ℤ pos most_room
     room =
-        let all = sum_small (cells_of p) 10_000_000 (λ i. pos (nat_at p.cap i)) small_cap in
+        let all = sum_at_most (cells_of p) 10_000_000 (λ i. pos (nat_at p.cap i)) small_cap in
         let many = many_cells schema constraints chosen classes rows differ in
         let most : 2 ^ length constraints ≤ 2 ^ 20 = pow_mono are.few in
         let few : cells_of p ≤ 2_097_152 = omega (arith, many, most, length-map classes (λ (class : Class). class.mask)) in

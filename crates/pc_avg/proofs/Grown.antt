@@ -26,12 +26,12 @@ use Rattle.pc_proof.specs.Unbroken.{plain_relation, plain_lack}
 use Rattle.pc_proof.proofs.Parts.{All-front, All-back}
 use Rattle.pc_branch_licences.specs.Licensed.{IsSpent, MayHave, MayGive, BothTotals, LicensedRelation, LicensedLack}
 use Rattle.pc_branch_licences.specs.Pools.{ShownFrom, HoldsNone}
-use Rattle.pc_branch_licences.specs.Shown.{runs_of_relation, runs_of_lack, shown_runs, counts_of_runs}
+use Rattle.pc_branch_licences.specs.Shown.{runs_of_relation, runs_of_lack, counts_of_runs}
 use Rattle.pc_branch_licences.specs.Wanted.{any, some, without, Has, LeavesOpen}
 use Rattle.pc_branch_licences.proofs.Found.{shown-found}
 use Rattle.pc_agg_search.specs.Wants.{most_chosen, fewest_chosen}
 use Rattle.pc_agg.specs.Owed.{OwesSettled, answer_of, HasEnds, IsGiving, MayGiveOne, LeavesLack}
-use Rattle.pc_agg.proofs.Owing.{IsRelationDone, IsLackDone}
+use Rattle.pc_agg.proofs.Owing.{IsRelationDone, IsLackDone, none_among}
 use Rattle.pc_avg.specs.Averages.{has_ends}
 
 pub ends_of : (relation : Relation) (lack : Lack) → has_ends relation lack ≡ true → HasEnds relation lack
@@ -90,14 +90,9 @@ module _ (s : Setting) (budget : ℕ) (relation : Relation) (lack : Lack) (found
 
   -- ---- nothing was found
 
-  none_shown : (answer : Answer) → found ≡ [] → ShownFrom s all answer → (P : List Run → Type 0) → All P (shown_runs answer)
-  none_shown answer none from P place d inside =
-      let here = subst (λ (l : List (List ℕ)). Contains l (counts_of_runs s (get_or (shown_runs answer) place d))) (none_at_all none) (from place d inside) in
-      absurd (omega (arith, here.1))
-
   totals_again : (answer : Answer) → found ≡ [] → ShownFrom s all answer → BothTotals s budget (answer_of relation lack) → BothTotals s budget answer
   totals_again answer none from totals =
-      let unshown = λ (p : Program). none_shown answer none from (λ runs. IsAllocation p p.floor p.cap (counts_of_runs s runs) → Has p any (counts_of_runs s runs) → ⊥) in
+      let unshown = λ (p : Program). none_among s answer all (none_at_all none) from (λ runs. IsAllocation p p.floor p.cap (counts_of_runs s runs) → Has p any (counts_of_runs s runs) → ⊥) in
       record {
         most = totals.most;
         fewest = totals.fewest;

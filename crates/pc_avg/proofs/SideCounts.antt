@@ -2,7 +2,6 @@
 use Rattle.std.proofs.Common.{◌≡◌, ℕ, ℤ, pos, neg_ℤ, ◌+ℤ◌, ◌*ℤ◌, ◌≤ℤ◌, ◌<ℤ◌, Bool, true, false, cond, List, [], ◌∷◌, length, map, get_or, All, Option, Some, IsSomeAnd, refl, sym, ap, ap₂, subst, ◌∙◌, true≢false, arith}
 use lib.IntN.{*ℤ_comm}
 use Rattle.std.proofs.lemmas.Int.{ints}
-use Rattle.std.proofs.lemmas.List.Elements.{All-head, All-tail}
 use Rattle.pc_model.specs.declared.schema.Schema.{Schema}
 use Rattle.pc_model.specs.declared.row.Row.{Row}
 use Rattle.pc_model.specs.declared.row.Run.{Run}
@@ -33,7 +32,7 @@ use Rattle.pc_proof.proofs.Ends.{AsksNumbers, asks_numbers}
 use Rattle.pc_proof.proofs.Gains.{gains_of}
 use Rattle.pc_proof.proofs.Groups.{keeps_area}
 use Rattle.pc_proof.proofs.Kept.{kept_count, kept_sum, cell_of, count_is, between}
-use Rattle.pc_proof.proofs.Seen.{keeps, all_numbers, how_many, what_sum, int_sum-neg, int_sum_mono}
+use Rattle.pc_proof.proofs.Seen.{keeps, all_numbers, how_many, what_sum, int_sum_mono}
 use Rattle.pc_branch_licences.specs.Picked.{AreOfCells}
 use Rattle.pc_branch_licences.specs.Pools.{AreLawful}
 use Rattle.pc_branch_licences.specs.Shown.{counts_of_runs}
@@ -45,7 +44,7 @@ use Rattle.pc_agg_search.specs.Ends.{signed}
 use Rattle.pc_agg_search.specs.Keys.{key_of, IsAtEnd}
 use Rattle.pc_agg_search.specs.Settings.{unseen}
 use Rattle.pc_agg.specs.Settling.{AreRowsOfCells}
-use Rattle.pc_agg.proofs.Attained.{lawful_runs, counted_runs}
+use Rattle.pc_agg.proofs.Attained.{lawful_runs, counted_runs, signed_sum, sum_alike}
 use Rattle.pc_agg.proofs.Questions as questions
 use Rattle.pc_agg.proofs.StandMarks.{cells_of_picks}
 use Rattle.pc_avg_ratio.specs.declared.fractional.Fractional.{Fractional}
@@ -55,10 +54,6 @@ use Rattle.pc_avg.specs.Sides.{IsSide}
 use Rattle.pc_avg.proofs.SidePrograms.{turned_ratio, numbered, side_count, side_sum}
 
 -- ---- numbers towards an end
-
-signed_sum : (extreme : Extreme) (g : Row → ℤ) (rows : List Row) → int_sum (map (λ row. signed extreme (g row)) rows) ≡ signed extreme (int_sum (map g rows))
-signed_sum High g rows = refl
-signed_sum Low g rows = int_sum-neg g rows
 
 signed_chosen : (extreme : Extreme) (chosen : Bool) (n : ℤ) → cond chosen (signed extreme n) (pos 0) ≡ signed extreme (cond chosen n (pos 0))
 signed_chosen High chosen n = refl
@@ -72,10 +67,6 @@ signed_back Low a b x y first second = omega (arith, ints, first, second)
 signed_within : (extreme : Extreme) (a b x y : ℤ) → x ≡ signed extreme a → signed extreme b ≤ℤ y → signed extreme (a +ℤ b) ≤ℤ (x +ℤ y)
 signed_within High a b x y first second = omega (arith, ints, first, second)
 signed_within Low a b x y first second = omega (arith, ints, first, second)
-
-sum_alike : (f g : Row → ℤ) (rows : List Row) → All (λ row. f row ≡ g row) rows → int_sum (map f rows) ≡ int_sum (map g rows)
-sum_alike f g [] same = refl
-sum_alike f g (row ∷ rows) same = ap₂ (λ a b. a +ℤ b) (All-head (λ r. f r ≡ g r) row rows same) (sum_alike f g rows (All-tail (λ r. f r ≡ g r) row rows same))
 
 kept_within : (extreme : Extreme) (kept chosen : Bool) (n key : ℤ) → kept ≡ chosen → signed extreme n ≤ℤ key → signed extreme (cond kept n (pos 0)) ≤ℤ cond chosen key (pos 0)
 kept_within High true true n key same under = under

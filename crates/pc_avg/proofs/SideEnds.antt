@@ -1,6 +1,7 @@
 -- The end that a side gives breaks no rule, and where it is outer it is licensed.
 use Rattle.std.proofs.Common.{◌≡◌, ℕ, ◌*◌, ◌≤◌, ◌^◌, ℤ, pos, nat_abs, ◌+ℤ◌, ◌*ℤ◌, ◌≤ℤ◌, ◌<ℤ◌, inl, inr, List, [], All, Contains, Some, sym, ap, subst, ◌∙◌, arith}
 use Rattle.std.specs.Int.{int_max}
+use Rattle.pc_num.specs.Scaled.{greatest_size}
 use lib.IntN.{*ℤ_comm}
 use Rattle.std.proofs.lemmas.Int.{ints}
 use Rattle.std.proofs.lemmas.List.Elements.{All-nil, All-cons}
@@ -86,7 +87,7 @@ module _ (schema : Schema) (constraints : List Constraint) (query : Query) (seen
 
   over_small : (r : Ratio) (counts : List ℕ) → IsRatioOf f r counts → nat_abs (over_before f r) ≤ 10 ^ 37
   over_small r counts of =
-      let first : nat_abs (r.den *ℤ f.sum) ≤ most_rows * (1_000_000 * 10 ^ 15) = size_of_product-le r.den f.sum most_rows (1_000_000 * 10 ^ 15) (omega (arith, ints, of.positive, of.small_den)) is.fractional.small_sum in
+      let first : nat_abs (r.den *ℤ f.sum) ≤ most_rows * (1_000_000 * greatest_size) = size_of_product-le r.den f.sum most_rows (1_000_000 * greatest_size) (omega (arith, ints, of.positive, of.small_den)) is.fractional.small_sum in
       let second : nat_abs (r.num *ℤ pos f.count) ≤ most_sum * 1_000_000 = size_of_product-le r.num (pos f.count) most_sum 1_000_000 of.small_num (omega (arith, ints, is.fractional.few)) in
       omega (arith, ints, first, second)
 

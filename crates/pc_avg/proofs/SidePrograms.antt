@@ -1,5 +1,5 @@
 -- The programs of a side are those that the statements of an average's ends name.
-use Rattle.std.proofs.Common.{◌≡◌, ℕ, zero, suc, ◌<◌, ℤ, pos, neg_ℤ, ◌-ℤ◌, ◌*ℤ◌, Bool, true, false, cond, List, length, map, get_or, Option, Some, None, IfSome, IsSomeAnd, refl, sym, ap, ap₂, subst, ◌∙◌, arith}
+use Rattle.std.proofs.Common.{◌≡◌, ℕ, zero, suc, ◌<◌, ℤ, pos, neg_ℤ, ◌-ℤ◌, ◌*ℤ◌, Bool, true, false, cond, List, length, map, get_or, IsSomeAnd, refl, sym, ap, ap₂, subst, ◌∙◌, arith}
 use Rattle.std.proofs.lemmas.Int.{ints}
 use Rattle.std.proofs.lemmas.List.{length-map, get_or-map}
 use Rattle.pc_model.specs.declared.schema.Schema.{Schema}
@@ -32,6 +32,7 @@ use Rattle.pc_agg_search.specs.Settings.{unseen}
 use Rattle.pc_agg_search.specs.Wants.{most_chosen}
 use Rattle.pc_agg_search.proofs.ListedPrograms.{table_mapped}
 use Rattle.pc_agg.proofs.Ending as ending
+use Rattle.pc_agg.proofs.SeenNumbers.{some_here}
 use Rattle.pc_avg_ratio.specs.declared.fractional.Fractional.{Fractional}
 use Rattle.pc_avg_ratio.specs.Fractional.{gain_over, program_at, over_before}
 use Rattle.pc_avg.specs.declared.sides.Side.{Side}
@@ -94,10 +95,6 @@ signed_zero Low n none = omega (arith, ints, none)
 none_seen : (q : Question) → seen_count q ≡ pos 0 → seen_sum q ≡ pos 0
 none_seen q none = ap (λ (rows : List Row). int_sum (map (asked q.query) rows)) (none_from_length (seen_rows q) (omega (arith, ints, none)))
 
-some_known : (column : Option ℕ) (P : ℕ → Type 0) (Q : Type 0) → IsSomeAnd column P → IfSome column (λ _. Q) → Q
-some_known None P Q some known = absurd some
-some_known (Some named) P Q some known = known
-
 module _ (schema : Schema) (constraints : List Constraint) (query : Query) (seen : Folded) (nodes : List CutNode) (asking : Asking schema constraints query seen) (agg_is : query.agg ≡ Avg) where
   abbrev u : Setting
   u = unseen schema constraints query nodes
@@ -119,7 +116,7 @@ module _ (schema : Schema) (constraints : List Constraint) (query : Query) (seen
         by_count zero none = is.fractional.none (is.count_is ∙ none) ∙ signed_zero extreme (seen_sum s.question) (none_seen s.question (asking.comes_to.count ∙ ap pos none))
         by_count (suc n) some =
             is.sum_is (omega (arith, some))
-            ∙ ap (signed extreme) (sym (some_known query.column (IsColumnWhere IsNumeric schema) (seen_sum s.question ≡ seen.sum) numbered asking.comes_to.sum))
+            ∙ ap (signed extreme) (sym (some_here query.column (IsColumnWhere IsNumeric schema) (seen_sum s.question ≡ seen.sum) numbered asking.comes_to.sum))
 
     pub over_is : (r : Ratio) → over_before side.fraction r ≡ seen_over extreme s.question (turned_ratio extreme r)
     over_is r = over_turned extreme s.question r side.fraction.sum (pos side.fraction.count) side_sum side_count

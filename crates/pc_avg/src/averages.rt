@@ -1,4 +1,5 @@
-ghost use Rattle.std.specs.Prelude.{◌≡◌, ◌≤◌, ◌*◌, ◌^◌, nat_abs, IfOk};
+ghost use Rattle.std.specs.Prelude.{◌≡◌, ◌≤◌, ◌*◌, nat_abs, IfOk};
+ghost use Rattle.pc_num.specs.Scaled.{greatest_size};
 ghost use Rattle.pc_model.specs.declared.query.Agg.TheVariants as aggs;
 ghost use Rattle.pc_agg.specs.Owed.{answer_of};
 ghost use Rattle.pc_agg_search.specs.Asked.{AreAsked};
@@ -29,7 +30,7 @@ pub fn bound_avg(
 ) -> Result<Answer, Memory>
     requires asked { AreAsked schema.now seen.now constraints.now cells.now query.now nodes }
     requires average { query.now.agg ≡ aggs.Avg }
-    requires small_seen { nat_abs seen.now.sum ≤ 1_000_000 * 10 ^ 15 }
+    requires small_seen { nat_abs seen.now.sum ≤ 1_000_000 * greatest_size }
     requires lawful { AreFound schema.now constraints.now cells.now query.now settled.now.found }
     requires settled { OwesSettling schema.now seen.now constraints.now cells.now query.now nodes settled.now }
     ensures owes { OwesCall schema.now seen.now constraints.now cells.now query.now nodes result }

@@ -1,4 +1,5 @@
 ghost use Rattle.std.specs.Prelude.{◌≡◌, ◌<◌, ◌≤◌, ◌*◌, ◌^◌, nat_abs, [], length, All, IfOk, slice_index_or};
+ghost use Rattle.pc_num.specs.Scaled.{greatest_size};
 ghost use Rattle.pc_num.specs.Signs.{Fits};
 ghost use Rattle.pc_model.specs.declared.query.Folded.{Folded};
 ghost use Rattle.pc_branch.specs.Outcome.{IsEasyProgram};
@@ -30,7 +31,7 @@ pub(crate) fn search_end(
     requires posed { IsPosed problem.now }
     requires numbers { AsksNumbers problem.now }
     requires few_seen { seen.now.count ≤ 1_000_000 }
-    requires small_seen { nat_abs seen.now.sum ≤ 1_000_000 * 10 ^ 15 }
+    requires small_seen { nat_abs seen.now.sum ≤ 1_000_000 * greatest_size }
     requires lawful { All (AreLawful (setting_of problem.now)) found.now }
     ensures end { IfOk result (IsEndIfAny (setting_of problem.now) seen.now problem.now.nodes extreme found.now) }
     ensures nested { IsEasyFor problem.now → IfOk result (IsEndSurely (setting_of problem.now) seen.now extreme found.now) }

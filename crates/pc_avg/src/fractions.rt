@@ -1,4 +1,5 @@
-ghost use Rattle.std.specs.Prelude.{◌≡◌, ◌<◌, ◌≤◌, ◌*◌, ◌^◌, nat_abs, pos, IfOk};
+ghost use Rattle.std.specs.Prelude.{◌≡◌, ◌<◌, ◌≤◌, ◌*◌, nat_abs, pos, IfOk};
+ghost use Rattle.pc_num.specs.Scaled.{greatest_size};
 ghost use Rattle.pc_branch.specs.Outcome.{IsEasyProgram};
 ghost use Rattle.pc_proof.specs.Setting.{on_chosen, program_for};
 ghost use Rattle.pc_avg_ratio.specs.Fractional.{IsFractional};
@@ -26,7 +27,7 @@ pub(crate) fn fraction_of(
 ) -> Result<Fractional, Memory>
     requires posed { IsPosed problem.now }
     requires few_seen { seen.now.count ≤ 1_000_000 }
-    requires small_seen { nat_abs seen.now.sum ≤ 1_000_000 * 10 ^ 15 }
+    requires small_seen { nat_abs seen.now.sum ≤ 1_000_000 * greatest_size }
     requires keyed { keys ≡ keys_of problem.now extreme }
     requires picked { AreAtEnd problem.now extreme picks.now }
     ensures fractional { IfOk result IsFractional }
@@ -48,10 +49,10 @@ pub(crate) fn fraction_of(
 
 /// The sum of the observed numbers, turned at a low end. It is 0 where no row was observed.
 fn seen_sum(seen: &Folded, extreme: Extreme) -> i128
-    requires small_seen { nat_abs seen.now.sum ≤ 1_000_000 * 10 ^ 15 }
+    requires small_seen { nat_abs seen.now.sum ≤ 1_000_000 * greatest_size }
     ensures some { 0 < seen.now.count → result ≡ signed extreme seen.now.sum }
     ensures none { seen.now.count ≡ 0 → result ≡ pos 0 }
-    ensures small { nat_abs result ≤ 1_000_000 * 10 ^ 15 }
+    ensures small { nat_abs result ≤ 1_000_000 * greatest_size }
 {
     if seen.count == 0 {
         return 0;

@@ -1,4 +1,5 @@
-ghost use Rattle.std.specs.Prelude.{◌≤◌, ◌*◌, ◌^◌, nat_abs, IfOk};
+ghost use Rattle.std.specs.Prelude.{◌≤◌, ◌*◌, nat_abs, IfOk};
+ghost use Rattle.pc_num.specs.Scaled.{greatest_size};
 ghost use Rattle.pc_branch.specs.Outcome.{IsEasyProgram};
 ghost use Rattle.pc_agg_search.specs.Problem.{IsEasyFor, IsPosed, setting_of};
 ghost use Rattle.pc_avg.specs.Sides.{IsSide};
@@ -32,7 +33,7 @@ pub(crate) fn side_of(
     requires posed { IsPosed problem.now }
     requires numbers { AsksNumbers problem.now }
     requires few_seen { seen.now.count ≤ 1_000_000 }
-    requires small_seen { nat_abs seen.now.sum ≤ 1_000_000 * 10 ^ 15 }
+    requires small_seen { nat_abs seen.now.sum ≤ 1_000_000 * greatest_size }
     ensures side { IfOk result (IsSide (setting_of problem.now) seen.now extreme) }
     ensures nested { IsEasyFor problem.now → IfOk result (λ side. IsEasyProgram side.fraction.rows) }
 {

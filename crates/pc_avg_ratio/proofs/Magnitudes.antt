@@ -4,6 +4,7 @@ use Rattle.std.specs.Prelude.{ℤ, pos, neg_ℤ, nat_abs, ◌*ℤ◌, ◌≤ℤ�
 use Rattle.std.proofs.Math.Nat.{mul-le-mul_right}
 use Rattle.std.proofs.Math.IntN.{*ℤ_comm}
 use Rattle.std.proofs.lemmas.Int.{ints}
+use Rattle.pc_num.specs.Scaled.{greatest_size}
 use Rattle.pc_num.specs.declared.fraction.Frac.{Frac}
 use Rattle.pc_num.specs.Fractions.{IsQuotient}
 use Rattle.pc_model.specs.Aggregate.{Ratio}
@@ -18,7 +19,7 @@ use Rattle.pc_branch.specs.Ends.{HasSmallGains}
 use Rattle.pc_branch.specs.Outcome.{IsEasyProgram}
 use Rattle.pc_proof.specs.Table.{ratio_of}
 use Rattle.pc_avg_ratio.specs.declared.fractional.Fractional.{Fractional}
-use Rattle.pc_avg_ratio.specs.Fractional.{IsFractional, IsLawful, AddsOne, rows_with, sum_with, gain_over, over_before, program_at, most_rows, most_added, most_number, most_room, most_sum}
+use Rattle.pc_avg_ratio.specs.Fractional.{IsFractional, IsLawful, AddsOne, rows_with, sum_with, gain_over, over_before, program_at, most_rows, most_added, most_room, most_sum}
 use Rattle.pc_avg_ratio.specs.Steps.{IsRatioOf}
 use Rattle.pc_avg_ratio.proofs.Excess.{sums_worth, rows_some, most_rows_with}
 use Rattle.pc_avg_ratio.proofs.PassedProducts.{IsSmallProduct, small_product}
@@ -49,18 +50,18 @@ row_small f i (inr one) = rw one (omega arith)
 
 -- ---- a cell's number is at most so many times its rows
 
-module _ (f : Fractional) (counts : List ℕ) (i : ℕ) (small : nat_abs (int_at f.sums.gain i) ≤ most_number) where
-  number_above : AddsOne f i → (int_at f.sums.gain i *ℤ pos (nat_at counts i)) ≤ℤ (pos most_number *ℤ (int_at f.rows.gain i *ℤ pos (nat_at counts i)))
+module _ (f : Fractional) (counts : List ℕ) (i : ℕ) (small : nat_abs (int_at f.sums.gain i) ≤ greatest_size) where
+  number_above : AddsOne f i → (int_at f.sums.gain i *ℤ pos (nat_at counts i)) ≤ℤ (pos greatest_size *ℤ (int_at f.rows.gain i *ℤ pos (nat_at counts i)))
   number_above (inl none) = rw (none.0, none.1) (omega (arith, ints))
   number_above (inr one) =
-      let more = mul_mono (pos (nat_at counts i)) (int_at f.sums.gain i) (pos most_number) (omega (arith, ints)) (omega (arith, ints, small)) in
+      let more = mul_mono (pos (nat_at counts i)) (int_at f.sums.gain i) (pos greatest_size) (omega (arith, ints)) (omega (arith, ints, small)) in
       let turned = *ℤ_comm (pos (nat_at counts i)) (int_at f.sums.gain i) in
       rw one (omega (arith, ints, more, turned))
 
-  number_below : AddsOne f i → (neg_ℤ (pos most_number) *ℤ (int_at f.rows.gain i *ℤ pos (nat_at counts i))) ≤ℤ (int_at f.sums.gain i *ℤ pos (nat_at counts i))
+  number_below : AddsOne f i → (neg_ℤ (pos greatest_size) *ℤ (int_at f.rows.gain i *ℤ pos (nat_at counts i))) ≤ℤ (int_at f.sums.gain i *ℤ pos (nat_at counts i))
   number_below (inl none) = rw (none.0, none.1) (omega (arith, ints))
   number_below (inr one) =
-      let more = mul_mono (pos (nat_at counts i)) (neg_ℤ (pos most_number)) (int_at f.sums.gain i) (omega (arith, ints)) (omega (arith, ints, small)) in
+      let more = mul_mono (pos (nat_at counts i)) (neg_ℤ (pos greatest_size)) (int_at f.sums.gain i) (omega (arith, ints)) (omega (arith, ints, small)) in
       let turned = *ℤ_comm (pos (nat_at counts i)) (int_at f.sums.gain i) in
       rw one (omega (arith, ints, more, turned))
 
@@ -72,7 +73,7 @@ module _ (f : Fractional) (fractional : IsFractional f) where
 
   pub sums_small : HasSmallGains f.sums
   sums_small =
-      subst HasSmallGains (sym fractional.same) (small_gains (record f.rows { gain = f.sums.gain }) most_number fractional.small (omega arith) (omega arith) fractional.room)
+      subst HasSmallGains (sym fractional.same) (small_gains (record f.rows { gain = f.sums.gain }) greatest_size fractional.small (omega arith) (omega arith) fractional.room)
 
   pub sums_lawful : (counts : List ℕ) → IsLawful f counts → IsAllocation f.sums f.sums.floor f.sums.cap counts
   sums_lawful counts lawful =
@@ -87,12 +88,12 @@ module _ (f : Fractional) (fractional : IsFractional f) where
     abbrev number_of : ℕ → ℤ
     number_of i = int_at f.sums.gain i *ℤ pos (nat_at counts i)
 
-    pub numbers_small : nat_abs (worth f.sums counts) ≤ most_number * most_added
+    pub numbers_small : nat_abs (worth f.sums counts) ≤ greatest_size * most_added
     numbers_small =
-        let above = sum_below_mono (cells_of f.rows) number_of (λ i. pos most_number *ℤ row_at i) (λ i lt. number_above f counts i (fractional.small i lt) (fractional.ones i lt)) in
-        let below = sum_below_mono (cells_of f.rows) (λ i. neg_ℤ (pos most_number) *ℤ row_at i) number_of (λ i lt. number_below f counts i (fractional.small i lt) (fractional.ones i lt)) in
-        let above_is = sum_below-scale (pos most_number) (cells_of f.rows) row_at in
-        let below_is = sum_below-scale (neg_ℤ (pos most_number)) (cells_of f.rows) row_at in
+        let above = sum_below_mono (cells_of f.rows) number_of (λ i. pos greatest_size *ℤ row_at i) (λ i lt. number_above f counts i (fractional.small i lt) (fractional.ones i lt)) in
+        let below = sum_below_mono (cells_of f.rows) (λ i. neg_ℤ (pos greatest_size) *ℤ row_at i) number_of (λ i lt. number_below f counts i (fractional.small i lt) (fractional.ones i lt)) in
+        let above_is = sum_below-scale (pos greatest_size) (cells_of f.rows) row_at in
+        let below_is = sum_below-scale (neg_ℤ (pos greatest_size)) (cells_of f.rows) row_at in
         omega (arith, ints, above, below, above_is, below_is, sums_worth f fractional counts, fractional.few_rows counts lawful)
 
     pub sum_small : nat_abs (sum_with f counts) ≤ most_sum
@@ -125,14 +126,14 @@ module _ (f : Fractional) (fractional : IsFractional f) where
 
   module _ (r : Ratio) (some : pos 0 ≤ℤ r.den) (few : r.den ≤ℤ pos most_rows) (small : nat_abs r.num ≤ most_sum) where
     pub over_sum : IsSmallProduct r.den f.sum
-    over_sum = small_product r.den f.sum most_rows (1_000_000 * 10 ^ 15) (omega (arith, ints, some, few)) fractional.small_sum (omega arith) (omega arith) (omega arith)
+    over_sum = small_product r.den f.sum most_rows (1_000_000 * greatest_size) (omega (arith, ints, some, few)) fractional.small_sum (omega arith) (omega arith) (omega arith)
 
     pub over_count : IsSmallProduct r.num (pos f.count)
     over_count = small_product r.num (pos f.count) most_sum 1_000_000 small (omega (arith, ints, fractional.few)) (omega arith) (omega arith) (omega arith)
 
     pub over_before_small : nat_abs (over_before f r) ≤ 402_000_000 * most_sum
     over_before_small =
-        let sum = size_of_product-le r.den f.sum most_rows (1_000_000 * 10 ^ 15) (omega (arith, ints, some, few)) fractional.small_sum in
+        let sum = size_of_product-le r.den f.sum most_rows (1_000_000 * greatest_size) (omega (arith, ints, some, few)) fractional.small_sum in
         let count = size_of_product-le r.num (pos f.count) most_sum 1_000_000 small (omega (arith, ints, fractional.few)) in
         omega (arith, ints, sum, count)
 
@@ -146,7 +147,7 @@ module _ (f : Fractional) (fractional : IsFractional f) where
 
     gain_small : (i : ℕ) → i < cells_of f.rows → nat_abs (gain_over f r i) ≤ 2 * most_sum
     gain_small i lt =
-        let number = size_of_product-le r.den (int_at f.sums.gain i) most_rows most_number (omega (arith, ints, some, few)) (fractional.small i lt) in
+        let number = size_of_product-le r.den (int_at f.sums.gain i) most_rows greatest_size (omega (arith, ints, some, few)) (fractional.small i lt) in
         let row = size_of_product-le r.num (int_at f.rows.gain i) most_sum 1 small (row_small f i (fractional.ones i lt)) in
         omega (arith, ints, number, row)
 

@@ -1,5 +1,6 @@
 -- The ratio of a sum to a number of rows, over all counts that a program allows.
 use Rattle.std.specs.Prelude.{◌≡◌, ℕ, ◌<◌, ◌≤◌, ◌*◌, ◌^◌, ◌⊎◌, ℤ, pos, nat_abs, ◌+ℤ◌, ◌-ℤ◌, ◌*ℤ◌, ◌≤ℤ◌, ◌<ℤ◌, List, length}
+use Rattle.pc_num.specs.Scaled.{greatest_size}
 use Rattle.pc_model.specs.Aggregate.{Ratio}
 use Rattle.pc_program_bound.specs.declared.program.Program.{Program}
 use Rattle.pc_program_bound.specs.Sums.{sum_below, nat_at, int_at}
@@ -48,12 +49,9 @@ most_rows = 201_000_000
 abbrev pub most_added : ℕ
 most_added = 200_000_000
 
--- the greatest size of a number, and of the sum of all
-abbrev pub most_number : ℕ
-most_number = 10 ^ 15
-
+-- the greatest size of the sum of all
 abbrev pub most_sum : ℕ
-most_sum = most_rows * 10 ^ 15
+most_sum = most_rows * greatest_size
 
 -- the caps of all cells together
 abbrev pub most_room : ℕ
@@ -68,10 +66,10 @@ pub record IsFractional (f : Fractional) : Type 0 where
   pub same : f.sums ≡ record f.rows { gain = f.sums.gain }
   pub sized : length f.sums.gain ≡ cells_of f.rows
   pub ones : (i : ℕ) → i < cells_of f.rows → AddsOne f i
-  pub small : (i : ℕ) → i < cells_of f.rows → nat_abs (int_at f.sums.gain i) ≤ most_number
+  pub small : (i : ℕ) → i < cells_of f.rows → nat_abs (int_at f.sums.gain i) ≤ greatest_size
   pub room : sum_below (cells_of f.rows) (λ i. pos (nat_at f.rows.cap i)) ≤ℤ pos most_room
   pub few : f.count ≤ 1_000_000
-  pub small_sum : nat_abs f.sum ≤ 1_000_000 * 10 ^ 15
+  pub small_sum : nat_abs f.sum ≤ 1_000_000 * greatest_size
   pub few_rows : (counts : List ℕ) → IsLawful f counts → worth f.rows counts ≤ℤ pos most_added
   pub none : f.count ≡ 0 → f.sum ≡ pos 0
   pub floors : (i : ℕ) → i < cells_of f.rows → nat_at f.rows.floor i ≡ 0

@@ -1,4 +1,5 @@
 ghost use Rattle.std.specs.Prelude.{◌≡◌, ◌≤◌, nat_abs, pos, ◌≤ℤ◌, ◌-ℤ◌, ◌*ℤ◌, IfOk};
+ghost use Rattle.pc_num.specs.Scaled.{greatest_size};
 ghost use Rattle.pc_program_bound.specs.Allocation.{IsProgram};
 ghost use Rattle.pc_branch.specs.Ends.{HasSmallGains};
 ghost use Rattle.pc_branch.specs.Outcome.{IsEasyProgram};
@@ -50,7 +51,7 @@ fn gain_over(ratio: Frac, number: i128, row: i128) -> i128
     requires positive { pos 0 ≤ℤ ratio.den }
     requires small_den { ratio.den ≤ℤ pos most_rows }
     requires small_num { nat_abs ratio.num ≤ most_sum }
-    requires small_number { nat_abs number ≤ 1_000_000_000_000_000 }
+    requires small_number { nat_abs number ≤ greatest_size }
     requires one { nat_abs row ≤ 1 }
     ensures { result ≡ (ratio.den *ℤ number) -ℤ (ratio.num *ℤ row) }
 {

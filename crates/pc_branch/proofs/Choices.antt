@@ -13,12 +13,11 @@ use Rattle.pc_program_bound.specs.Sums.{nat_at}
 use Rattle.pc_program_bound.specs.Allocation.{IsProgram, IsBox, cells_of}
 use Rattle.pc_program_bound.specs.Bound.{bound_of}
 use Rattle.pc_program_bound.specs.SplitTrees.{less_caps, more_floors}
+use Rattle.pc_program_bound.proofs.WalkParts.{whole_box, less_box, more_box}
 use Rattle.pc_simplex_tableau.specs.Point.{vertex, no_count, IsRelaxation}
 use Rattle.pc_simplex.specs.Vertices.{count_at, IsVertex}
 use Rattle.pc_simplex.proofs.Vertices.{IsVertex-point}
 use Rattle.pc_branch.specs.Licence.{Splits, leaf, split, nodes_of, IsWhole, AreSplitNodes, fractional, too_wide, too_long, HasOpen, first_bound, IsLicence, choices}
-use Rattle.pc_branch.proofs.Leaves.{start_box}
-use Rattle.pc_branch.proofs.Parts.{IsBox-less, IsBox-more}
 use Rattle.pc_branch.proofs.Points.{floor-under, cap-over, whole-reduced}
 
 -- ---- how many counts a box has
@@ -134,8 +133,8 @@ module _ (p : Program) (program : IsProgram p) (least : Option ℤ) where
   few-nodes floors caps leaf box splits = let some = room-some floors caps (IsBox-ordered p floors caps box) in omega (arith, some)
   few-nodes floors caps (split cell at t u) box splits =
       let node = splits.0.2 in
-      let first = few-nodes floors (less_caps caps cell at) t (IsBox-less p floors caps cell at box node.less node.more) splits.1 in
-      let second = few-nodes (more_floors floors cell at) caps u (IsBox-more p floors caps cell at box node.less node.more) splits.2 in
+      let first = few-nodes floors (less_caps caps cell at) t (less_box p floors caps cell at box node.less node.more) splits.1 in
+      let second = few-nodes (more_floors floors cell at) caps u (more_box p floors caps cell at box node.less node.more) splits.2 in
       let parts = room-split floors caps cell at (box.sized_floors ∙ sym box.sized_caps) node.less node.more in
       omega (arith, first, second, parts)
 
@@ -156,10 +155,10 @@ module _ (p : Program) (program : IsProgram p) (least : Option ℤ) where
         parts = room-split floors caps cell at (box.sized_floors ∙ sym box.sized_caps) splits.0.2.less splits.0.2.more
 
         few : nodes_of t + 1 ≤ 2 * room floors (less_caps caps cell at)
-        few = few-nodes floors (less_caps caps cell at) t (IsBox-less p floors caps cell at box splits.0.2.less splits.0.2.more) splits.1
+        few = few-nodes floors (less_caps caps cell at) t (less_box p floors caps cell at box splits.0.2.less splits.0.2.more) splits.1
 
         also : nodes_of u + 1 ≤ 2 * room (more_floors floors cell at) caps
-        also = few-nodes (more_floors floors cell at) caps u (IsBox-more p floors caps cell at box splits.0.2.less splits.0.2.more) splits.2
+        also = few-nodes (more_floors floors cell at) caps u (more_box p floors caps cell at box splits.0.2.less splits.0.2.more) splits.2
 
         by : HasOpen p spent e (bound_of p floors caps mult) floors (less_caps caps cell at) t ⊎ HasOpen p spent e (bound_of p floors caps mult) (more_floors floors cell at) caps u
             → IsStuckOrSpare spent e above floors caps (split cell at t u)
@@ -181,8 +180,8 @@ module _ (p : Program) (program : IsProgram p) (least : Option ℤ) where
     HasOpen-stuck above floors caps leaf box splits (too_long steps relaxed is) = inr (too_long steps relaxed is)
     HasOpen-stuck above floors caps (split cell at t u) box splits open_leaf =
         let next = bound_of p floors caps open_leaf.1 in
-        let low = IsBox-less p floors caps cell at box splits.0.2.less splits.0.2.more in
-        let high = IsBox-more p floors caps cell at box splits.0.2.less splits.0.2.more in
+        let low = less_box p floors caps cell at box splits.0.2.less splits.0.2.more in
+        let high = more_box p floors caps cell at box splits.0.2.less splits.0.2.more in
         stuck-split above floors caps cell at t u box splits open_leaf.0 open_leaf.1 open_leaf.2
         (HasOpen-stuck next floors (less_caps caps cell at) t low splits.1)
         (HasOpen-stuck next (more_floors floors cell at) caps u high splits.2)
@@ -191,7 +190,7 @@ module _ (p : Program) (program : IsProgram p) (least : Option ℤ) where
 pub large-stuck : (p : Program) (budget : ℕ) (e : ℤ) (tree : Splits) → IsProgram p → IsLicence p budget e tree → 2 * choices p.cap ≤ budget
     → HasOpen p ⊥ e (first_bound p) p.floor p.cap tree
 large-stuck p budget e tree program licence large =
-    let box = start_box p program in
+    let box = whole_box p program in
     let most = room-choices p.floor p.cap (program.floors ∙ sym program.caps) in
     elim (HasOpen-stuck p program (Some e) (budget < nodes_of tree + 2) e (first_bound p) p.floor p.cap tree box licence.search.splits licence.open_leaf) [
       | inl spare ↦ let left = spare.0 in let many = spare.1 in absurd (omega (arith, left, many, most, large))

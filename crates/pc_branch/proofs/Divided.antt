@@ -5,6 +5,7 @@ use Rattle.pc_program_bound.specs.declared.program.Program.{Program}
 use Rattle.pc_program_bound.specs.Allocation.{IsProgram}
 use Rattle.pc_program_bound.specs.Bound.{HasFitWidth}
 use Rattle.pc_program_bound.specs.SplitTrees.{less_caps, more_floors}
+use Rattle.pc_program_bound.proofs.WalkParts.{less_box, more_box}
 use Rattle.pc_frontier.specs.Boxes.{divided}
 use Rattle.pc_frontier.proofs.Trees.{splits_divide}
 use Rattle.pc_frontier.proofs.Boxed.{trees_boxed}
@@ -19,7 +20,6 @@ use Rattle.pc_branch.specs.Grown.{visited_at, value_of, IsPartedAt}
 use Rattle.pc_branch.specs.Searching.{start_of, IsAtMost}
 use Rattle.pc_branch.specs.Steps.{budget_of, counts_found, better, IsSearch, IsGoing, IsDivided}
 use Rattle.pc_branch.specs.Visits.{box_of, ArePartsVisited, with_parts}
-use Rattle.pc_branch.proofs.Parts.{IsBox-less, IsBox-more}
 use Rattle.pc_branch.proofs.Parting.{IsPartedPlace, going_parted, range_part, small_part}
 use Rattle.pc_branch.proofs.Offers.{IsBetter-then, IsUnder-more, IsConsidered, consider_keeps, offered_by, held_by}
 use Rattle.pc_branch.proofs.Growing.{AreSplit, AreVisited, ArePartsOf, are_split, are_visited, grown_divides}
@@ -65,14 +65,14 @@ module _ (p : Program) (s : Search) (hand : Hand) (cell at : ℕ) (less more : V
   first =
       consider_keeps p hand.bound less.counts less.node.bound s.found
       (offered_by p hand.bound (box_of p s n).floors (less_caps (box_of p s n).caps cell at) less.node.known less.node.bound less.counts
-      (IsBox-less p (box_of p s n).floors (box_of p s n).caps cell at place.is_box place.low place.high) parts.less_counts low_most)
+      (less_box p (box_of p s n).floors (box_of p s n).caps cell at place.is_box place.low place.high) parts.less_counts low_most)
       going.search.valued going.search.search.allowed
 
   second : IsConsidered p hand.bound more.counts more.node.bound middle after.found
   second =
       consider_keeps p hand.bound more.counts more.node.bound middle
       (offered_by p hand.bound (more_floors (box_of p s n).floors cell at) (box_of p s n).caps more.node.known more.node.bound more.counts
-      (IsBox-more p (box_of p s n).floors (box_of p s n).caps cell at place.is_box place.low place.high) parts.more_counts high_most)
+      (more_box p (box_of p s n).floors (box_of p s n).caps cell at place.is_box place.low place.high) parts.more_counts high_most)
       first.valued first.allowed
 
   pub divided_search : IsSearch p after (size ∷ (size + 1) ∷ []) hand.bound

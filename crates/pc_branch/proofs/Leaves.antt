@@ -9,6 +9,7 @@ use Rattle.pc_program_bound.specs.Sums.{nat_at}
 use Rattle.pc_program_bound.specs.Allocation.{IsBox, IsProgram, constraints_of}
 use Rattle.pc_program_bound.specs.Bound.{bound_of, IsMultiplier, HasFitWidth}
 use Rattle.pc_program_bound.specs.SplitTrees.{less_caps, more_floors}
+use Rattle.pc_program_bound.proofs.WalkParts.{whole_box, less_box, more_box}
 use Rattle.pc_simplex.proofs.Vertices.{IsVertex-point}
 use Rattle.pc_frontier.specs.declared.node.State.{State}
 use Rattle.pc_frontier.specs.declared.node.State.TheVariants as states
@@ -21,16 +22,9 @@ use Rattle.pc_branch.specs.declared.visited.Known.{Known}
 use Rattle.pc_branch.specs.declared.visited.Known.TheVariants as knowns
 use Rattle.pc_branch.specs.declared.visited.Visited.{Visited}
 use Rattle.pc_branch.specs.Grown.{visited_at, IsParting, IsKnownAs, IsVisited, IsPartedAt, IsGrown}
-use Rattle.pc_branch.proofs.Parts.{IsBox-less, IsBox-more, bound-less, bound-more}
+use Rattle.pc_branch.proofs.Parts.{bound-less, bound-more}
 
 -- ---- the start
-
-pub start_box : (p : Program) → IsProgram p → IsBox p p.floor p.cap
-start_box p program = record {
-  sized_floors = program.floors;
-  sized_caps = program.caps;
-  inside = λ i lt. (omega arith, program.boxed i lt, omega arith);
-}
 
 pub start_multipliers : (p : Program) → HasFitWidth p (no_multipliers p) → IsMultiplier p (no_multipliers p)
 start_multipliers p wide = record { sized = length-replicate (constraints_of p) (pos 0); positive = omega (arith, ints); wide = wide }
@@ -93,10 +87,10 @@ module _ (p : Program) (nodes : List Node) (visited : List Visited) (program : I
       let is = parting.bound_is in
       at_split above limit floors caps n cell at t u
       (record { box = box; there = (there.0, split_state (node_at nodes n).state (root_of t) there.1); parting = parting; less = grown.2; more = grown.3 })
-      (by_places v.mult v.bound floors (less_caps caps cell at) t (IsBox-less p floors caps cell at box grown.2 grown.3) own (rw is less) grown.4 there.6)
-      (by_places v.mult v.bound (more_floors floors cell at) caps u (IsBox-more p floors caps cell at box grown.2 grown.3) own (rw is more) grown.5 there.7)
+      (by_places v.mult v.bound floors (less_caps caps cell at) t (less_box p floors caps cell at box grown.2 grown.3) own (rw is less) grown.4 there.6)
+      (by_places v.mult v.bound (more_floors floors cell at) caps u (more_box p floors caps cell at box grown.2 grown.3) own (rw is more) grown.5 there.7)
 
   pub from_start : (g : Grown) → HasFitWidth p (no_multipliers p) → IsGrown p visited (no_multipliers p) (first_bound p) p.floor p.cap g → AreGrown nodes g
       → P (no_multipliers p) (first_bound p) p.floor p.cap g
   from_start g wide grown there =
-      by_places (no_multipliers p) (first_bound p) p.floor p.cap g (start_box p program) (start_multipliers p wide) (le_refl (first_bound p)) grown there
+      by_places (no_multipliers p) (first_bound p) p.floor p.cap g (whole_box p program) (start_multipliers p wide) (le_refl (first_bound p)) grown there

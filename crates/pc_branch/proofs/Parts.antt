@@ -1,10 +1,10 @@
 -- The two parts of a box, and what multipliers prove of them.
-use Rattle.std.proofs.Common.{◌≡◌, ℕ, zero, suc, ◌+◌, ◌*◌, ◌<◌, ◌≤◌, List, [], ◌∷◌, refl, ap, ◌∙◌, inl, inr, arith}
+use Rattle.std.proofs.Common.{◌≡◌, ℕ, zero, suc, ◌+◌, ◌*◌, ◌<◌, ◌≤◌, List, [], ◌∷◌, refl, ap, inl, inr, arith}
 use Rattle.std.specs.Prelude.{ℤ, pos, ◌*ℤ◌, ◌≤ℤ◌, ◌<ℤ◌, slice_set}
 use Rattle.std.specs.Int.{int_max, int_div_euclid}
 use Rattle.std.proofs.lemmas.Int.{ints, clamps, by_lt_z}
 use Rattle.std.proofs.lemmas.Bool.{cases_eq}
-use Rattle.std.proofs.lemmas.List.{length-set, get_or-set_other}
+use Rattle.std.proofs.lemmas.List.{get_or-set_other}
 use Rattle.std.proofs.Math.IntN.{*ℤ_comm}
 use Rattle.std.proofs.Math.Nat.{mul-le-mul_right}
 use Rattle.pc_num.specs.declared.Frac.{Frac}
@@ -18,6 +18,7 @@ use Rattle.pc_program_bound.specs.SplitTrees.{less_caps, more_floors}
 use Rattle.pc_program_bound.proofs.Ring.{mul_mono, mul_anti, le-div_euclid}
 use Rattle.pc_program_bound.proofs.SumBelow.{sum_below_mono}
 use Rattle.pc_program_bound.proofs.Duality.{duality}
+use Rattle.pc_program_bound.proofs.WalkParts.{less_box, more_box}
 use Rattle.pc_simplex_tableau.specs.Point.{vertex, IsRelaxation}
 use Rattle.pc_simplex_tableau.proofs.Products.{le_cancel, mul_swap}
 use Rattle.pc_simplex.specs.Vertices.{IsVertex}
@@ -54,28 +55,6 @@ caps-stay floors caps cell at i less before = most-set caps cell at i (nat_at fl
 
 pub floors-stay : (floors caps : List ℕ) (cell at i : ℕ) → at < nat_at caps cell → nat_at floors i ≤ nat_at caps i → nat_at (more_floors floors cell at) i ≤ nat_at caps i
 floors-stay floors caps cell at i more before = least-set floors cell (at + 1) i (nat_at caps i) before (λ e. rw e (omega (arith, more)))
-
--- ---- a part is a box
-
-pub IsBox-less : (p : Program) (floors caps : List ℕ) (cell at : ℕ) → IsBox p floors caps → nat_at floors cell ≤ at → at < nat_at caps cell
-    → IsBox p floors (less_caps caps cell at)
-IsBox-less p floors caps cell at box less more = record {
-  sized_floors = box.sized_floors;
-  sized_caps = length-set caps cell at ∙ box.sized_caps;
-  inside = λ i h. let here = box.inside i h in
-      let falls = caps-fall caps cell at i more in
-      (here.0, caps-stay floors caps cell at i less here.1, omega (arith, here, falls));
-}
-
-pub IsBox-more : (p : Program) (floors caps : List ℕ) (cell at : ℕ) → IsBox p floors caps → nat_at floors cell ≤ at → at < nat_at caps cell
-    → IsBox p (more_floors floors cell at) caps
-IsBox-more p floors caps cell at box less more = record {
-  sized_floors = length-set floors cell (at + 1) ∙ box.sized_floors;
-  sized_caps = box.sized_caps;
-  inside = λ i h. let here = box.inside i h in
-      let rises = floors-rise floors cell at i less in
-      (omega (arith, here, rises), floors-stay floors caps cell at i more here.1, here.2);
-}
 
 -- ---- the same multipliers
 
@@ -184,11 +163,11 @@ pub bound-own_less : (p : Program) (floors caps : List ℕ) (cell at : ℕ) (abo
     → bound_of p floors (less_caps caps cell at) mult ≤ℤ bound_of p floors caps above
 bound-own_less p floors caps cell at above mult point program by box less more relaxed =
     bound-own p floors caps floors (less_caps caps cell at) above mult point by (λ i. omega arith) (λ i. caps-fall caps cell at i more)
-    (IsVertex-point p floors (less_caps caps cell at) program (IsBox-less p floors caps cell at box less more) point mult relaxed)
+    (IsVertex-point p floors (less_caps caps cell at) program (less_box p floors caps cell at box less more) point mult relaxed)
 
 pub bound-own_more : (p : Program) (floors caps : List ℕ) (cell at : ℕ) (above mult : Mult) (point : List Frac) → IsProgram p → IsMultiplier p above
     → IsBox p floors caps → nat_at floors cell ≤ at → at < nat_at caps cell → IsRelaxation p (more_floors floors cell at) caps (vertex point mult)
     → bound_of p (more_floors floors cell at) caps mult ≤ℤ bound_of p floors caps above
 bound-own_more p floors caps cell at above mult point program by box less more relaxed =
     bound-own p floors caps (more_floors floors cell at) caps above mult point by (λ i. floors-rise floors cell at i less) (λ i. omega arith)
-    (IsVertex-point p (more_floors floors cell at) caps program (IsBox-more p floors caps cell at box less more) point mult relaxed)
+    (IsVertex-point p (more_floors floors cell at) caps program (more_box p floors caps cell at box less more) point mult relaxed)

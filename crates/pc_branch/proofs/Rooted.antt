@@ -6,6 +6,7 @@ use Rattle.pc_program_bound.specs.declared.program.Program.{Program}
 use Rattle.pc_model.specs.declared.tree.Mult.{Mult}
 use Rattle.pc_program_bound.specs.Allocation.{IsProgram}
 use Rattle.pc_program_bound.specs.Bound.{bound_of}
+use Rattle.pc_program_bound.proofs.WalkParts.{whole_box}
 use Rattle.pc_frontier.specs.Frontier.{Seen, none_yet, with_root, node_at}
 use Rattle.pc_frontier.specs.Boxes.{leaf, IsTree, Box, AreFitting}
 use Rattle.pc_branch.specs.Licence.{no_multipliers, first_bound}
@@ -17,7 +18,6 @@ use Rattle.pc_branch.specs.Grown.{visited_at, value_as, IsVisited}
 use Rattle.pc_branch.specs.Searching.{IsLeafKept, IsAtMost, IsSplit, start_of}
 use Rattle.pc_branch.specs.Steps.{counts_found, better, IsSearch}
 use Rattle.pc_branch.specs.Visits.{HasCounts, rooted}
-use Rattle.pc_branch.proofs.Leaves.{start_box}
 use Rattle.pc_branch.proofs.Offers.{IsConsidered, consider_keeps, offered_by, held_by}
 
 root_tree : (room : ℕ) → IsTree (with_root (none_yet room)).nodes (leaf 0)
@@ -37,7 +37,7 @@ module _ (p : Program) (program : IsProgram p) (room : ℕ) (some : 1 ≤ room) 
   found_first : IsConsidered p v.node.bound v.counts v.node.bound None (better v.counts v.node.bound None)
   found_first =
       consider_keeps p v.node.bound v.counts v.node.bound None
-      (offered_by p v.node.bound p.floor p.cap v.node.known v.node.bound v.counts (start_box p program) counts (own_value v.node.known v.node.bound)) tt tt
+      (offered_by p v.node.bound p.floor p.cap v.node.known v.node.bound v.counts (whole_box p program) counts (own_value v.node.known v.node.bound)) tt tt
 
   root_kept : IsLeafKept p v.node.bound (counts_found (better v.counts v.node.bound None)) None (node_at (with_root (none_yet room)).nodes 0) v.node
   root_kept = record {

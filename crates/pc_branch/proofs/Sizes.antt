@@ -16,14 +16,13 @@ use Rattle.pc_program_bound.specs.Bound.{part_of, rest_of, constraint_share, cel
 use Rattle.pc_program_bound.specs.SplitTrees.{less_caps, more_floors}
 use Rattle.pc_program_bound.proofs.Ring.{mul_mono, mul-pos, le-div_euclid}
 use Rattle.pc_program_bound.proofs.SumBelow.{sum_below-zero, sum_below-suc, sum_below-scale, sum_below-none, none_chosen}
+use Rattle.pc_program_bound.proofs.WalkParts.{whole_box, less_box, more_box}
 use Rattle.pc_simplex_tableau.specs.Point.{vertex, IsRelaxation}
 use Rattle.pc_simplex_tableau.proofs.Products.{zero-mul, one-mul, mul-neg, neg-mul, mul_swap, le_cancel}
 use Rattle.pc_simplex.specs.Vertices.{IsVertex}
 use Rattle.pc_simplex.proofs.Vertices.{IsVertex-point}
 use Rattle.pc_branch.specs.Licence.{Splits, leaf, split, nodes_of, AreSplitNodes, fractional, too_wide, too_long, HasOpen, no_multipliers, first_bound, IsLicence}
 use Rattle.pc_branch.specs.Ends.{HasSmallGains}
-use Rattle.pc_branch.proofs.Parts.{IsBox-less, IsBox-more}
-use Rattle.pc_branch.proofs.Leaves.{start_box}
 use Rattle.pc_branch.proofs.Widths.{no_number}
 
 -- between -m and m
@@ -172,8 +171,8 @@ module _ (p : Program) where
     open-within above floors caps (split cell at t u) box splits within open_leaf =
         let next = bound_of p floors caps open_leaf.1 in
         let here = next-within floors caps open_leaf.0 open_leaf.1 box open_leaf.2 in
-        let low = IsBox-less p floors caps cell at box splits.0.2.less splits.0.2.more in
-        let high = IsBox-more p floors caps cell at box splits.0.2.less splits.0.2.more in
+        let low = less_box p floors caps cell at box splits.0.2.less splits.0.2.more in
+        let high = more_box p floors caps cell at box splits.0.2.less splits.0.2.more in
         either-within
         (HasOpen p spent e next floors (less_caps caps cell at) t)
         (HasOpen p spent e next (more_floors floors cell at) caps u)
@@ -185,7 +184,7 @@ module _ (p : Program) where
 pub licence-within : (p : Program) (budget : ℕ) (e : ℤ) (tree : Splits) → IsProgram p → IsLicence p budget e tree
     → (neg_ℤ (all_gains p) ≤ℤ e) × (e ≤ℤ all_gains p)
 licence-within p budget e tree program licence =
-    open-within p program (Some e) (budget < nodes_of tree + 2) e (first_bound p) p.floor p.cap tree (start_box p program)
+    open-within p program (Some e) (budget < nodes_of tree + 2) e (first_bound p) p.floor p.cap tree (whole_box p program)
     licence.search.splits (first-within p program) licence.open_leaf
 
 pub licence-small : (p : Program) (budget : ℕ) (e : ℤ) (tree : Splits) → IsProgram p → HasSmallGains p → IsLicence p budget e tree

@@ -62,7 +62,7 @@ pub record IsSearchTree (p : Program) (budget : ℕ) (least : Option ℤ) (tree 
 
 -- ---- open leaves
 
--- the multipliers that a leaf has from its parent, or at the root those of 0
+-- 0 for each constraint: what a root that is wide or stalled has in place of a parent's multipliers
 abbrev pub no_multipliers : Program → Mult
 no_multipliers p = record { by = replicate (constraints_of p) (pos 0); den = pos 1 }
 

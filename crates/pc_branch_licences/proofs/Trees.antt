@@ -7,11 +7,10 @@ use Rattle.pc_program_bound.specs.declared.program.Program.{Program}
 use Rattle.pc_program_bound.specs.Allocation.{IsProgram, IsBox, worth}
 use Rattle.pc_program_bound.specs.Bound.{bound_of}
 use Rattle.pc_program_bound.specs.SplitTrees.{less_caps, more_floors}
+use Rattle.pc_program_bound.proofs.WalkParts.{whole_box, less_box, more_box}
 use Rattle.pc_simplex.proofs.Vertices.{IsVertex-point}
 use Rattle.pc_branch.specs.Ends.{whole_counts}
 use Rattle.pc_branch.specs.Licence.{Splits, leaf, split, AreSplitNodes, IsSearchTree, IsLicence, HoldsWholePoints}
-use Rattle.pc_branch.proofs.Leaves.{start_box}
-use Rattle.pc_branch.proofs.Parts.{IsBox-less, IsBox-more}
 use Rattle.pc_branch.proofs.Points.{whole-worth}
 use Rattle.pc_branch_licences.specs.Wanted.{Wanted, any, nothing, some, without, from, Has, IsShort, EndsInNone, LeavesOpen}
 
@@ -58,8 +57,8 @@ module _ (p : Program) (program : IsProgram p) (e : ℤ) (found : Option (List �
       not-wanted p wanted found (whole_counts point) (bound_of p floors caps mult)
       (whole-worth p floors caps point mult (IsVertex-point p floors caps program box point mult relaxed) whole) (holds point mult relaxed whole) short has
   leaves-short (split cell at less more) floors caps box splits holds = (
-    leaves-short less floors (less_caps caps cell at) (IsBox-less p floors caps cell at box splits.0.2.less splits.0.2.more) splits.1 holds.0,
-    leaves-short more (more_floors floors cell at) caps (IsBox-more p floors caps cell at box splits.0.2.less splits.0.2.more) splits.2 holds.1,
+    leaves-short less floors (less_caps caps cell at) (less_box p floors caps cell at box splits.0.2.less splits.0.2.more) splits.1 holds.0,
+    leaves-short more (more_floors floors cell at) caps (more_box p floors caps cell at box splits.0.2.less splits.0.2.more) splits.2 holds.1,
   )
 
 pub licence-open : (p : Program) (budget : ℕ) (e : ℤ) (found : Option (List ℕ)) (wanted : Wanted) (tree : Splits) → IsProgram p → IsLicence p budget e tree →
@@ -67,5 +66,5 @@ pub licence-open : (p : Program) (budget : ℕ) (e : ℤ) (found : Option (List 
 licence-open p budget e found wanted tree program licence holds short = record {
   tree = tree;
   licence = licence;
-  leaves = leaves-short p program e found wanted short tree p.floor p.cap (start_box p program) licence.search.splits holds;
+  leaves = leaves-short p program e found wanted short tree p.floor p.cap (whole_box p program) licence.search.splits holds;
 }

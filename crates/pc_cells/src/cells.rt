@@ -1,5 +1,8 @@
 ghost use Rattle.std.specs.Prelude.{◌≡◌, ◌<◌, length, IfOk};
+ghost use Rattle.pc_model.specs.CutTrees.{shape_of};
+ghost use Rattle.pc_model.specs.Regions.{whole_region};
 ghost use Rattle.pc_cells_tree.specs.Linked.{CanBeDivided};
+ghost use Rattle.pc_cells_tree.specs.Straight.{AreNeeded};
 ghost use Rattle.pc_cells.specs.Found.{AreCellsFor, leaves_at};
 
 use crate::gather::gather;
@@ -36,7 +39,7 @@ impl Cells {
 }
 
 /// Divides the rows of the domain by which constraints speak of them and whether the query chooses them, with a
-/// tree for them alone, which is grown straight away.
+/// tree for them alone, which is grown straight away and has no cut that is not needed.
 pub fn decompose(
     alloc: Global,
     schema: &Schema,
@@ -45,6 +48,7 @@ pub fn decompose(
 ) -> Result<Cells, Memory>
     requires asked { CanBeDivided schema.now constraints.now chosen.now }
     ensures found { IfOk result (AreCellsFor schema.now constraints.now chosen.now) }
+    ensures needed { IfOk result (λ found. AreNeeded constraints.now chosen.now (whole_region schema.now) (shape_of found.tree.nodes)) }
 {
     let Growth { nodes, leaves } = grown_tree(alloc, schema, constraints, chosen)?;
     let cells = gather(alloc, leaves)?;

@@ -26,6 +26,7 @@ use Rattle.pc_box.proofs.AlikeAreas.{IsAlikeToArea-from_schema, all_alike-from_s
 use Rattle.pc_cells_tree.specs.declared.growth.Growth.{Growth}
 use Rattle.pc_cells_tree.specs.Decisions.{IsComparable}
 use Rattle.pc_cells_tree.specs.Growing.{HasGrown, with_leaf, with_place, with_inner}
+use Rattle.pc_cells_tree.specs.Straight.{AreNeeded}
 use Rattle.pc_cells_tree.specs.Walking.{HasCutsAt}
 use Rattle.pc_cells_laws.proofs.Trees.{shape_of-nodes, length-nodes}
 use Rattle.pc_model.proofs.FewNames.{have_few_names}
@@ -119,6 +120,9 @@ module _ (schema : Schema) (constraints : List Constraint) (chosen : Area) (whol
 
   pub same_cuts : (linked : List CutNode) → HasCutsAt linked 0 grown.shape → HasCutsAt linked 0 (shape_of growth.nodes)
   same_cuts linked cuts = rw shape_is cuts
+
+  pub needed_cuts : AreNeeded constraints chosen whole grown.shape → AreNeeded constraints chosen (whole_region schema) (shape_of growth.nodes)
+  needed_cuts needed = rw (shape_is, sym is_whole) needed
 
   pub all_leaves : growth.leaves ≡ leaves_in schema growth.nodes
   all_leaves = rw (shape_is, sym is_whole, grown.leaves_are, no_leaves) refl

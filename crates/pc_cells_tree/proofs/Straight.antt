@@ -16,17 +16,16 @@ use Rattle.pc_model.specs.declared.tree.CutNode.{CutNode}
 use Rattle.pc_model.specs.declared.tree.CutNode.TheVariants as forms
 use Rattle.pc_model.specs.CutTrees.{first_part, second_part}
 use Rattle.pc_model.specs.Cells.{IsSettledAs}
-use Rattle.pc_box.specs.Cuts.{Divides}
 use Rattle.pc_cells_tree.specs.declared.growth.Growth.{Growth}
 use Rattle.pc_cells_tree.specs.declared.known.Known.{Known}
 use Rattle.pc_cells_tree.specs.declared.grow.Job.{Job}
 use Rattle.pc_cells_tree.specs.declared.grow.Job.TheVariants.{Grow, Close}
 use Rattle.pc_cells_tree.specs.declared.grow.Work.{Work}
-use Rattle.pc_cells_tree.specs.Decisions.{IsComparable}
-use Rattle.pc_cells_tree.specs.Growing.{HasGrown, with_leaf, with_place, with_inner}
+use Rattle.pc_cells_tree.specs.Decisions.{IsComparable, IsNeeded}
+use Rattle.pc_cells_tree.specs.Growing.{with_leaf, with_place, with_inner}
 use Rattle.pc_cells_tree.specs.Knowing.{IsKnown}
 use Rattle.pc_cells_tree.specs.Rooms.{room}
-use Rattle.pc_cells_tree.specs.Straight.{Does, Leads, IsJob, effort, efforts, IsDoing, IsOpened, IsThriving}
+use Rattle.pc_cells_tree.specs.Straight.{Does, Leads, IsJob, effort, efforts, IsDoing, IsOpened, IsThriving, HasSprouted}
 use Rattle.pc_cells_tree.specs.Walking.{nothing}
 use Rattle.pc_cells_tree.proofs.Grown.{first_comparable, second_comparable, grown-leaf, grown-inner}
 use Rattle.pc_cells_tree.proofs.Knowing.{known_first, known_second}
@@ -82,19 +81,19 @@ module _ (constraints : List Constraint) (chosen : Area) where
 
   -- ---- at a leaf
 
-  has_leaf : (part : Region) (before : Growth) (mark : LeafMark) → IsSettledAs constraints chosen part mark → HasGrown constraints chosen part before (with_leaf before part mark)
+  has_leaf : (part : Region) (before : Growth) (mark : LeafMark) → IsSettledAs constraints chosen part mark → HasSprouted constraints chosen part before (with_leaf before part mark)
   unfolding grown-leaf
-  has_leaf part before mark settled = grown-leaf constraints chosen part before mark settled
+  has_leaf part before mark settled = record { grown = grown-leaf constraints chosen part before mark settled; needed = tt }
 
   pub leaf-job : (work : Work) (part : Region) (known : Known) (mark : LeafMark) (growth : Growth) → IsSettledAs constraints chosen part mark → growth ≡ with_leaf work.growth part mark →
       IsDoing constraints chosen (Grow part known) work (record { growth = growth; jobs = work.jobs })
   leaf-job work part known mark growth settled e =
       let more : length growth.nodes ≡ length work.growth.nodes + 1 = ap (λ (g : Growth). length g.nodes) e ∙ length-append work.growth.nodes (forms.Leaf mark ∷ []) in
-      done-job work (Grow part known) growth (omega (arith, more)) (subst (HasGrown constraints chosen part work.growth) (sym e) (has_leaf part work.growth mark settled))
+      done-job work (Grow part known) growth (omega (arith, more)) (subst (HasSprouted constraints chosen part work.growth) (sym e) (has_leaf part work.growth mark settled))
 
   -- ---- at a cut
 
-  module _ (part : Region) (known of_parts : Known) (cut : Cut) (fits : IsComparable constraints chosen part) (divided : Divides part cut) (says : IsKnown constraints part of_parts) where
+  module _ (part : Region) (known of_parts : Known) (cut : Cut) (fits : IsComparable constraints chosen part) (needs : IsNeeded constraints chosen part cut) (says : IsKnown constraints part of_parts) where
     abbrev first : Job
     first = Grow (first_part part cut) of_parts
 
@@ -102,15 +101,18 @@ module _ (constraints : List Constraint) (chosen : Area) where
     second = Grow (second_part part cut) of_parts
 
     is_first : IsComparable constraints chosen (first_part part cut) × IsKnown constraints (first_part part cut) of_parts
-    is_first = (first_comparable constraints chosen part (first_part part cut) cut fits divided refl, known_first constraints part of_parts cut divided says)
+    is_first = (first_comparable constraints chosen part (first_part part cut) cut fits needs.divides refl, known_first constraints part of_parts cut needs.divides says)
 
     is_second : IsComparable constraints chosen (second_part part cut) × IsKnown constraints (second_part part cut) of_parts
-    is_second = (second_comparable constraints chosen part (second_part part cut) cut fits divided refl, known_second constraints part of_parts cut divided says)
+    is_second = (second_comparable constraints chosen part (second_part part cut) cut fits needs.divides refl, known_second constraints part of_parts cut needs.divides says)
 
-    has_inner : (before middle after : Growth) → HasGrown constraints chosen (first_part part cut) (with_place before) middle →
-        HasGrown constraints chosen (second_part part cut) (with_inner middle (length before.nodes) cut) after → HasGrown constraints chosen part before after
+    has_inner : (before middle after : Growth) → HasSprouted constraints chosen (first_part part cut) (with_place before) middle →
+        HasSprouted constraints chosen (second_part part cut) (with_inner middle (length before.nodes) cut) after → HasSprouted constraints chosen part before after
     unfolding grown-inner
-    has_inner before middle after one other = grown-inner constraints chosen part cut before middle after fits.filled divided one other
+    has_inner before middle after one other = record {
+      grown = grown-inner constraints chosen part cut before middle after fits.filled needs.divides one.grown other.grown;
+      needed = (needs, one.needed, other.needed);
+    }
 
     module _ (jobs : List Job) (before : Growth) where
       abbrev with_second : List Job
@@ -135,13 +137,13 @@ module _ (constraints : List Constraint) (chosen : Area) where
           let one = leads_pop with_close first (with_place before) end leads in
           let closed = leads_pop with_second (Close (length before.nodes) cut) one.0 end one.2 in
           let other = leads_pop jobs second closed.0 end closed.2 in
-          let start : HasGrown constraints chosen (second_part part cut) (with_inner one.0 (length before.nodes) cut) other.0 =
-          subst (λ growth. HasGrown constraints chosen (second_part part cut) growth other.0) closed.1 other.1 in
+          let start : HasSprouted constraints chosen (second_part part cut) (with_inner one.0 (length before.nodes) cut) other.0 =
+          subst (λ growth. HasSprouted constraints chosen (second_part part cut) growth other.0) closed.1 other.1 in
           leads_push jobs (Grow part known) before other.0 end (has_inner before one.0 other.0 one.1 start) other.2
 
       opened_less : efforts with_first < efforts (jobs ++ Grow part known ∷ [])
       opened_less =
-          let less = parts_less (room (first_part part cut)) (room (second_part part cut)) (room part) (first_smaller part cut divided (first_part part cut) refl) (second_smaller part cut divided (second_part part cut) refl) in
+          let less = parts_less (room (first_part part cut)) (room (second_part part cut)) (room part) (first_smaller part cut needs.divides (first_part part cut) refl) (second_smaller part cut needs.divides (second_part part cut) refl) in
           omega (
             arith,
             less,
@@ -164,7 +166,7 @@ module _ (constraints : List Constraint) (chosen : Area) where
       jobs.items ≡ Grow whole known ∷ [] → IsThriving constraints chosen whole (record { growth = record { nodes = grown; leaves = leaves }; jobs = jobs })
   start-thriving whole known grown leaves jobs fits says no_nodes no_leaves one_job = record {
     jobs = rw one_job (All-cons (IsJob constraints chosen (length grown)) (Grow whole known) [] (fits, says) (All-nil (IsJob constraints chosen (length grown))));
-    leads = λ end leads. let last = leads_pop [] (Grow whole known) nothing end (rw (no_nodes, no_leaves, one_job) at leads) in subst (HasGrown constraints chosen whole nothing) last.2 last.1;
+    leads = λ end leads. let last = leads_pop [] (Grow whole known) nothing end (rw (no_nodes, no_leaves, one_job) at leads) in subst (HasSprouted constraints chosen whole nothing) last.2 last.1;
   }
 
   pub step-thriving : (whole : Region) (work : Work) (jobs : List Job) (job : Job) (before after : Work) → IsThriving constraints chosen whole work →
@@ -185,5 +187,5 @@ module _ (constraints : List Constraint) (chosen : Area) where
       let each : All (IsJob constraints chosen (length work.growth.nodes)) (jobs ++ job ∷ []) = rw popped at way.jobs in
       subst (IsJob constraints chosen (length work.growth.nodes)) (get_or-append_seam jobs job [] job) (each (length jobs) job (omega (arith, length-append jobs (job ∷ []))))
 
-  pub ended : (whole : Region) (work : Work) → IsThriving constraints chosen whole work → work.jobs.items ≡ [] → HasGrown constraints chosen whole nothing work.growth
+  pub ended : (whole : Region) (work : Work) → IsThriving constraints chosen whole work → work.jobs.items ≡ [] → HasSprouted constraints chosen whole nothing work.growth
   ended whole work way none = way.leads work.growth (rw none refl)

@@ -1,14 +1,15 @@
 ghost use Rattle.std.specs.Prelude.{◌≡◌, ◌≤◌, ◌<◌, ◌^◌, length, IfOk};
 ghost use Rattle.pc_model.specs.Accepted.{constraint_limit};
 ghost use Rattle.pc_model.specs.Cells.{IsSettledTree, leaves_in};
+ghost use Rattle.pc_model.specs.CutTrees.{shape_of};
+ghost use Rattle.pc_model.specs.Regions.{whole_region};
 ghost use Rattle.pc_box.specs.Boxes.{IsBox};
 ghost use Rattle.pc_box.specs.Cuts.{Divides};
 ghost use Rattle.pc_cells_tree.specs.declared.grow.Job.TheVariants.{Grow, Close};
 ghost use Rattle.pc_cells_tree.specs.Decisions.{IsComparable};
-ghost use Rattle.pc_cells_tree.specs.Growing.{HasGrown};
 ghost use Rattle.pc_cells_tree.specs.Knowing.{IsKnown};
 ghost use Rattle.pc_cells_tree.specs.Linked.{CanBeDivided};
-ghost use Rattle.pc_cells_tree.specs.Straight.{IsJob, IsDoing, IsOpened};
+ghost use Rattle.pc_cells_tree.specs.Straight.{AreNeeded, HasSprouted, IsJob, IsDoing, IsOpened};
 ghost use Rattle.pc_cells_tree.specs.Walking.{nothing};
 
 use crate::decision::{Decision, decide};
@@ -45,6 +46,7 @@ pub fn grown_tree(
 ) -> Result<Growth, Memory>
     requires asked { CanBeDivided schema.now constraints.now chosen.now }
     ensures settled { IfOk result (λ growth. IsSettledTree schema.now constraints.now chosen.now growth.nodes) }
+    ensures needed { IfOk result (λ growth. AreNeeded constraints.now chosen.now (whole_region schema.now) (shape_of growth.nodes)) }
     ensures leaves { IfOk result (λ growth. growth.leaves ≡ leaves_in schema.now growth.nodes) }
     ensures few { IfOk result (λ growth. length growth.leaves < 2 ^ 32) }
 {
@@ -63,7 +65,7 @@ fn grown_over(
 ) -> Result<Growth, Memory>
     requires few { length constraints.now ≤ constraint_limit }
     requires comparable { IsComparable constraints.now chosen.now whole }
-    ensures { IfOk result (HasGrown constraints.now chosen.now whole nothing) }
+    ensures { IfOk result (HasSprouted constraints.now chosen.now whole nothing) }
 {
     let growth = Growth {
         nodes: Seq::new(alloc),

@@ -8,6 +8,7 @@ use Rattle.std.proofs.lemmas.Int.{ints}
 use Rattle.std.proofs.lemmas.List.Elements.{All-head, All-tail, All-filter, filter_agree}
 use Rattle.std.proofs.lemmas.List.Sums.{length-filter, count_by-le-length}
 use Rattle.std.proofs.lemmas.Nat.{mul-le}
+use Rattle.pc_num.specs.Scaled.{greatest_size}
 use Rattle.pc_model.specs.declared.schema.Schema.{Schema}
 use Rattle.pc_model.specs.declared.row.Row.{Row}
 use Rattle.pc_model.specs.declared.query.Query.{Query}
@@ -53,11 +54,11 @@ fold_few query name rows folded fold =
     let keep = λ (row : Row). is_in query.chosen row && is_in_group query.group name row in
     omega (arith, fold.count, length-filter keep rows, count_by-le-length keep rows)
 
-sum_within : (f : Row → ℤ) (rows : List Row) → All (λ row. nat_abs (f row) ≤ 10 ^ 15) rows → nat_abs (int_sum (map f rows)) ≤ length rows * 10 ^ 15
+sum_within : (f : Row → ℤ) (rows : List Row) → All (λ row. nat_abs (f row) ≤ greatest_size) rows → nat_abs (int_sum (map f rows)) ≤ length rows * greatest_size
 sum_within f [] each = omega arith
 sum_within f (row ∷ rows) each =
-    let first = All-head (λ other. nat_abs (f other) ≤ 10 ^ 15) row rows each in
-    let rest = sum_within f rows (All-tail (λ other. nat_abs (f other) ≤ 10 ^ 15) row rows each) in
+    let first = All-head (λ other. nat_abs (f other) ≤ greatest_size) row rows each in
+    let rest = sum_within f rows (All-tail (λ other. nat_abs (f other) ≤ greatest_size) row rows each) in
     omega (arith, ints, first, rest)
 
 asked_at : (query : Query) (column : ℕ) (row : Row) → query.column ≡ Some column → asked query row ≡ number_at row column
@@ -74,11 +75,11 @@ fold_small schema query rows folded formed allowed fold few = by_column query.co
     by_column (Some column) is =
         let list = kept query None rows in
         let sum : folded.sum ≡ int_sum (map (λ (row : Row). number_at row column) list) = fold.sum ∙ ap (λ c. sum_at c list) is in
-        let each : All (λ (row : Row). nat_abs (asked query row) ≤ 10 ^ 15) list =
-        All-filter (λ row. is_in query.chosen row && is_in_group query.group None row) (λ row. nat_abs (asked query row) ≤ 10 ^ 15) rows
+        let each : All (λ (row : Row). nat_abs (asked query row) ≤ greatest_size) list =
+        All-filter (λ row. is_in query.chosen row && is_in_group query.group None row) (λ row. nat_abs (asked query row) ≤ greatest_size) rows
         (λ place d inside. asked_small schema query (get_or rows place d) formed (allowed place d inside)) in
-        let within : nat_abs (int_sum (map (λ (row : Row). number_at row column) list)) ≤ length list * 10 ^ 15 =
+        let within : nat_abs (int_sum (map (λ (row : Row). number_at row column) list)) ≤ length list * greatest_size =
         sum_within (λ (row : Row). number_at row column) list
-        (λ place d inside. subst (λ n. nat_abs n ≤ 10 ^ 15) (asked_at query column (get_or list place d) is) (each place d inside)) in
-        let all : length list * 10 ^ 15 ≤ (20 * 1_000_000_000) * 10 ^ 15 = mul-le (length list) (10 ^ 15) (20 * 1_000_000_000) (10 ^ 15) (omega (arith, fold.count, few, fold_few query None rows folded fold)) (omega arith) in
+        (λ place d inside. subst (λ n. nat_abs n ≤ greatest_size) (asked_at query column (get_or list place d) is) (each place d inside)) in
+        let all : length list * greatest_size ≤ (20 * 1_000_000_000) * greatest_size = mul-le (length list) (greatest_size) (20 * 1_000_000_000) (greatest_size) (omega (arith, fold.count, few, fold_few query None rows folded fold)) (omega arith) in
         omega (arith, ints, sum, within, all)

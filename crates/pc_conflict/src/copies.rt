@@ -3,7 +3,7 @@ ghost use Rattle.std.specs.Prelude.{◌≡◌, ◌<◌, length, All, IfOk};
 ghost use Rattle.pc_conflict.specs.Deletion.{at_places};
 
 use pc_list::Seq;
-use pc_model::{Constraint, When};
+use pc_model::Constraint;
 use pc_num::Memory;
 use std::alloc::Global;
 
@@ -18,29 +18,8 @@ pub(crate) fn constraints_at(
 {
     let mut copies = Seq::new(alloc);
     for place in places {
-        let copy = copied(&constraints[*place as usize])?;
+        let copy = constraints[*place as usize].clone()?;
         copies.push(copy)?;
     }
     Ok(copies)
-}
-
-fn copied(constraint: &Constraint) -> Result<Constraint, Memory>
-    ensures { IfOk result (λ copy. copy ≡ constraint.now) }
-{
-    Ok(Constraint {
-        name: constraint.name.clone()?,
-        when: copied_when(&constraint.when)?,
-        values: constraint.values.clone()?,
-        least: constraint.least,
-        most: constraint.most,
-    })
-}
-
-fn copied_when(when: &When) -> Result<When, Memory>
-    ensures { IfOk result (λ copy. copy ≡ when.now) }
-{
-    match when {
-        When::Boxes(area) => Ok(When::Boxes(area.clone()?)),
-        When::Outside => Ok(When::Outside),
-    }
 }

@@ -4,6 +4,7 @@ use Rattle.std.specs.Prelude.{pos, codes, nat_abs, nat_lt, IsSomeAnd, slice_get}
 use Rattle.std.specs.List.{list_all}
 use Rattle.std.proofs.lemmas.Bool.{and_from, and_parts, cases_Bool, false≢true, le-leb, leb-true, lt-ltb, ltb-true}
 use Rattle.std.proofs.lemmas.List.Elements.{All-head, All-tail}
+use Rattle.pc_num.specs.Scaled.{greatest_size}
 use Rattle.pc_model.specs.declared.schema.Kind.{Kind}
 use Rattle.pc_model.specs.declared.schema.Kind.TheVariants.{Int, Dec, Cat}
 use Rattle.pc_model.specs.declared.schema.Column.{Column}
@@ -29,7 +30,7 @@ use Rattle.pc_lang.proofs.NamedSets.{bits_again}
 use Rattle.pc_document_format.specs.Formats.{IsLine, IsSpelled}
 use Rattle.pc_document_format.specs.Lines.{feeds_in}
 use Rattle.pc_document_format.proofs.Spelled.{spelled_line}
-use Rattle.pc_proof.specs.Form.{IsFormedCut, IsFormedCutNode, IsFormedCutOf, IsFormedMarkOf, greatest_number_size}
+use Rattle.pc_proof.specs.Form.{IsFormedCut, IsFormedCutNode, IsFormedCutOf, IsFormedMarkOf}
 use Rattle.pc_document_lines.specs.TokenLines.{IsBareCut, Tokens, bare_cut, column_in, cut_at, cut_node_of_tokens, cut_node_text, cut_node_tokens, divided_tokens, is_cut_node, is_cut_of, kind_at, kind_of, likely_cut_node, mark_tokens, more_names, names_in, names_of, read_cut_node, scale_at, set_tokens, side_token}
 use Rattle.pc_document_lines.proofs.NumbersBack.{numbers_again}
 use Rattle.pc_document_lines.proofs.TokensOf.{AreSpelled, IsColumnAt, bare_name, column_at, count_again, spelled_more, tokens_again, tokens_plain}
@@ -199,8 +200,8 @@ node_plain schema node formed is = tokens_plain (cut_node_tokens schema node) (n
 
 -- a cut in form of a column passes the test
 kind_tested : (cut : Cut) (kind : Kind) → IsFormedCutOf cut kind → is_cut_of cut (Some kind) ≡ true
-kind_tested (At column at) (Int low high) formed = le-leb (nat_abs at) greatest_number_size formed.1
-kind_tested (At column at) (Dec scale low high) formed = le-leb (nat_abs at) greatest_number_size formed.1
+kind_tested (At column at) (Int low high) formed = le-leb (nat_abs at) greatest_size formed.1
+kind_tested (At column at) (Dec scale low high) formed = le-leb (nat_abs at) greatest_size formed.1
 kind_tested (At column at) (Cat names) formed = absurd formed.0
 kind_tested (Among column bits) (Int low high) formed = absurd formed
 kind_tested (Among column bits) (Dec scale low high) formed = absurd formed
@@ -208,8 +209,8 @@ kind_tested (Among column bits) (Cat names) formed = and_from (nat_lt 0 bits) (n
 
 -- a cut that passes the test is in form
 tested_kind : (cut : Cut) (kind : Kind) → is_cut_of cut (Some kind) ≡ true → IsFormedCutOf cut kind
-tested_kind (At column at) (Int low high) e = (tt, leb-true (nat_abs at) greatest_number_size e)
-tested_kind (At column at) (Dec scale low high) e = (tt, leb-true (nat_abs at) greatest_number_size e)
+tested_kind (At column at) (Int low high) e = (tt, leb-true (nat_abs at) greatest_size e)
+tested_kind (At column at) (Dec scale low high) e = (tt, leb-true (nat_abs at) greatest_size e)
 tested_kind (At column at) (Cat names) e = absurd (false≢true e)
 tested_kind (Among column bits) (Int low high) e = absurd (false≢true e)
 tested_kind (Among column bits) (Dec scale low high) e = absurd (false≢true e)

@@ -5,6 +5,7 @@ use Rattle.std.specs.List.{AllZip, list_all}
 use Rattle.std.proofs.lemmas.Bool.{and_from, and_parts, false≢true, le-leb, leb-true, lt-ltb, ltb-true}
 use Rattle.std.proofs.lemmas.List.{append-nil}
 use Rattle.std.proofs.lemmas.List.Elements.{All-head, All-tail}
+use Rattle.pc_num.specs.Scaled.{greatest_size}
 use Rattle.pc_num.specs.Put.{scaled_text}
 use Rattle.pc_model.specs.declared.schema.Kind.{Kind}
 use Rattle.pc_model.specs.declared.schema.Kind.TheVariants.{Int, Dec, Cat}
@@ -25,7 +26,7 @@ use Rattle.pc_lang_tokens.proofs.TokensBack.{after_cons, after_nil}
 use Rattle.pc_document_format.specs.Formats.{IsLine, IsSpelled}
 use Rattle.pc_document_format.specs.Lines.{feeds_in}
 use Rattle.pc_document_format.proofs.Spelled.{spelled_line}
-use Rattle.pc_proof.specs.Form.{IsFormedCell, IsFormedCellOf, IsFormedRun, greatest_number_size}
+use Rattle.pc_proof.specs.Form.{IsFormedCell, IsFormedCellOf, IsFormedRun}
 use Rattle.pc_report.specs.RunLines as report
 use Rattle.pc_document_lines.specs.Numbers.{count_text}
 use Rattle.pc_document_lines.specs.TokenLines.{Tokens, are_cells, begins_run, field_number, fields_at, is_cell, is_run, likely_run, read_run, run_of_tokens, run_text}
@@ -230,14 +231,14 @@ run_back schema run formed is =
 
 -- a number in form passes the test
 cell_tested : (kind : Kind) (cell : ℤ) → IsFormedCell kind cell → is_cell kind cell ≡ true
-cell_tested (Int low high) cell formed = le-leb (nat_abs cell) greatest_number_size formed
-cell_tested (Dec scale low high) cell formed = le-leb (nat_abs cell) greatest_number_size formed
+cell_tested (Int low high) cell formed = le-leb (nat_abs cell) greatest_size formed
+cell_tested (Dec scale low high) cell formed = le-leb (nat_abs cell) greatest_size formed
 cell_tested (Cat names) cell formed = formed
 
 -- a number that passes the test is in form
 tested_cell : (kind : Kind) (cell : ℤ) → is_cell kind cell ≡ true → IsFormedCell kind cell
-tested_cell (Int low high) cell e = leb-true (nat_abs cell) greatest_number_size e
-tested_cell (Dec scale low high) cell e = leb-true (nat_abs cell) greatest_number_size e
+tested_cell (Int low high) cell e = leb-true (nat_abs cell) greatest_size e
+tested_cell (Dec scale low high) cell e = leb-true (nat_abs cell) greatest_size e
 tested_cell (Cat names) cell e = e
 
 -- numbers in form pass the test

@@ -1,6 +1,7 @@
 -- The lines that hold names: runs, cuts and leaves, the name of a group, and queries.
 use Rattle.std.specs.Prelude.{◌≡◌, ℕ, zero, suc, unsigned_abs, ◌+◌, ◌^◌, ◌&&◌, ℤ, pos, Bool, true, false, List, [], ◌∷◌, ◌++◌, length, get_or, codes, decimal, drop, take, Option, Some, None, Result, Ok, Err, bytes_eq, nat_lt, nat_le, slice_get, if◌then◌else◌}
 use Rattle.std.specs.List.{concat}
+use Rattle.pc_num.specs.Scaled.{greatest_size}
 use Rattle.pc_num.specs.Put.{scaled_text}
 use Rattle.pc_model.specs.declared.fault.Reason.{Reason}
 use Rattle.pc_model.specs.declared.schema.Kind.{Kind}
@@ -28,7 +29,7 @@ use Rattle.pc_lang.specs.Canonical.{names_from, query_text, name_at}
 use Rattle.pc_lang.specs.Claims.{bits_of}
 use Rattle.pc_lang.specs.Files.{query_from}
 use Rattle.pc_document_format.specs.Formats.{read_spelled}
-use Rattle.pc_proof.specs.Form.{IsFormedCutNode, greatest_number_size}
+use Rattle.pc_proof.specs.Form.{IsFormedCutNode}
 use Rattle.pc_report.specs.Report.{kind_name, scale_in}
 use Rattle.pc_report.specs.RunLines as report
 use Rattle.pc_document_lines.specs.Numbers.{count_text, likely_number, likely_count, is_within}
@@ -95,8 +96,8 @@ unfoldable pub likely_run : Schema → List ℕ → Option Run
 likely_run schema line = run_of_tokens schema (tokens_if (tokens_of line))
 
 abbrev pub is_cell : Kind → ℤ → Bool
-is_cell (Int low high) cell = is_within greatest_number_size cell
-is_cell (Dec scale low high) cell = is_within greatest_number_size cell
+is_cell (Int low high) cell = is_within greatest_size cell
+is_cell (Dec scale low high) cell = is_within greatest_size cell
 is_cell (Cat names) cell = is_below (length names) cell
 
 -- one number per column
@@ -212,8 +213,8 @@ likely_cut_node schema line = cut_node_of_tokens schema (tokens_if (tokens_of li
 
 abbrev pub is_cut_of : Cut → Option Kind → Bool
 is_cut_of cut None = false
-is_cut_of (At column at) (Some (Int low high)) = is_within greatest_number_size at
-is_cut_of (At column at) (Some (Dec scale low high)) = is_within greatest_number_size at
+is_cut_of (At column at) (Some (Int low high)) = is_within greatest_size at
+is_cut_of (At column at) (Some (Dec scale low high)) = is_within greatest_size at
 is_cut_of (At column at) (Some (Cat names)) = false
 is_cut_of (Among column bits) (Some (Int low high)) = false
 is_cut_of (Among column bits) (Some (Dec scale low high)) = false

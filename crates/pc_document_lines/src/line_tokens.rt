@@ -1,6 +1,6 @@
 ghost use Rattle.std.specs.Prelude.{◌≡◌, ◌≤◌, ◌^◌, IfOk, MatchOption, unsigned_abs};
+ghost use Rattle.pc_num.specs.Scaled.{greatest_size};
 ghost use Rattle.pc_lang_tokens.specs.Lexing.{tokens_of};
-ghost use Rattle.pc_proof.specs.Form.{greatest_number_size};
 ghost use Rattle.pc_document_lines.specs.Kept.{IsKept};
 ghost use Rattle.pc_document_lines.specs.Numbers.{is_within, likely_number};
 ghost use Rattle.pc_document_lines.specs.TokenLines.{name_of, number_of, token_at, tokens_if};
@@ -9,7 +9,7 @@ use crate::numbers::likely_number;
 use pc_lang_tokens::{Token, read_tokens};
 use pc_list::Seq;
 use pc_model::ReadStop;
-use pc_num::Memory;
+use pc_num::{GREATEST_SIZE, Memory};
 use std::alloc::Global;
 
 /// The tokens of a line; none of them where a place of it begins no token.
@@ -63,7 +63,7 @@ fn name_of(token: &Token) -> &[u8]
 
 /// The number of the token at a place, if it is small enough for a column.
 pub(crate) fn small_number_at(list: &[Token], place: usize) -> Option<i64>
-    ensures { IsKept (is_within greatest_number_size) (number_of (token_at list.now place)) result }
+    ensures { IsKept (is_within greatest_size) (number_of (token_at list.now place)) result }
 {
     match number_at(list, place) {
         Some(number) => small(number),
@@ -73,7 +73,7 @@ pub(crate) fn small_number_at(list: &[Token], place: usize) -> Option<i64>
 
 /// The only number whose text this can be, if it is small enough for a column.
 pub(crate) fn small_number(text: &[u8]) -> Option<i64>
-    ensures { IsKept (is_within greatest_number_size) (likely_number text.now) result }
+    ensures { IsKept (is_within greatest_size) (likely_number text.now) result }
 {
     match likely_number(text) {
         Some(number) => small(number),
@@ -82,9 +82,9 @@ pub(crate) fn small_number(text: &[u8]) -> Option<i64>
 }
 
 fn small(number: i128) -> Option<i64>
-    ensures { IsKept (is_within greatest_number_size) number result }
+    ensures { IsKept (is_within greatest_size) number result }
 {
-    if number.unsigned_abs() > 1_000_000_000_000_000 {
+    if number.unsigned_abs() > u128::from(GREATEST_SIZE) {
         return None;
     }
     Some(number as i64)

@@ -9,6 +9,7 @@ use Rattle.std.proofs.lemmas.Int.{ints}
 use Rattle.std.proofs.lemmas.List.{get_or_append_left, get_or-append-add, length-append}
 use Rattle.std.proofs.lemmas.List.Elements.{All-nil, All-cons, All-append, All-head, All-tail}
 use Rattle.std.proofs.lemmas.Nat.{and_le_r}
+use Rattle.pc_num.specs.Scaled.{greatest_size}
 use Rattle.pc_model.specs.declared.schema.Kind.{Kind}
 use Rattle.pc_model.specs.declared.schema.Kind.TheVariants.{Int, Dec, Cat}
 use Rattle.pc_model.specs.declared.schema.Column.{Column}
@@ -42,10 +43,10 @@ use Rattle.pc_group.specs.Trees.{HasOwnShape}
 
 -- ---- proper cuts
 
-between_small : (low high from at to : ℤ) → IsSpan low high → low ≤ℤ from → from ≤ℤ at → at ≤ℤ to → to ≤ℤ high → nat_abs at ≤ 10 ^ 15
+between_small : (low high from at to : ℤ) → IsSpan low high → low ≤ℤ from → from ≤ℤ at → at ≤ℤ to → to ≤ℤ high → nat_abs at ≤ greatest_size
 between_small low high from at to span first second third fourth = omega (arith, ints, span.small_low, span.small_high, first, second, third, fourth)
 
-span_formed : (low high from to at : ℤ) → IsSpan low high → (int_le low from && (int_le from to && int_le to high)) ≡ true → (int_le from at && int_lt at to) ≡ true → nat_abs at ≤ 10 ^ 15
+span_formed : (low high from to at : ℤ) → IsSpan low high → (int_le low from && (int_le from to && int_le to high)) ≡ true → (int_le from at && int_lt at to) ≡ true → nat_abs at ≤ greatest_size
 span_formed low high from to at span own divided =
     let outer = and_parts (int_le low from) (int_le from to && int_le to high) own in
     let ends = and_parts (int_le from to) (int_le to high) outer.1 in

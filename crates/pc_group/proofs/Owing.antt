@@ -1,6 +1,7 @@
 -- What the answer over the cells of a block is owed makes a block of the query and the name.
-use Rattle.std.proofs.Common.{◌≡◌, ℕ, ◌*◌, ◌^◌, ◌≤◌, List, Option, Some, refl, sym, ap, subst, arith}
+use Rattle.std.proofs.Common.{◌≡◌, ℕ, ◌*◌, ◌≤◌, List, Option, Some, refl, sym, ap, subst, arith}
 use Rattle.std.specs.Prelude.{is_none, nat_abs}
+use Rattle.pc_num.specs.Scaled.{greatest_size}
 use Rattle.pc_model.specs.declared.schema.Schema.{Schema}
 use Rattle.pc_model.specs.declared.row.Row.{Row}
 use Rattle.pc_model.specs.declared.constraint.Constraint.{Constraint}
@@ -31,7 +32,7 @@ use Rattle.pc_group.proofs.Narrowed.{query_for_is}
 
 -- what is asked of the cells of a block
 pub are_asked : (schema : Schema) (seen : Folded) (constraints : List Constraint) (cells : Cells) (query asked : Query) (name : Option ℕ) (budget : ℕ) → asked ≡ query_for query name → IsWellFormed schema → AreConstraints schema constraints → IsQuery schema query →
-    AllowsName query.chosen query.group name → AreCells schema constraints asked cells → seen.count ≤ 1_000_000 → nat_abs seen.sum ≤ 1_000_000 * 10 ^ 15 → (1 ≤ budget) × (budget ≤ 100_000) → AreAsked schema seen constraints cells asked budget
+    AllowsName query.chosen query.group name → AreCells schema constraints asked cells → seen.count ≤ 1_000_000 → nat_abs seen.sum ≤ 1_000_000 * greatest_size → (1 ≤ budget) × (budget ≤ 100_000) → AreAsked schema seen constraints cells asked budget
 are_asked schema seen constraints cells query asked name budget is formed limited well allowed found few small nodes = record {
   formed = formed;
   limited = limited;

@@ -29,8 +29,9 @@ setting_for schema observed constraints w nodes = setting_in schema observed con
 
 -- The block is of this query and name. Its answer is right, has the form of an answer and breaks no rule with the tree that
 -- it says. What it leaves open is licensed by searches that spent so many nodes each, and the trees of its ends are ones that
--- such a search could have made. Where no two predicates speak of one row, it leaves nothing open. Its low end is not above its
--- high one. It is in form where the observed rows are of the schema and the bits of the tree's cuts are of names.
+-- such a search could have made. Where of any two predicates no row is under both, or each row under the one is under the other,
+-- it leaves nothing open. Its low end is not above its high one. It is in form where the observed rows are of the schema and the
+-- bits of the tree's cuts are of names.
 pub record AnswersWanted (budget : ℕ) (schema : Schema) (observed : List Row) (constraints : List Constraint) (w : Wanted) (t : Told) : Type 0 where
   pub query_is : t.block.query ≡ w.query
   pub name_is : t.block.name ≡ w.name

@@ -1,5 +1,6 @@
-ghost use Rattle.std.specs.Prelude.{◌≡◌, ◌≤◌, ◌<◌, ◌*◌, ◌^◌, ◌∷◌, [], ℕ, List, nat_abs, false, is_none, length, map, All, IfOk, IfSome, Some};
+ghost use Rattle.std.specs.Prelude.{◌≡◌, ◌≤◌, ◌<◌, ◌*◌, ◌∷◌, [], ℕ, List, nat_abs, false, is_none, length, map, All, IfOk, IfSome, Some};
 ghost use Rattle.std.specs.List.{AllPass};
+ghost use Rattle.pc_num.specs.Scaled.{greatest_size};
 ghost use Rattle.pc_model.specs.declared.query.Agg.TheVariants as aggs;
 ghost use Rattle.pc_model.specs.declared.query.Folded.{Folded};
 ghost use Rattle.pc_model.specs.declared.row.Row.{Row};
@@ -133,7 +134,7 @@ fn answer_names(
     requires allowed { All (λ (name : ℕ). AllowsName query.now.chosen query.now.group (Some name)) names.now }
     requires even { length folds.now ≡ length names.now }
     requires few_seen { All (λ folded. folded.count ≤ 1_000_000) folds.now }
-    requires small_seen { All (λ folded. nat_abs folded.sum ≤ 1_000_000 * 10 ^ 15) folds.now }
+    requires small_seen { All (λ folded. nat_abs folded.sum ≤ 1_000_000 * greatest_size) folds.now }
     requires divided { IsDivided scope.now (map (wanted_of query.now) names.now) }
     ensures { IfOk result (λ more. (observed : List Row) → AreFolds query.now names.now observed folds.now → AddsBlocks scope.now observed written (map (wanted_of query.now) names.now) more) }
 {
@@ -159,7 +160,7 @@ fn answer_block(
     requires place { IfSome name (λ place. place < 128) }
     requires allowed { AllowsName query.now.chosen query.now.group name }
     requires few_seen { seen.now.count ≤ 1_000_000 }
-    requires small_seen { nat_abs seen.now.sum ≤ 1_000_000 * 10 ^ 15 }
+    requires small_seen { nat_abs seen.now.sum ≤ 1_000_000 * greatest_size }
     requires divided { IsDividedFor scope.now.schema.now scope.now.constraints.now (narrowed query.now.chosen query.now.group name) scope.now.shared.now.nodes }
     ensures { IfOk result (λ more. (observed : List Row) → IsFold query.now name observed seen.now → AddsBlocks scope.now observed written (wanted_as query.now name ∷ []) more) }
 {
@@ -190,7 +191,7 @@ fn answer_of(
     nodes: u32,
 ) -> Result<Answer, Memory>
     requires asked { AreAsked schema.now seen.now constraints.now cells.now query.now nodes }
-    requires small_seen { nat_abs seen.now.sum ≤ 1_000_000 * 10 ^ 15 }
+    requires small_seen { nat_abs seen.now.sum ≤ 1_000_000 * greatest_size }
     ensures owes { OwesCall schema.now seen.now constraints.now cells.now query.now nodes result }
     ensures short { query.now.agg ≡ aggs.Avg → IfOk result HasShortEnds }
 {
@@ -215,7 +216,7 @@ fn average_of(
 ) -> Result<Answer, Memory>
     requires asked { AreAsked schema.now seen.now constraints.now cells.now query.now nodes }
     requires average { query.now.agg ≡ aggs.Avg }
-    requires small_seen { nat_abs seen.now.sum ≤ 1_000_000 * 10 ^ 15 }
+    requires small_seen { nat_abs seen.now.sum ≤ 1_000_000 * greatest_size }
     ensures owes { OwesCall schema.now seen.now constraints.now cells.now query.now nodes result }
     ensures short { IfOk result HasShortEnds }
 {

@@ -1,8 +1,7 @@
 ghost use Rattle.std.specs.Prelude.{◌≡◌, IfOk, [], ◌∷◌};
 ghost use Rattle.pc_model.specs.Boxes.{IsAreaOf};
 ghost use Rattle.pc_model.specs.Refusals.{Answers};
-ghost use Rattle.pc_model.specs.Regions.{whole_area};
-ghost use Rattle.pc_model.specs.WellFormed.{HaveFewNames, IsWellFormed};
+ghost use Rattle.pc_model.specs.WellFormed.{IsWellFormed};
 ghost use Rattle.pc_lang.specs.Areas.{area_of, regions_from};
 
 use crate::part::region_of;
@@ -63,12 +62,4 @@ fn regions_from(
         boxes.push(region_of(alloc, schema, part)?)?;
     }
     Ok(boxes)
-}
-
-/// The area of the whole domain.
-pub(crate) fn whole_area(alloc: Global, schema: &Schema) -> Result<Area, Memory>
-    requires { HaveFewNames schema.now.columns }
-    ensures { IfOk result (λ area. area ≡ whole_area schema.now) }
-{
-    Area::of_box(alloc, schema.whole(alloc)?)
 }

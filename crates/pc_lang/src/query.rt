@@ -4,7 +4,7 @@ ghost use Rattle.pc_model.specs.Refusals.{Answers};
 ghost use Rattle.pc_model.specs.WellFormed.{IsWellFormed};
 ghost use Rattle.pc_lang.specs.Meaning.{chosen_of, grouping_of, has_names_as, measured, names_place, numeric_place, place_from, query_of};
 
-use crate::area::{area_of, whole_area};
+use crate::area::area_of;
 use pc_lang_grammar::{Measure, Question, Ways};
 use pc_list::Text;
 use pc_model::{Agg, Area, Kind, Query, ReadStop, Reason, Schema};
@@ -108,7 +108,7 @@ pub(crate) fn chosen_of(
 {
     match ways {
         Some(ways) => area_of(alloc, schema, ways),
-        None => whole_area(alloc, schema).map_err(|_| ReadStop::Memory),
+        None => schema.whole_area(alloc).map_err(|_| ReadStop::Memory),
     }
 }
 

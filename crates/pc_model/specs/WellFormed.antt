@@ -1,5 +1,6 @@
 -- Which schemas are well-formed.
-use Rattle.std.specs.Prelude.{◌≢◌, ℕ, ◌≤◌, ◌^◌, ℤ, ◌≤ℤ◌, unsigned_abs, ⊤, List, length, All, AllPairs}
+use Rattle.std.specs.Prelude.{◌≢◌, ℕ, ◌≤◌, ℤ, ◌≤ℤ◌, unsigned_abs, ⊤, List, length, All, AllPairs}
+use Rattle.pc_num.specs.Scaled.{greatest_size}
 use Rattle.pc_model.specs.declared.schema.Kind.{Kind}
 use Rattle.pc_model.specs.declared.schema.Kind.TheVariants.{Int, Dec, Cat}
 use Rattle.pc_model.specs.declared.schema.Column.{Column}
@@ -7,7 +8,7 @@ use Rattle.pc_model.specs.declared.schema.Schema.{Schema}
 use Rattle.pc_model.specs.Texts.{IsName}
 
 abbrev pub IsSmall : ℤ → Type 0
-IsSmall number = unsigned_abs number ≤ 10 ^ 15
+IsSmall number = unsigned_abs number ≤ greatest_size
 
 pub record IsSpan (low high : ℤ) : Type 0 where
   pub small_low : IsSmall low

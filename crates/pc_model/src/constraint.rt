@@ -8,7 +8,7 @@ use pc_list::Text;
 
 /// The rows that a constraint speaks of: those of an area, or those of no area of the list that it
 /// stands in.
-#[derive(Debug, PartialEq, Eq, Drop)]
+#[derive(Clone, Debug, PartialEq, Eq, Drop)]
 pub enum When {
     Boxes(Area),
     Outside,
@@ -16,7 +16,7 @@ pub enum When {
 
 /// Each lost row in `when` is in `values`, and there are from `least` to `most` lost rows in `when`.
 /// A constraint of the rows outside has no name: its text is empty.
-#[derive(Debug, PartialEq, Eq, Drop)]
+#[derive(Clone, Debug, PartialEq, Eq, Drop)]
 pub struct Constraint {
     pub name: Text,
     pub when: When,

@@ -1,4 +1,5 @@
-ghost use Rattle.std.specs.Prelude.{◌≡◌, ◌≤◌, ◌^◌, IfOk, unsigned_abs};
+ghost use Rattle.std.specs.Prelude.{◌≡◌, ◌≤◌, IfOk, unsigned_abs};
+ghost use Rattle.pc_num.specs.Scaled.{greatest_size};
 ghost use Rattle.pc_num.specs.Spelling.{Spells};
 ghost use Rattle.pc_model.specs.Numbers.{number_of, number_reason};
 
@@ -9,7 +10,7 @@ use pc_num::{NumFault, read_scaled};
 pub fn read_number(text: &[u8], scale: u8) -> Result<i64, Reason>
     ensures value { result ≡ number_of scale text.now }
     ensures spelled { IfOk result (Spells text.now scale) }
-    ensures small { IfOk result (λ number. unsigned_abs number ≤ 10 ^ 15) }
+    ensures small { IfOk result (λ number. unsigned_abs number ≤ greatest_size) }
 {
     match read_scaled(text, scale) {
         Ok(number) => Ok(number),

@@ -1,9 +1,10 @@
 ghost use Rattle.std.specs.Prelude.{◌≡◌, ◌≤◌, ◌-◌, ◌^◌, IfOk};
 ghost use Rattle.pc_model.specs.Membership.{allows, in_domain};
 ghost use Rattle.pc_model.specs.Places.{is_below};
-ghost use Rattle.pc_model.specs.Regions.{whole_side, whole_region};
+ghost use Rattle.pc_model.specs.Regions.{whole_area, whole_side, whole_region};
 ghost use Rattle.pc_model.specs.WellFormed.{HasFewNames, HaveFewNames};
 
+use crate::area::Area;
 use crate::region::{Region, Side, is_between};
 use crate::row::Row;
 use pc_list::{Seq, Text};
@@ -98,6 +99,14 @@ impl Schema {
             sides.push(column.kind.whole_side())?;
         }
         Ok(Region { sides })
+    }
+
+    /// The area of the whole domain.
+    pub fn whole_area(&self, alloc: Global) -> Result<Area, Memory>
+        requires { HaveFewNames self.now.columns }
+        ensures { IfOk result (λ area. area ≡ whole_area self.now) }
+    {
+        Area::of_box(alloc, self.whole(alloc)?)
     }
 
     /// Whether a row is in the domain: one number per column, each allowed by its kind.

@@ -16,4 +16,4 @@ pub use fraction::Frac;
 pub use memory::Memory;
 pub use order::compare_fractions;
 pub use put::{put_frac, put_scaled, reads_back};
-pub use scaled::{NumFault, digits_len, read_scaled};
+pub use scaled::{GREATEST_SIZE, NumFault, digits_len, read_scaled};

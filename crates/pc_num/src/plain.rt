@@ -1,7 +1,7 @@
 ghost use Rattle.std.specs.Prelude.{◌≡◌, ℕ, ◌<◌, ◌≤◌, ◌+◌, length, option_copied, IfSome};
 ghost use Rattle.pc_num.specs.Scaled.{after_point, digits_len, greatest_size, number_after, scaled_plainly};
 
-use crate::scaled::LIMIT;
+use crate::scaled::GREATEST_SIZE;
 
 /// The size of digits alone or, at a scale above 0, of digits with a point before the last so many.
 pub(crate) fn plain_size(number: &[u8], scale: u8) -> Option<u64>
@@ -64,7 +64,7 @@ fn size_after(before: u64, digits: &[u8]) -> Option<u64>
             return None;
         }
         size = 10 * size + u64::from(digit.saturating_sub(b'0'));
-        if size > LIMIT {
+        if size > GREATEST_SIZE {
             return None;
         }
     }

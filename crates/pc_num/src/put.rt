@@ -1,6 +1,6 @@
 ghost use Rattle.std.specs.Prelude.{◌≡◌, ◌≤◌, ◌<◌, ◌+◌, ◌/◌, ◌%◌, ◌^◌, ◌++◌, ◌∷◌, ℕ, ℤ, IfOk, Ok, OnErr, OnOk, decimal, unsigned_abs};
 ghost use Rattle.pc_num.specs.Put.{decimals_of, fraction_text, frac_text, minus_text, scaled_text};
-ghost use Rattle.pc_num.specs.Scaled.{scaled_of};
+ghost use Rattle.pc_num.specs.Scaled.{greatest_size, scaled_of};
 
 use crate::{Frac, Memory};
 use std::alloc::Global;
@@ -20,7 +20,7 @@ pub fn put_scaled(alloc: Global, out: &mut Vec<u8>, value: i128, scale: u8) -> R
 /// What `put_scaled` writes is what `read_scaled` reads, at every scale.
 #[tactic(auto, using(crate::proofs::ReadBack::reads_back))]
 pub fn reads_back()
-    ensures { (value : ℤ) (scale : ℕ) → unsigned_abs value ≤ 10 ^ 15 → scaled_of scale (scaled_text value scale) ≡ Ok value }
+    ensures { (value : ℤ) (scale : ℕ) → unsigned_abs value ≤ greatest_size → scaled_of scale (scaled_text value scale) ≡ Ok value }
 {}
 
 /// Appends a fraction as `num/den`, or its numerator alone where its denominator is 1: 3/2 is `3/2`, and 4/1 is `4`.

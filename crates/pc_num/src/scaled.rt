@@ -16,8 +16,8 @@ pub enum NumFault {
     PastLimit,
 }
 
-// The greatest size of a scaled number.
-pub(crate) const LIMIT: u64 = 1_000_000_000_000_000;
+/// The greatest size of a number in units of its last place.
+pub const GREATEST_SIZE: u64 = 1_000_000_000_000_000;
 
 /// Reads a decimal text as a whole number of units of its last place, with `scale` decimals: at a scale of 2,
 /// `-7.5` is -750. A text with several faults has the first that `NumFault` lists.
@@ -25,7 +25,7 @@ pub(crate) const LIMIT: u64 = 1_000_000_000_000_000;
 pub fn read_scaled(text: &[u8], scale: u8) -> Result<i64, NumFault>
     ensures value { result ≡ scaled_of scale text.now }
     ensures spelled { IfOk result (Spells text.now scale) }
-    ensures small { IfOk result (λ n. unsigned_abs n ≤ 10 ^ 15) }
+    ensures small { IfOk result (λ n. unsigned_abs n ≤ greatest_size) }
 {
     let minus = starts_with_minus(text);
     let number = without_sign(text);
@@ -38,7 +38,7 @@ pub fn read_scaled(text: &[u8], scale: u8) -> Result<i64, NumFault>
 // A short way for what most files hold: digits alone, or a point and all decimals of the scale after them.
 fn plain_number(minus: bool, number: &[u8], scale: u8) -> Option<i64>
     ensures value { IfSome result (λ n. scaled_unsigned scale minus number.now ≡ Ok n) }
-    ensures small { IfSome result (λ n. unsigned_abs n ≤ 10 ^ 15) }
+    ensures small { IfSome result (λ n. unsigned_abs n ≤ greatest_size) }
 {
     let size = plain_size(number, scale)?;
     Some(signed(minus, size))
@@ -48,7 +48,7 @@ fn plain_number(minus: bool, number: &[u8], scale: u8) -> Option<i64>
 #[inline(never)]
 fn read_unsigned(minus: bool, number: &[u8], scale: u8) -> Result<i64, NumFault>
     ensures value { result ≡ scaled_unsigned scale minus number.now }
-    ensures small { IfOk result (λ n. unsigned_abs n ≤ 10 ^ 15) }
+    ensures small { IfOk result (λ n. unsigned_abs n ≤ greatest_size) }
 {
     let (whole, rest) = number.split_at(digits_len(number));
     if whole.is_empty() {
@@ -62,13 +62,13 @@ fn read_unsigned(minus: bool, number: &[u8], scale: u8) -> Result<i64, NumFault>
 
 fn read_parts(minus: bool, whole: &[u8], decimals: &[u8], scale: u8) -> Result<i64, NumFault>
     ensures value { result ≡ scaled_parts scale minus whole.now (Some decimals.now) }
-    ensures small { IfOk result (λ n. unsigned_abs n ≤ 10 ^ 15) }
+    ensures small { IfOk result (λ n. unsigned_abs n ≤ greatest_size) }
 {
     if has_decimals_past(decimals, scale) {
         return Err(NumFault::TooManyDecimals);
     }
     let size = scaled_size(whole, decimals, scale);
-    if size > LIMIT {
+    if size > GREATEST_SIZE {
         return Err(NumFault::PastLimit);
     }
     Ok(signed(minus, size))
@@ -136,12 +136,12 @@ fn decimals_at(rest: &[u8]) -> Option<&[u8]>
     }
 }
 
-// The number with one digit more, where LIMIT + 1 stands for everything past LIMIT.
+// The number with one digit more, where GREATEST_SIZE + 1 stands for everything past it.
 fn with_digit(number: u64, digit: u8) -> u64
     requires { number ≤ greatest_size + 1 }
     ensures { result ≡ min (10 * number + (digit - 48)) (greatest_size + 1) }
 {
-    (10 * number + u64::from(digit.saturating_sub(b'0'))).min(LIMIT + 1)
+    (10 * number + u64::from(digit.saturating_sub(b'0'))).min(GREATEST_SIZE + 1)
 }
 
 // The number of these digits.

@@ -11,7 +11,7 @@ use Rattle.pc_program_bound.specs.Sums.{sum_below, nat_at, int_at}
 use Rattle.pc_program_bound.specs.Allocation.{cells_of, constraints_of, IsProgram}
 use Rattle.pc_program_bound.specs.Bound.{rest_of, constraint_share, constraint_sizes, cell_share, HasFitWidth}
 use Rattle.pc_program_bound.specs.Parts.{AreFitCells, taken}
-use Rattle.pc_program_bound.specs.Short.{IsShort}
+use Rattle.pc_program_bound.specs.Short.{IsShort, IsShortGain}
 use Rattle.pc_program_bound.proofs.SumBelow.{sum_below-zero, sum_below-more}
 use Rattle.pc_program_bound.proofs.SmallWidths.{sum-size, abs-add, rest_within, width_within}
 
@@ -28,8 +28,8 @@ multiplier_short p mult sized short j h = short.by j (pos 0) (omega (arith, size
 pub short_fits : (p : Program) (mult : Mult) → IsProgram p → length mult.by ≡ constraints_of p → IsShort p mult → HasFitWidth p mult
 short_fits p mult program sized short =
     let small = multiplier_short p mult sized short in
-    width_within p mult program (2 ^ 57) small (2 ^ 62) (2 ^ 62 + 20 * 2 ^ 57) (2 ^ 30) short.few short.scaled
-    (λ i h. rest_within p mult program (2 ^ 57) small i (2 ^ 62) (short.scaled i h)) (omega arith) (omega arith)
+    width_within p mult program (2 ^ 57) small (2 ^ 62) (2 ^ 62 + 20 * 2 ^ 57) (2 ^ 30) short.few (λ i h. (short.gains i h).scaled)
+    (λ i h. rest_within p mult program (2 ^ 57) small i (2 ^ 62) (short.gains i h).scaled) (omega arith) (omega arith)
 
 pub short_cells_fit : (p : Program) (mult : Mult) (first : ℤ) → IsProgram p → length mult.by ≡ constraints_of p → IsShort p mult
     → first ≡ constraint_sizes p mult (constraints_of p) → AreFitCells p mult first (cells_of p)
@@ -69,11 +69,11 @@ best_below (negsuc k) floor cap le below = let e = mul-le (suc k) floor (suc k) 
 pub record IsSummed (p : Program) (floors caps : List ℕ) (mult : Mult) (n : ℕ) (share : ℤ) : Type 0 where
   pub value : share ≡ sum_below n (cell_share p floors caps mult)
   pub small : nat_abs share ≤ n * 2 ^ 93
-  pub scaled : (i : ℕ) → i < n → nat_abs (mult.den *ℤ int_at p.gain i) ≤ 2 ^ 62
+  pub gains : (i : ℕ) → i < n → IsShortGain mult.den (int_at p.gain i)
 
 pub none_summed : (p : Program) (floors caps : List ℕ) (mult : Mult) → IsSummed p floors caps mult 0 (pos 0)
 none_summed p floors caps mult =
-    record { value = sym (sum_below-zero (cell_share p floors caps mult)); small = omega arith; scaled = λ i lt. absurd (omega arith) }
+    record { value = sym (sum_below-zero (cell_share p floors caps mult)); small = omega arith; gains = λ i lt. absurd (omega arith) }
 
 -- what is left of a cell's gain, with the numbers as they were read
 pub rest_same : (p : Program) (mult : Mult) (i : ℕ) (gain given : ℤ) (mask : ℕ) → gain ≡ int_at p.gain i → mask ≡ nat_at p.masks i
@@ -81,23 +81,23 @@ pub rest_same : (p : Program) (mult : Mult) (i : ℕ) (gain given : ℤ) (mask :
 rest_same p mult i gain given mask a b c d = rw (a, c, b, d) refl
 
 pub one_summed : (p : Program) (floors caps : List ℕ) (mult : Mult) (n : ℕ) (share rest best : ℤ) → IsSummed p floors caps mult n share
-    → rest ≡ rest_of p mult n → nat_abs (mult.den *ℤ int_at p.gain n) ≤ 2 ^ 62
+    → rest ≡ rest_of p mult n → IsShortGain mult.den (int_at p.gain n)
     → best ≡ int_max (rest *ℤ pos (nat_at floors n)) (rest *ℤ pos (nat_at caps n)) → nat_abs best ≤ 2 ^ 93 → IsSummed p floors caps mult (n + 1) (share +ℤ best)
-one_summed p floors caps mult n share rest best summed is scaled most small =
+one_summed p floors caps mult n share rest best summed is short most small =
     let one = rw is at most in
     let more = sum_below-more n (cell_share p floors caps mult) in
     let size = abs-add share best in
     record {
       value = rw (more, one, summed.value) refl;
       small = omega (arith, size, small, summed.small);
-      scaled = each;
+      gains = each;
     }
   where
-    at_last : (i : ℕ) → (i ≡ n) ⊎ (i < n) → nat_abs (mult.den *ℤ int_at p.gain i) ≤ 2 ^ 62
-    at_last i (inl e) = rw e scaled
-    at_last i (inr lt) = summed.scaled i lt
+    at_last : (i : ℕ) → (i ≡ n) ⊎ (i < n) → IsShortGain mult.den (int_at p.gain i)
+    at_last i (inl e) = rw e short
+    at_last i (inr lt) = summed.gains i lt
 
-    each : (i : ℕ) → i < n + 1 → nat_abs (mult.den *ℤ int_at p.gain i) ≤ 2 ^ 62
+    each : (i : ℕ) → i < n + 1 → IsShortGain mult.den (int_at p.gain i)
     each i lt = at_last i (eq-or-lt_of_le (omega arith))
 
 pub sum_fits : (a b : ℤ) (n : ℕ) → n ≤ 2 ^ 30 → nat_abs a ≤ n * 2 ^ 93 → nat_abs b ≤ 2 ^ 93 → FitsSigned w128 (a +ℤ b)

@@ -1,5 +1,6 @@
 -- Multipliers, gains and cells so small that no number on the way to the bound needs a test of its own.
-use Rattle.std.specs.Prelude.{◌≡◌, ℕ, ◌+◌, ◌*◌, ◌^◌, ◌<◌, ◌≤◌, ℤ, pos, ◌+ℤ◌, ◌*ℤ◌, nat_abs, All, List, [], ◌∷◌}
+use Rattle.std.specs.Prelude.{◌≡◌, ℕ, ◌+◌, ◌*◌, ◌^◌, ◌<◌, ◌≤◌, ℤ, pos, ◌+ℤ◌, ◌*ℤ◌, nat_abs, FitsSigned, All, List, [], ◌∷◌}
+use Rattle.std.specs.Int.{w64}
 use Rattle.pc_model.specs.declared.tree.Mult.{Mult}
 use Rattle.pc_program_bound.specs.declared.program.Program.{Program}
 use Rattle.pc_program_bound.specs.declared.tables.Tables.{Tables}
@@ -38,8 +39,14 @@ pub record AreTables (by : List ℤ) (tables : Tables) : Type 0 where
   pub fourth : tables.fourth ≡ sums_from by 12
   pub fifth : tables.fifth ≡ sums_from by 16
 
+-- a gain that fits 64 bits, and is small when it is scaled
+pub record IsShortGain (den gain : ℤ) : Type 0 where
+  pub own : FitsSigned w64 gain
+  pub scaled : nat_abs (den *ℤ gain) ≤ 2 ^ 62
+
 -- the multipliers and what they scale are small
 pub record IsShort (p : Program) (mult : Mult) : Type 0 where
   pub few : cells_of p ≤ 2 ^ 30
+  pub den : nat_abs mult.den ≤ 2 ^ 62
   pub by : All IsShortNumber mult.by
-  pub scaled : (i : ℕ) → i < cells_of p → nat_abs (mult.den *ℤ int_at p.gain i) ≤ 2 ^ 62
+  pub gains : (i : ℕ) → i < cells_of p → IsShortGain mult.den (int_at p.gain i)

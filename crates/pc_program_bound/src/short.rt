@@ -1,9 +1,9 @@
-ghost use Rattle.std.specs.Prelude.{◌≡◌, ◌<◌, ◌≤◌, ◌-◌, ◌*◌, ◌^◌, nat_abs, pos, ◌-ℤ◌, ◌*ℤ◌, length, All, IfSome};
+ghost use Rattle.std.specs.Prelude.{◌≡◌, ◌<◌, ◌≤◌, ◌-◌, ◌*◌, ◌^◌, nat_abs, pos, ◌-ℤ◌, ◌*ℤ◌, length, All, SomeIff, IfSome};
 ghost use Rattle.std.specs.Int.{int_max};
 ghost use Rattle.pc_program_bound.specs.Sums.{sum_below};
 ghost use Rattle.pc_program_bound.specs.Allocation.{IsProgram, IsBox, cells_of, constraints_of};
 ghost use Rattle.pc_program_bound.specs.Bound.{cell_share};
-ghost use Rattle.pc_program_bound.specs.Short.{IsShortNumber, AreTables, AreSmallTables, IsShort};
+ghost use Rattle.pc_program_bound.specs.Short.{IsShortNumber, AreTables, AreSmallTables, IsShortGain, IsShort};
 
 use crate::Program;
 use crate::tables::{Tables, are_short, tables_of};
@@ -15,8 +15,7 @@ pub fn short_shares(p: &Program, floor: &[u64], cap: &[u64], mult: &Mult) -> Opt
     requires program { IsProgram p.now }
     requires inside { IsBox p.now floor.now cap.now }
     requires sized { length mult.now.by ≡ constraints_of p.now }
-    ensures value { IfSome result (λ share. share ≡ sum_below (cells_of p.now) (cell_share p.now floor.now cap.now mult.now)) }
-    ensures short { IfSome result (λ share. IsShort p.now mult.now) }
+    ensures value { SomeIff result (IsShort p.now mult.now) (sum_below (cells_of p.now) (cell_share p.now floor.now cap.now mult.now)) }
     ensures small { IfSome result (λ share. nat_abs share ≤ 2 ^ 123) }
 {
     if p.masks.len() > 1 << 30 || mult.den.unsigned_abs() > 1 << 62 {
@@ -38,8 +37,7 @@ fn shares(p: &Program, floor: &[u64], cap: &[u64], mult: &Mult, tables: &Tables)
     requires short { All IsShortNumber mult.now.by }
     requires tables { AreTables mult.now.by tables.now }
     requires small { AreSmallTables tables.now }
-    ensures value { IfSome result (λ share. share ≡ sum_below (cells_of p.now) (cell_share p.now floor.now cap.now mult.now)) }
-    ensures short { IfSome result (λ share. IsShort p.now mult.now) }
+    ensures value { SomeIff result (IsShort p.now mult.now) (sum_below (cells_of p.now) (cell_share p.now floor.now cap.now mult.now)) }
     ensures small { IfSome result (λ share. nat_abs share ≤ 2 ^ 123) }
 {
     let den = mult.den as i64;
@@ -55,8 +53,7 @@ fn shares(p: &Program, floor: &[u64], cap: &[u64], mult: &Mult, tables: &Tables)
 /// What is left of a gain that is scaled, or none where that is not small.
 fn rest(den: i64, gain: i128, given: i64) -> Option<i64>
     requires given { nat_abs given ≤ 20 * 2 ^ 57 }
-    ensures value { IfSome result (λ rest. rest ≡ den *ℤ gain -ℤ given) }
-    ensures scaled { IfSome result (λ rest. nat_abs (den *ℤ gain) ≤ 2 ^ 62) }
+    ensures value { SomeIff result (IsShortGain den gain) (den *ℤ gain -ℤ given) }
     ensures small { IfSome result (λ rest. nat_abs rest ≤ 2 ^ 63 - 1) }
 {
     let scaled = scaled(den, gain)?;
@@ -64,7 +61,7 @@ fn rest(den: i64, gain: i128, given: i64) -> Option<i64>
 }
 
 fn scaled(den: i64, gain: i128) -> Option<i64>
-    ensures value { IfSome result (λ scaled. scaled ≡ den *ℤ gain) }
+    ensures value { SomeIff result (IsShortGain den gain) (den *ℤ gain) }
     ensures small { IfSome result (λ scaled. nat_abs scaled ≤ 2 ^ 62) }
 {
     let gain = i64::try_from(gain).ok()?;

@@ -1,4 +1,4 @@
-ghost use Rattle.std.specs.Prelude.{◌≡◌, ◌≤◌, ◌+◌, ◌*◌, ◌/◌, ◌%◌, ◌^◌, nat_abs, ◌+ℤ◌, All, IsTrue};
+ghost use Rattle.std.specs.Prelude.{◌≡◌, ◌↔◌, ◌≤◌, ◌+◌, ◌*◌, ◌/◌, ◌%◌, ◌^◌, nat_abs, ◌+ℤ◌, All, IsTrue};
 ghost use Rattle.pc_program_bound.specs.Sums.{int_at};
 ghost use Rattle.pc_program_bound.specs.Short.{IsShortNumber, IsSmallTable, AreSmallTables, AreTables, four_sums, sums_from};
 
@@ -79,7 +79,7 @@ fn number_at(by: &[i128], place: usize) -> i64
 
 /// Whether the numbers are at most 2^57 from 0.
 pub fn are_short(numbers: &[i128]) -> bool
-    ensures { IsTrue result → All IsShortNumber numbers.now }
+    ensures { IsTrue result ↔ All IsShortNumber numbers.now }
 {
     for number in numbers {
         if number.unsigned_abs() > 1 << 57 {

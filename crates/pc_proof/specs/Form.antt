@@ -1,6 +1,7 @@
 -- Answers and documents in form: which parts they have, the order of their nodes, and the sizes of their numbers.
 use Rattle.std.specs.Prelude.{◌≡◌, ℕ, ◌^◌, ◌*◌, ◌<◌, ◌≤◌, ℤ, pos, nat_abs, ◌≤ℤ◌, ⊤, true, ◌||◌, List, length, All, Option, Some, None, IfSome, IsSomeAnd, is_none, slice_get}
 use Rattle.std.specs.List.{AllZip}
+use Rattle.pc_num.specs.Scaled.{greatest_size}
 use Rattle.pc_num.specs.declared.Frac.{Frac}
 use Rattle.pc_num.specs.Fractions.{IsFrac}
 use Rattle.pc_num.specs.Signs.{Fits}
@@ -64,14 +65,10 @@ pub record IsFormedTree (t : Tree) : Type 0 where
 
 -- ---- runs
 
--- the greatest size of a number of a column, in units of its last place
-abbrev pub greatest_number_size : ℕ
-greatest_number_size = 10 ^ 15
-
 -- a number of that size, and of a column of names the place of one of them
 abbrev pub IsFormedCell : Kind → ℤ → Type 0
-IsFormedCell (Int low high) cell = nat_abs cell ≤ greatest_number_size
-IsFormedCell (Dec scale low high) cell = nat_abs cell ≤ greatest_number_size
+IsFormedCell (Int low high) cell = nat_abs cell ≤ greatest_size
+IsFormedCell (Dec scale low high) cell = nat_abs cell ≤ greatest_size
 IsFormedCell (Cat names) cell = is_below (length names) cell ≡ true
 
 abbrev pub IsFormedCellOf : Column → ℤ → Type 0
@@ -168,7 +165,7 @@ pub record IsFormedAnswer (schema : Schema) (agg : Agg) (answer : Answer) : Type
 
 -- a cut of a column of numbers at one of its size, and one of a column of names among some of them
 abbrev pub IsFormedCutOf : Cut → Kind → Type 0
-IsFormedCutOf (At column at) kind = IsNumeric kind × (nat_abs at ≤ greatest_number_size)
+IsFormedCutOf (At column at) kind = IsNumeric kind × (nat_abs at ≤ greatest_size)
 IsFormedCutOf (Among column bits) (Int low high) = ⊥
 IsFormedCutOf (Among column bits) (Dec scale low high) = ⊥
 IsFormedCutOf (Among column bits) (Cat names) = (0 < bits) × (bits < 2 ^ length names)

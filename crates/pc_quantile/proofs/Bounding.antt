@@ -1,9 +1,10 @@
 -- The answers of the calls that lead to a quantile's range owe what they must.
-use Rattle.std.proofs.Common.{◌≡◌, ℕ, ◌<◌, ◌≤◌, ◌^◌, Bool, List, [], length, map, All, Any, IsSomeAnd, None, refl, sym, ap, subst, ◌∙◌, arith, get_or, ◌&&◌}
+use Rattle.std.proofs.Common.{◌≡◌, ℕ, ◌<◌, ◌≤◌, Bool, List, [], length, map, All, Any, IsSomeAnd, None, refl, sym, ap, subst, ◌∙◌, arith, get_or, ◌&&◌}
 use Rattle.std.specs.Prelude.{nat_abs}
 use Rattle.std.specs.List.{AllPass}
 use Rattle.std.proofs.lemmas.List.{length-append}
 use Rattle.std.proofs.lemmas.List.Elements.{All-append, All-map}
+use Rattle.pc_num.specs.Scaled.{greatest_size}
 use Rattle.pc_model.specs.declared.schema.Schema.{Schema}
 use Rattle.pc_model.specs.declared.row.Row.{Row}
 use Rattle.pc_model.specs.declared.constraint.Constraint.{Constraint}
@@ -196,8 +197,8 @@ module _ (m : Measure) (measured : IsMeasured m) (observed : List Row) where
         by_pair pairs.Empty allows surely answered = subst (IsOwed here asked budget) (sym answered) (owes_empty allows)
 
 -- the numbers of rows of a schema are no greater than those of its domains
-pub small_numbers : (schema : Schema) (query : Query) (rows : List Row) → IsWellFormed schema → AllPass (in_domain schema) rows → All (λ number. nat_abs number ≤ 10 ^ 15) (map (asked_of query) (kept query None rows))
+pub small_numbers : (schema : Schema) (query : Query) (rows : List Row) → IsWellFormed schema → AllPass (in_domain schema) rows → All (λ number. nat_abs number ≤ greatest_size) (map (asked_of query) (kept query None rows))
 small_numbers schema query rows formed allowed =
-    All-map (λ number. nat_abs number ≤ 10 ^ 15) (asked_of query) (kept query None rows)
-    (All-kept (λ row. is_in query.chosen row && is_in_group query.group None row) (λ row. nat_abs (asked_of query row) ≤ 10 ^ 15) rows
+    All-map (λ number. nat_abs number ≤ greatest_size) (asked_of query) (kept query None rows)
+    (All-kept (λ row. is_in query.chosen row && is_in_group query.group None row) (λ row. nat_abs (asked_of query row) ≤ greatest_size) rows
     (λ place d inside kept. asked_small schema query (get_or rows place d) formed (allowed place d inside)))

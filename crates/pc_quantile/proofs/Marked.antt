@@ -1,9 +1,10 @@
 -- The end of a stand is right where it is exact, and licensed where it is outer.
-use Rattle.std.proofs.Common.{◌≡◌, ℕ, suc, ◌≤◌, ◌^◌, ℤ, pos, ◌≤ℤ◌, ◌<ℤ◌, Bool, true, false, ◌⊎◌, inl, inr, List, [], ◌∷◌, length, All, Any, Contains, IfSome, refl, sym, ap, subst, ◌∙◌, arith}
+use Rattle.std.proofs.Common.{◌≡◌, ℕ, suc, ◌≤◌, ℤ, pos, ◌≤ℤ◌, ◌<ℤ◌, Bool, true, false, ◌⊎◌, inl, inr, List, [], ◌∷◌, length, All, Any, Contains, IfSome, refl, sym, ap, subst, ◌∙◌, arith}
 use Rattle.std.specs.Prelude.{nat_abs}
 use Rattle.std.proofs.lemmas.Int.{ints}
 use Rattle.std.proofs.lemmas.List.{length-map}
 use Rattle.std.proofs.lemmas.List.Elements.{All-contains, All-cons, All-head, All-nil}
+use Rattle.pc_num.specs.Scaled.{greatest_size}
 use Rattle.pc_model.specs.declared.schema.Schema.{Schema}
 use Rattle.pc_model.specs.declared.row.Row.{Row}
 use Rattle.pc_model.specs.declared.row.Run.{Run}
@@ -174,5 +175,5 @@ module _ (schema : Schema) (observed : List Row) (constraints : List Constraint)
         (not_past here extreme is.rungs rungs is.place is.inside asked (is_asked schema observed constraints asked nodes formed limited well tree)
         (held_here schema observed constraints asked nodes formed limited well tree numbers extreme is.rungs is.place is.held) lost possible)
 
-    pub small_key : nat_abs stand.key ≤ 10 ^ 15
-    small_key = subst (λ key. nat_abs key ≤ 10 ^ 15) (sym is.key_is) (is.are_rungs.small is.place (pos 0) is.inside)
+    pub small_key : nat_abs stand.key ≤ greatest_size
+    small_key = subst (λ key. nat_abs key ≤ greatest_size) (sym is.key_is) (is.are_rungs.small is.place (pos 0) is.inside)

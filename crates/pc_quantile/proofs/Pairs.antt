@@ -1,9 +1,10 @@
 -- Both ends of a quantile, over what the searches of both found.
-use Rattle.std.proofs.Common.{◌≡◌, ℕ, ◌≤◌, ◌^◌, ℤ, pos, Bool, inl, inr, List, length, ◌++◌, All, Any, sym, ap, subst, ◌∙◌}
+use Rattle.std.proofs.Common.{◌≡◌, ℕ, ◌≤◌, ℤ, pos, Bool, inl, inr, List, length, ◌++◌, All, Any, sym, ap, subst, ◌∙◌}
 use Rattle.std.specs.Prelude.{nat_abs}
 use Rattle.std.proofs.lemmas.List.{append_assoc, length-map}
 use Rattle.std.proofs.lemmas.List.Elements.{All-append}
 use Rattle.std.proofs.lemmas.Slice.Zip.{AllZip-long}
+use Rattle.pc_num.specs.Scaled.{greatest_size}
 use Rattle.pc_model.specs.declared.row.Row.{Row}
 use Rattle.pc_model.specs.Cells.{Class, IsRowOf}
 use Rattle.pc_program_bound.specs.declared.program.Program.{Program}
@@ -96,7 +97,7 @@ module _ (u : Setting) (budget : ℕ) (seen : List ℤ) (asked : Quantile) (befo
       gains = is.small;
       met = met_by is.wanted;
       picked = AllZip-long (IsAtEnd u extreme) (cells u) stand.picks is.picked ∙ sym (sized_by is.wanted);
-      small = subst (λ key. nat_abs key ≤ 10 ^ 15) (sym is.key_is) (is.are_rungs.small is.place (pos 0) is.inside);
+      small = subst (λ key. nat_abs key ≤ greatest_size) (sym is.key_is) (is.are_rungs.small is.place (pos 0) is.inside);
     },
     AllZip-long (IsAtEnd u extreme) (cells u) stand.picks is.picked,
   )

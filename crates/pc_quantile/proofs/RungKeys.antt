@@ -1,8 +1,9 @@
 -- The keys that the code gathers are those of the candidates.
-use Rattle.std.proofs.Common.{◌≡◌, ℕ, ◌<◌, ◌≤◌, ◌^◌, ℤ, pos, nat_abs, true, inl, inr, List, ◌++◌, length, map, get_or, All, Contains, refl, sym, ap, subst, ◌∙◌, arith}
+use Rattle.std.proofs.Common.{◌≡◌, ℕ, ◌<◌, ◌≤◌, ℤ, pos, nat_abs, true, inl, inr, List, ◌++◌, length, map, get_or, All, Contains, refl, sym, ap, subst, ◌∙◌, arith}
 use Rattle.std.proofs.lemmas.Int.{ints}
 use Rattle.std.proofs.lemmas.List.{length-map, get_or-map, get_or_default}
 use Rattle.std.proofs.lemmas.List.Elements.{All-append, All-map, All-weaker, All-contains, Contains-append_left, Contains-append_right, Contains-get_or}
+use Rattle.pc_num.specs.Scaled.{greatest_size}
 use Rattle.pc_model.specs.declared.row.Row.{Row}
 use Rattle.pc_model.specs.Cells.{Class}
 use Rattle.pc_program_bound.proofs.CellPlaces.{no_class}
@@ -30,7 +31,7 @@ turned_back : (extreme : Extreme) (n : ℤ) → signed extreme (signed extreme n
 turned_back Low n = omega (arith, ints)
 turned_back High n = refl
 
-turned_small : (extreme : Extreme) (n : ℤ) → nat_abs n ≤ 10 ^ 15 → nat_abs (signed extreme n) ≤ 10 ^ 15
+turned_small : (extreme : Extreme) (n : ℤ) → nat_abs n ≤ greatest_size → nat_abs (signed extreme n) ≤ greatest_size
 turned_small Low n small = omega (arith, ints, small)
 turned_small High n small = small
 
@@ -102,9 +103,9 @@ module _ (problem : Problem) (posed : IsPosed problem) (extreme : Extreme) (keys
         key_here i inside is_chosen ∙ ap (key_of u extreme) class ∙ key_at_end u extreme own.class ∙ ap (signed extreme) own.is in
         Contains-append_left chosen (map (signed extreme) seen) (signed extreme number) (subst (Contains chosen) key (are.each i inside is_chosen))
 
-    module _ (picks : List Row) (picked : AreAtEnd problem extreme picks) (small_seen : All (λ number. nat_abs number ≤ 10 ^ 15) seen) where
+    module _ (picks : List Row) (picked : AreAtEnd problem extreme picks) (small_seen : All (λ number. nat_abs number ≤ greatest_size) seen) where
       abbrev IsSmall : ℤ → Type 0
-      IsSmall key = nat_abs key ≤ 10 ^ 15
+      IsSmall key = nat_abs key ≤ greatest_size
 
       small_keys : All IsSmall keys
       small_keys = subst (All IsSmall) (sym keyed) (keys_small u extreme posed.formed (cells u) picks picked)

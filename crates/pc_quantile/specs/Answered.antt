@@ -1,5 +1,6 @@
 -- The answer that the cells, what was found and both ends give.
-use Rattle.std.specs.Prelude.{◌≡◌, ⊤, ℕ, ◌≤◌, ◌^◌, ℤ, nat_abs, int_le, Bool, cond, List, ◌++◌, length, All, Any, Some, None}
+use Rattle.std.specs.Prelude.{◌≡◌, ⊤, ℕ, ◌≤◌, ℤ, nat_abs, int_le, Bool, cond, List, ◌++◌, length, All, Any, Some, None}
+use Rattle.pc_num.specs.Scaled.{greatest_size}
 use Rattle.pc_model.specs.declared.row.Row.{Row}
 use Rattle.pc_model.specs.Runs.{runs_from}
 use Rattle.pc_program_bound.specs.Allocation.{IsProgram, cells_of}
@@ -103,7 +104,7 @@ pub record CanMark (found : List (List ℕ)) (stand : Stand) : Type 0 where
   pub gains : HasSmallGains stand.program
   pub met : All (IsMet stand.program) found
   pub picked : length stand.picks ≡ cells_of stand.program
-  pub small : nat_abs stand.key ≤ 10 ^ 15
+  pub small : nat_abs stand.key ≤ greatest_size
 
 -- and that it has a row of each cell
 abbrev pub CanEnd : Setting → List (List ℕ) → Stand → Type 0

@@ -1,6 +1,7 @@
 -- Where an end of a quantile stands among its candidates, as halving leaves them.
-use Rattle.std.specs.Prelude.{◌≡◌, ⊤, ◌⊎◌, ℕ, suc, ◌-◌, ◌*◌, ◌<◌, ◌≤◌, ◌^◌, ℤ, ◌<ℤ◌, nat_abs, List, ◌++◌, length, All, Any, Contains}
+use Rattle.std.specs.Prelude.{◌≡◌, ⊤, ◌⊎◌, ℕ, suc, ◌-◌, ◌*◌, ◌<◌, ◌≤◌, ℤ, ◌<ℤ◌, nat_abs, List, ◌++◌, length, All, Any, Contains}
 use Rattle.std.specs.List.{AllZip}
+use Rattle.pc_num.specs.Scaled.{greatest_size}
 use Rattle.pc_model.specs.declared.row.Row.{Row}
 use Rattle.pc_program_bound.specs.declared.program.Program.{Program}
 use Rattle.pc_program_bound.specs.Allocation.{IsProgram}
@@ -35,7 +36,7 @@ pub record AreRungs (s : Setting) (seen : List ℤ) (extreme : Extreme) (rungs :
   pub falling : (place : ℕ) → suc place < length rungs → int_at rungs (suc place) <ℤ int_at rungs place
   pub from : All (λ key. IsCandidateBeside s seen extreme (signed extreme key)) rungs
   pub each : (number : ℤ) → IsCandidateBeside s seen extreme number → Contains rungs (signed extreme number)
-  pub small : All (λ key. nat_abs key ≤ 10 ^ 15) rungs
+  pub small : All (λ key. nat_abs key ≤ greatest_size) rungs
 
 abbrev pub number_on : Extreme → List ℤ → ℕ → ℤ
 number_on extreme rungs place = signed extreme (int_at rungs place)

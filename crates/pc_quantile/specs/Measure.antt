@@ -1,5 +1,6 @@
 -- What a quantile is sought over.
-use Rattle.std.specs.Prelude.{◌≡◌, ◌==◌, ◌≤◌, ◌^◌, ℤ, nat_abs, Bool, not, List, length, All}
+use Rattle.std.specs.Prelude.{◌≡◌, ◌==◌, ◌≤◌, ℤ, nat_abs, Bool, not, List, length, All}
+use Rattle.pc_num.specs.Scaled.{greatest_size}
 use Rattle.pc_model.specs.Boxes.{IsAreaOf}
 use Rattle.pc_proof.specs.Setting.{Setting}
 use Rattle.pc_agg_search.specs.Posed.{AsksNumbers}
@@ -25,4 +26,4 @@ pub record IsMeasured (m : Measure) : Type 0 where
   pub most : m.asked.now.p ≤ m.asked.now.q
   pub few : m.asked.now.q ≤ 1000
   pub few_seen : length m.seen.now ≤ 1_000_000
-  pub small_seen : All (λ number. nat_abs number ≤ 10 ^ 15) m.seen.now
+  pub small_seen : All (λ number. nat_abs number ≤ greatest_size) m.seen.now

@@ -1,5 +1,6 @@
 //! The numbers at which an end can stand.
 ghost use Rattle.std.specs.Prelude.{◌≡◌, ◌≤◌, ◌^◌, ◌++◌, [], ◌∷◌, nat_abs, map, cond, length, IfOk};
+ghost use Rattle.pc_num.specs.Scaled.{greatest_size};
 ghost use Rattle.pc_agg_search.specs.Ends.{signed};
 ghost use Rattle.pc_agg_search.specs.Posed.{AreAtEnd, keys_of};
 ghost use Rattle.pc_quantile.specs.Climbing.{AreRungsOf};
@@ -82,9 +83,9 @@ fn key_of(extreme: Extreme, number: i64) -> i128
 
 /// The number of a key.
 pub(crate) fn number_of(extreme: Extreme, key: i128) -> i128
-    requires { nat_abs key ≤ 10 ^ 15 }
+    requires { nat_abs key ≤ greatest_size }
     ensures number { result ≡ signed extreme key }
-    ensures small { nat_abs result ≤ 10 ^ 15 }
+    ensures small { nat_abs result ≤ greatest_size }
 {
     match extreme {
         Extreme::Low => -key,

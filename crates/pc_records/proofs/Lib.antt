@@ -1,2 +1,4 @@
 pub mod Lines
+pub mod PlainLines
+pub mod PlainParts
 pub mod Records

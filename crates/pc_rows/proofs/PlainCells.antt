@@ -11,6 +11,7 @@ use Rattle.std.proofs.lemmas.List.{reverse-append, reverse-reverse}
 use Rattle.std.proofs.lemmas.List.Folds.{list_all-append}
 use Rattle.std.proofs.lemmas.List.Sums.{position_or_len_is}
 use Rattle.std.proofs.Math.Nat.{div-le_self}
+use Rattle.pc_num.specs.Scaled.{greatest_size}
 use Rattle.pc_num.specs.Put.{decimals_of, fraction_text, scaled_text, size_text}
 use Rattle.pc_num.proofs.ReadBack.{reads_back}
 use Rattle.pc_model.proofs.Lists.{bytes_eq-other, bytes_eq-same}
@@ -50,7 +51,7 @@ solid_fraction : (k n : ℕ) → is_solid (fraction_text k n) ≡ true
 solid_fraction zero n = refl
 solid_fraction (suc k) n = solid_decimals (suc k) n
 
-solid_size : (scale size : ℕ) → size ≤ 10 ^ 15 → is_solid (size_text scale size) ≡ true
+solid_size : (scale size : ℕ) → size ≤ greatest_size → is_solid (size_text scale size) ≡ true
 solid_size scale size small =
     solid-append (decimal (size / 10 ^ scale)) (fraction_text scale size) (solid_decimal (size / 10 ^ scale) (omega (arith, div-le_self size (10 ^ scale)))) (solid_fraction scale size)
 

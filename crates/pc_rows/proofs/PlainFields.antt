@@ -7,12 +7,14 @@ use Rattle.std.proofs.lemmas.Bool.Decides.{nat_tests}
 use Rattle.std.proofs.lemmas.List.{append-nil, length-map}
 use Rattle.std.proofs.lemmas.List.Elements.{All-tail}
 use Rattle.std.proofs.Math.Seq.{get_or-append_seam}
+use Rattle.csv.specs.Reading.{strip_bom}
 use Rattle.pc_model.specs.declared.row.Row.{Row}
 use Rattle.pc_model.specs.declared.schema.Column.{Column}
 use Rattle.pc_model.specs.declared.schema.Schema.{Schema}
 use Rattle.pc_model.specs.Membership.{allows, in_domain, row_from as row}
 use Rattle.pc_model.specs.WellFormed.{IsColumn}
-use Rattle.pc_rows.specs.Plain.{SpellsPlainly, cell_field, header_fields, row_fields}
+use Rattle.pc_records.proofs.PlainLines.{records_of_lines}
+use Rattle.pc_rows.specs.Plain.{SpellsByLines, SpellsPlainly, cell_field, header_fields, row_fields}
 use Rattle.pc_rows.specs.RowFile.{cells_at, cells_from, cells_of, rows_from, rows_of, rows_under}
 use Rattle.pc_rows.specs.Stored.{row_limit}
 use Rattle.pc_rows.proofs.InDomain.{Allowed}
@@ -72,3 +74,11 @@ reads_plain_fields bytes text schema rows spells =
     let own = spells.own in
     rw (spells.of_bytes, spells.fields, places_again columns [] [] 0 (header_fields columns) refl refl own.well_formed.columns.own_names)
     (rows_again schema rows [] (length (header_fields columns)) (length-map columns (λ (column : Column). column.name)) own.well_formed.columns.all own.inside (omega (arith, own.few)))
+
+pub reads_plain_lines : (bytes text : List ℕ) (schema : Schema) (rows : List Row) → SpellsByLines bytes text schema rows → rows_of schema bytes ≡ Ok rows
+reads_plain_lines bytes text schema rows spells =
+    reads_plain_fields bytes text schema rows (record {
+      own = spells.own;
+      of_bytes = spells.of_bytes;
+      fields = records_of_lines (strip_bom text) spells.plain ∙ spells.fields;
+    })

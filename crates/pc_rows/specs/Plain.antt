@@ -12,6 +12,7 @@ use Rattle.pc_model.specs.Membership.{in_domain}
 use Rattle.pc_model.specs.Texts.{text_of}
 use Rattle.pc_model.specs.WellFormed.{IsWellFormed}
 use Rattle.pc_records.specs.Lines.{lines_text}
+use Rattle.pc_records.specs.Plain.{HasPlainLines, plain_lines, split_at_commas}
 use Rattle.pc_rows.specs.Stored.{row_limit}
 
 -- a number of a column of this kind: of a column of names, the name at that place
@@ -44,6 +45,13 @@ pub record SpellsPlainly (bytes text : List ℕ) (schema : Schema) (rows : List 
   pub own : AreOf schema rows
   pub of_bytes : text_of bytes ≡ Ok text
   pub fields : records default_config (strip_bom text) ≡ table_fields schema rows
+
+-- the lines of a file without quotes, split at their commas, are the plain fields of rows of the domain
+pub record SpellsByLines (bytes text : List ℕ) (schema : Schema) (rows : List Row) : Type 0 where
+  pub own : AreOf schema rows
+  pub of_bytes : text_of bytes ≡ Ok text
+  pub plain : HasPlainLines (strip_bom text)
+  pub fields : map split_at_commas (plain_lines (strip_bom text)) ≡ table_fields schema rows
 
 -- the plain fields, line by line, in quotes where a name calls for them
 abbrev pub plain_text : Schema → List Row → List ℕ

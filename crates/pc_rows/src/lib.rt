@@ -15,7 +15,7 @@ mod record;
 mod rows;
 
 pub use case::Case;
-pub use plain::{reads_plain_fields, reads_plain_text};
+pub use plain::{reads_plain_fields, reads_plain_lines, reads_plain_text};
 pub use read::read_rows;
 pub use record::{read_row, row_of};
 pub use rows::Rows;

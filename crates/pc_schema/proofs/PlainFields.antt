@@ -20,7 +20,9 @@ use Rattle.pc_model.specs.Texts.{IsName}
 use Rattle.pc_model.specs.WellFormed.{AreColumns, AreNames, AreValues, IsColumn, IsKind, IsSmall, IsSpan}
 use Rattle.pc_model.proofs.Names.{is_name_of}
 use Rattle.pc_model.proofs.NumberTexts.{number_again}
-use Rattle.pc_schema.specs.Plain.{SpellsPlainly, column_fields, kind_fields}
+use Rattle.csv.specs.Reading.{strip_bom}
+use Rattle.pc_records.proofs.PlainLines.{records_of_lines}
+use Rattle.pc_schema.specs.Plain.{SpellsByLines, SpellsPlainly, column_fields, kind_fields}
 use Rattle.pc_schema.specs.SchemaFile.{cat_of, column_at, column_of, columns_from, dec_of, int_of, is_taken, kind_of, name_of, names_from, scale_of, schema_from, schema_of, span_of}
 
 ordered : (low high : ℤ) → low ≤ℤ high → int_lt high low ≡ false
@@ -134,3 +136,11 @@ pub reads_plain_fields : (bytes text : List ℕ) (schema : Schema) → SpellsPla
 unfolding schema_of
 reads_plain_fields bytes text schema spells =
     rw (spells.of_bytes, spells.fields, columns_again [] schema.columns spells.well_formed.columns) (schema_again schema.columns spells.well_formed.some)
+
+pub reads_plain_lines : (bytes text : List ℕ) (schema : Schema) → SpellsByLines bytes text schema → schema_of bytes ≡ Ok schema
+reads_plain_lines bytes text schema spells =
+    reads_plain_fields bytes text schema (record {
+      well_formed = spells.well_formed;
+      of_bytes = spells.of_bytes;
+      fields = records_of_lines (strip_bom text) spells.plain ∙ spells.fields;
+    })

@@ -9,6 +9,7 @@ use Rattle.pc_model.specs.declared.schema.Column.{Column}
 use Rattle.pc_model.specs.declared.schema.Schema.{Schema}
 use Rattle.pc_model.specs.Texts.{text_of}
 use Rattle.pc_model.specs.WellFormed.{IsWellFormed}
+use Rattle.pc_records.specs.Plain.{HasPlainLines, plain_lines, split_at_commas}
 
 abbrev pub kind_fields : Kind → List (List ℕ)
 kind_fields (Int low high) = codes "int" ∷ scaled_text low 0 ∷ scaled_text high 0 ∷ []
@@ -23,6 +24,13 @@ pub record SpellsPlainly (bytes text : List ℕ) (schema : Schema) : Type 0 wher
   pub well_formed : IsWellFormed schema
   pub of_bytes : text_of bytes ≡ Ok text
   pub fields : records default_config (strip_bom text) ≡ map column_fields schema.columns
+
+-- the lines of a file without quotes, split at their commas, are the plain fields of a well-formed schema
+pub record SpellsByLines (bytes text : List ℕ) (schema : Schema) : Type 0 where
+  pub well_formed : IsWellFormed schema
+  pub of_bytes : text_of bytes ≡ Ok text
+  pub plain : HasPlainLines (strip_bom text)
+  pub fields : map split_at_commas (plain_lines (strip_bom text)) ≡ map column_fields schema.columns
 
 -- the plain fields, line by line, in quotes where a name calls for them
 unfoldable pub plain_text : List Column → List ℕ

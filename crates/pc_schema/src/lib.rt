@@ -8,5 +8,5 @@ mod plain;
 mod schema;
 
 pub use domain::whole;
-pub use plain::{reads_plain_fields, reads_plain_text};
+pub use plain::{reads_plain_fields, reads_plain_lines, reads_plain_text};
 pub use schema::read_schema;

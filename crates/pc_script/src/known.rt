@@ -4,7 +4,7 @@ ghost use Rattle.pc_script.specs.Reading.{HasRoom, known_then};
 use pc_list::Seq;
 use pc_model::Constraint;
 use pc_num::Memory;
-use pc_session::{Edit, Line, copied};
+use pc_session::{Edit, Line};
 
 /// What the reading of a line looks at of those before it: how many rows and which constraints are held, and how many
 /// questions were asked.
@@ -25,7 +25,7 @@ impl Known {
             Line::Edits(Edit::AddRow(_)) => self.rows += 1,
             Line::Edits(Edit::DropRow(_)) => self.rows -= 1,
             Line::Edits(Edit::AddRule(constraint)) => {
-                self.constraints.push(copied(constraint)?)?;
+                self.constraints.push(constraint.clone()?)?;
             }
             Line::Edits(Edit::DropRule(at)) => {
                 self.constraints.remove(*at as usize);

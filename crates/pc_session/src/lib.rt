@@ -7,7 +7,7 @@ mod laws;
 mod line;
 mod session;
 
-pub use copies::{copied, copies_of};
+pub use copies::copies_of;
 pub use laws::{edits_keep_what_is_held, lines_follow_one_another, lines_keep_what_is_held};
 pub use line::{Edit, Line};
 pub use session::Session;

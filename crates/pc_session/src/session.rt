@@ -45,7 +45,7 @@ impl Session {
         ensures constraints { IfOk result (λ session. session.constraints ≡ constraints) }
         ensures session { IfOk result IsSession }
     {
-        let whole = whole_area(alloc, &schema)?;
+        let whole = schema.whole_area(alloc)?;
         let mut tree = Shared::new(alloc, &schema)?;
         tree.refine(&schema, constraints.as_slice(), &whole)?;
         Ok(Session {
@@ -128,7 +128,7 @@ impl Session {
         ensures done { IfOk result (IsHeldOver constraints self.old self.new) }
         ensures memory { OnErr result (self.new ≡ self.old) }
     {
-        let whole = whole_area(self.alloc(), &self.schema)?;
+        let whole = self.schema.whole_area(self.alloc())?;
         let cuts = self
             .tree
             .refine(&self.schema, constraints.as_slice(), &whole)?;
@@ -139,12 +139,4 @@ impl Session {
     fn alloc(&self) -> Global {
         self.constraints.allocator()
     }
-}
-
-// The area of the whole domain.
-fn whole_area(alloc: Global, schema: &Schema) -> Result<Area, Memory>
-    requires { HaveFewNames schema.now.columns }
-    ensures { IfOk result (λ area. area ≡ whole_area schema.now) }
-{
-    Area::of_box(alloc, schema.whole(alloc)?)
 }

@@ -1,4 +1,4 @@
-ghost use Rattle.std.specs.Prelude.{◌≡◌, ◌<◌, ◌-◌, ◌++◌, ◌^◌, IfOk};
+ghost use Rattle.std.specs.Prelude.{◌≡◌, ◌<◌, ◌-◌, ◌++◌, ◌^◌, IfOk, IsOk};
 ghost use Rattle.pc_program_bound.specs.Sums.{nat_at};
 ghost use Rattle.pc_program_bound.specs.Allocation.{IsProgram, IsBox, cells_of, constraints_of};
 ghost use Rattle.pc_simplex_tableau.specs.Numbers.{table};
@@ -36,6 +36,7 @@ fn column_count(p: &Program) -> Result<usize, Memory>
     requires program { IsProgram p.now }
     ensures value { IfOk result (λ count. count ≡ columns_of p.now) }
     ensures few { IfOk result (λ _. columns_of p.now < 2 ^ 32) }
+    ensures given { columns_of p.now < 2 ^ 32 → IsOk result }
 {
     if p.masks.len() > u32::MAX as usize - 2 * p.least.len() {
         return Err(Memory);

@@ -38,7 +38,7 @@ mix_signed : (test : Bool) (places : List ℕ) (numbers : List ℤ)
 mix_signed true places numbers = mix_neg places numbers
 mix_signed false places numbers = refl
 
-at_signed : (test : Bool) (numbers : List ℤ) (k : ℕ) → int_at (cond test (map neg_ℤ numbers) numbers) k ≡ signed test (int_at numbers k)
+pub at_signed : (test : Bool) (numbers : List ℤ) (k : ℕ) → int_at (cond test (map neg_ℤ numbers) numbers) k ≡ signed test (int_at numbers k)
 at_signed true numbers k = at_neg numbers k
 at_signed false numbers k = refl
 
@@ -162,7 +162,7 @@ map_both P g s r k (x ∷ xs) each all =
     ap₂ ◌∷◌ (each x (all 0 x (omega arith))) (map_both P g s r k xs each (λ i d lt. all (suc i) d (omega (arith, lt))))
 
 -- the tableau that turned rows and flags leave, whose objective row stays
-abbrev left_by : Tableau → List TableauRow → List Bool → Tableau
+abbrev pub left_by : Tableau → List TableauRow → List Bool → Tableau
 left_by t rows flags = record { rows = rows; turned = flags; aim = t.aim; weight = t.weight }
 
 pub turned-spelled : (f : ShortSetting) (t : Tableau) (c u : ℕ) → IsSetting f → c < f.columns.count → IsShort f t

@@ -1,3 +1,4 @@
+pub mod Alike
 pub mod Changing
 pub mod Choosing
 pub mod Combining
@@ -9,6 +10,7 @@ pub mod Made
 pub mod Mixing
 pub mod Multiples
 pub mod Replaced
+pub mod Given
 pub mod Running
 pub mod ShortPivots
 pub mod Sizes

@@ -1,6 +1,6 @@
 -- Rows that are changed one after the other: those before a place are changed already.
-use Rattle.std.proofs.Common.{◌≡◌, ◌<◌, ◌+◌, ◌++◌, ℕ, zero, suc, List, [], ◌∷◌, length, get_or, set, take, drop, map, All, arith, refl}
-use Rattle.std.proofs.lemmas.List.{get_or_default}
+use Rattle.std.proofs.Common.{◌≡◌, ◌<◌, ◌+◌, ◌++◌, ℕ, zero, suc, List, [], ◌∷◌, length, get_or, set, take, drop, map, All, arith, refl, ap, sym, subst, ◌∙◌}
+use Rattle.std.proofs.lemmas.List.{get_or_default, get_or-map, length-map}
 use Rattle.std.proofs.lemmas.List.Edits.{map_over_more}
 use Rattle.std.proofs.lemmas.List.Elements.{All-set}
 
@@ -24,3 +24,10 @@ module _ {X : Type 0} (f : X → X) (Keeps : X → Type 0) (old rows : List X) (
         made = rw e (map_over_more f old rows i x within h.made (get_or_default rows i d x inside));
         kept = All-set Keeps rows i y keeps h.kept;
       }
+
+  -- the row that is next to be changed keeps what all changed rows keep
+  pub made_at : (P : X → Type 0) (d : X) → i < length old → IsMadeTo f Keeps old rows i → All P (map f old) → P (f (get_or rows i d))
+  made_at P d within h all =
+      let same : get_or rows i d ≡ get_or old i d = ap (λ l. get_or l i d) h.made ∙ after_changed f i old d within in
+      let there : get_or (map f old) i (f d) ≡ f (get_or old i d) = get_or-map f old i d (f d) within in
+      subst (λ y. P (f y)) (sym same) (subst P there (all i (f d) (omega (arith, within, length-map old f))))

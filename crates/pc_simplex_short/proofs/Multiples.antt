@@ -38,7 +38,7 @@ divides-sum (suc g) a b first second =
 divides-product : (g : ℕ) (a b : ℤ) → g ∣ nat_abs a → g ∣ nat_abs (a *ℤ b)
 divides-product g a b h = rw (size_of_product a b) (dvd-mul_right_of_dvd g h (nat_abs b))
 
-size_of_signed : (test : Bool) (a : ℤ) → nat_abs (signed test a) ≡ nat_abs a
+pub size_of_signed : (test : Bool) (a : ℤ) → nat_abs (signed test a) ≡ nat_abs a
 size_of_signed true a = omega (arith, ints)
 size_of_signed false a = refl
 
@@ -79,11 +79,11 @@ module _ (f : ShortSetting) (turned : List Bool) where
       (divides-sum g (weight *ℤ int_at f.gains k) (mix (places_of f k) xs) (divides-product g weight (int_at f.gains k) weighs) (divides-mix g xs each (places_of f k))))
 
   -- a number stands alone at a slack, but for its sign
-  slack-entry : (xs : List ℤ) (j k : ℕ) → IsSlackOf f j k → nat_abs (entry f turned xs k) ≡ nat_abs (int_at xs j)
+  pub slack-entry : (xs : List ℤ) (j k : ℕ) → IsSlackOf f j k → nat_abs (entry f turned xs k) ≡ nat_abs (int_at xs j)
   slack-entry xs j k s =
       size_of_signed (slice_index_or turned k false) (mix (places_of f k) xs) ∙ ap (λ places. nat_abs (mix places xs)) s.place ∙ ap nat_abs (mix-alone j xs)
 
-  slack-aim_entry : (weight : ℤ) (xs : List ℤ) (j k : ℕ) → IsSlackOf f j k → nat_abs (aim_entry f turned weight xs k) ≡ nat_abs (int_at xs j)
+  pub slack-aim_entry : (weight : ℤ) (xs : List ℤ) (j k : ℕ) → IsSlackOf f j k → nat_abs (aim_entry f turned weight xs k) ≡ nat_abs (int_at xs j)
   slack-aim_entry weight xs j k s =
       let nothing : weight *ℤ int_at f.gains k ≡ pos 0 = ap (λ gain. weight *ℤ gain) s.gainless ∙ mul-zero weight in
       let number : mix (places_of f k) xs ≡ int_at xs j = ap (λ places. mix places xs) s.place ∙ mix-alone j xs in

@@ -1,9 +1,9 @@
 -- A row that is combined with another and divided by a number, place by place, and the divisor that it is divided by.
-use Rattle.std.proofs.Common.{◌≡◌, ◌≤◌, ◌<◌, ◌+◌, ◌/◌, ℕ, zero, suc, ℤ, pos, negsuc, ◌-ℤ◌, ◌*ℤ◌, ◌<ℤ◌, ◌≤ℤ◌, List, [], ◌∷◌, ◌++◌, map, length, get_or, set, take, drop, All, to_z, of_z, w64, arith, refl, ap, ap₂, sym, ◌∙◌, add-one, append-nil, take_all}
+use Rattle.std.proofs.Common.{◌≡◌, ◌≤◌, ◌<◌, ◌+◌, ◌/◌, ℕ, zero, suc, ℤ, pos, negsuc, ◌-ℤ◌, ◌*ℤ◌, ◌<ℤ◌, ◌≤ℤ◌, List, [], ◌∷◌, ◌++◌, map, length, get_or, set, take, drop, All, to_z, of_z, w64, arith, refl, ap, ap₂, sym, subst, ◌∙◌, add-one, append-nil, take_all}
 use Rattle.std.specs.Prelude.{unsigned_abs}
 use Rattle.std.specs.Int.{IsGcd, int_div_euclid}
 use Rattle.std.proofs.lemmas.Int.{ints}
-use Rattle.std.proofs.lemmas.List.{drop_all}
+use Rattle.std.proofs.lemmas.List.{drop_all, length-map}
 use Rattle.std.proofs.lemmas.List.Elements.{All-set, All-from_get_or}
 use Rattle.std.proofs.Math.Nat.{div-mul_cancel, one-dvd}
 use Rattle.pc_num.specs.Divisor.{IsRowGcd}
@@ -13,7 +13,7 @@ use Rattle.pc_program_bound.specs.Sums.{int_at}
 use Rattle.pc_program_bound.specs.Bound.{IsFit}
 use Rattle.pc_simplex_tableau.specs.Numbers.{common, primitive, combined}
 use Rattle.pc_simplex_tableau.proofs.Divisors.{common_is, same_row_gcd}
-use Rattle.pc_simplex_tableau.proofs.Places.{length-combined, at-combined}
+use Rattle.pc_simplex_tableau.proofs.Places.{length-combined, at-combined, at-divided}
 use Rattle.pc_simplex_short.specs.Kept.{IsWithin}
 use Rattle.pc_simplex_short.proofs.Sizes.{mixed_fits}
 use Rattle.pc_simplex_short.proofs.Words.{passed_word}
@@ -70,6 +70,16 @@ module _ (p t d : ℤ) (old other : List ℤ) where
   reduced_end row i past sized h =
       h.made ∙ rw (take_all i old past, take_all i other (omega (arith, past, sized)), drop_all i old past)
       (append-nil (map (λ a. int_div_euclid a d) (combined p old t other)))
+
+  -- a number that is to be put is small where all are
+  pub reduced_small : (row : List ℤ) (i : ℕ) → i < length old → length old ≡ length other → IsReducedTo p t d old other row i
+      → All (IsWithin 50) (map (λ a. int_div_euclid a d) (combined p old t other))
+      → IsWithin 50 (int_div_euclid (p *ℤ int_at row i -ℤ t *ℤ int_at other i) d)
+  reduced_small row i within sized h all =
+      let le : length old ≤ length other = omega (arith, sized) in
+      let long = length-map (combined p old t other) (λ a. int_div_euclid a d) ∙ length-combined p t old other le in
+      let value = at-divided (combined p old t other) d i ∙ ap (λ x. int_div_euclid x d) (at-combined p t old other i within le) in
+      rw (reduced_read row i (pos 0) (pos 0) within sized h) (subst (IsWithin 50) value (all i (pos 0) (omega (arith, within, long))))
 
 -- ---- the divisor
 

@@ -1,7 +1,7 @@
 -- The rows before and after one that is replaced, where the others are changed in the same way.
-use Rattle.std.proofs.Common.{◌≡◌, ◌<◌, ◌++◌, ℕ, zero, suc, List, [], ◌∷◌, length, set, take, drop, map, All, arith, refl, ap, sym, ◌∙◌, add-one}
+use Rattle.std.proofs.Common.{◌≡◌, ◌<◌, ◌++◌, ℕ, zero, suc, List, [], ◌∷◌, length, set, take, drop, map, All, arith, refl, ap, sym, subst, ◌∙◌, add-one}
 use Rattle.std.proofs.lemmas.List.{take-map, drop-map, set_split, drop-drop, length-map}
-use Rattle.std.proofs.lemmas.List.Elements.{All-append, All-cons}
+use Rattle.std.proofs.lemmas.List.Elements.{All-append, All-cons, All-nil, All-head, All-tail}
 use Rattle.pc_simplex_tableau.specs.Tableau.{TableauRow}
 use Rattle.pc_simplex_tableau.proofs.Pivoting.{IsSplit}
 
@@ -15,6 +15,14 @@ set_here : (rows : List TableauRow) (r : ℕ) (y : TableauRow) → r < length ro
 set_here [] r y h = absurd (omega arith)
 set_here (x ∷ rows) zero y h = refl
 set_here (x ∷ rows) (suc r) y h = set_here rows r y (omega arith)
+
+all_first : (P : TableauRow → Type 0) (xs ys : List TableauRow) → All P (xs ++ ys) → All P xs
+all_first P [] ys all = All-nil P
+all_first P (x ∷ xs) ys all = All-cons P x xs (All-head P x (xs ++ ys) all) (all_first P xs ys (All-tail P x (xs ++ ys) all))
+
+all_last : (P : TableauRow → Type 0) (xs ys : List TableauRow) → All P (xs ++ ys) → All P ys
+all_last P [] ys all = all
+all_last P (x ∷ xs) ys all = all_last P xs ys (All-tail P x (xs ++ ys) all)
 
 module _ (rows before back own after : List TableauRow) (r : ℕ) (h : IsSplit rows before back own after r) where
   rest_is : after ≡ drop (suc r) rows
@@ -30,3 +38,11 @@ module _ (rows before back own after : List TableauRow) (r : ℕ) (h : IsSplit r
   pub replaced_all : (P : TableauRow → Type 0) (made left : List TableauRow) (y : TableauRow) → All P made → P y → All P left
       → All P (made ++ (set own 0 y ++ left))
   replaced_all P made left y first own_holds second = rw (own_set y) (All-append P made (y ∷ left) first (All-cons P y left own_holds second))
+
+  pub others_all : (P : TableauRow → Type 0) (g : TableauRow → TableauRow) (y : TableauRow) → All P (set (map g rows) r y)
+      → All P (map g before) × All P (map g after)
+  others_all P g y all =
+      let first = map g (take r rows) in
+      let last = map g (drop (suc r) rows) in
+      let whole = subst (All P) (around g r rows y h.within) all in
+      rw (h.before_is, rest_is) (all_first P first (y ∷ last) whole, All-tail P y last (all_last P first (y ∷ last) whole))

@@ -2,13 +2,16 @@
 use Rattle.std.proofs.Common.{◌≡◌, ℕ, ◌+◌, ◌<◌, Bool, true, false, cond, List, [], ◌∷◌, map, set, get_or, length, All, refl, ap, ap₂, sym, subst, ◌∙◌}
 use Rattle.std.specs.Prelude.{ℤ}
 use Rattle.std.proofs.lemmas.List.{map-set, get_or_default}
-use Rattle.std.proofs.lemmas.List.Elements.{All-head, All-tail}
+use Rattle.std.proofs.lemmas.List.Elements.{All-head, All-tail, All-set, All-map}
 use Rattle.pc_program_bound.specs.Sums.{int_at}
 use Rattle.pc_simplex_tableau.specs.Numbers.{is_zero}
 use Rattle.pc_simplex_tableau.specs.Tableau.{TableauRow, Tableau, no_row, row_at, freed_row, combined_aim, freed_aim, pivoted}
 use Rattle.pc_simplex_tableau.specs.Conditions.{aim_alone, row_in}
-use Rattle.pc_simplex_short.specs.Short.{ShortSetting, spelled_numbers, spelled_row, spelled_aim, spelled, freed_short}
-use Rattle.pc_simplex_short.specs.Kept.{IsWithin, IsSetting, IsShortRow, IsShort}
+use Rattle.pc_simplex_short.specs.Short.{ShortSetting, spelled_numbers, spelled_row, spelled_aim, spelled, freed_short, aim_from}
+use Rattle.pc_simplex_short.specs.Kept.{IsWithin, IsSetting, IsShortRow, IsSmallRow, IsShort}
+use Rattle.pc_simplex_short.specs.Stays.{HasShort, HasShortAim}
+use Rattle.pc_simplex_short.proofs.Alike.{AreLong, small_rows, aim_held}
+use Rattle.pc_simplex_short.proofs.Given.{length-freed_short}
 use Rattle.pc_simplex_short.proofs.Spelled.{row_at-spelled}
 use Rattle.pc_simplex_short.proofs.FreedRows.{freed-spelled}
 
@@ -42,6 +45,34 @@ module _ (f : ShortSetting) (h : IsSetting f) (t : Tableau) (s : IsShort f t) (c
 
   other_is : other ≡ (row_at (spelled f t) r).numbers
   other_is = ap (λ (row : TableauRow). row.numbers) (sym (row_at-spelled f t r within))
+
+  abbrev apart : List ℤ → Tableau
+  apart numbers = freed_aim c numbers (aim_alone (spelled_aim f t.turned t.weight t.aim) t.weight)
+
+  -- the objective row of what stands in short form
+  pub freeing_aim : HasShort f (freed_aim c (row_at (spelled f t) r).numbers (spelled f t)) → HasShortAim f t.turned (apart other)
+  freeing_aim held =
+      let seen = (row_at (spelled f t) r).numbers in
+      subst (λ numbers. HasShortAim f t.turned (apart numbers)) (sym other_is)
+      (aim_held f t.turned (spelled f t).rows (apart seen) (subst (HasShort f) (freed_split c seen (spelled f t)) held))
+
+  pub pivot_aim : HasShort f (pivoted c r (spelled f t)) → HasShortAim f t.turned (apart other)
+  pivot_aim held =
+      let seen = (row_at (spelled f t) r).numbers in
+      subst (λ numbers. HasShortAim f t.turned (apart numbers)) (sym other_is)
+      (aim_held f t.turned (rows_by seen) (apart seen) (subst (λ (x : Tableau). HasShort f (record x { rows = rows_by seen })) (freed_split c seen (spelled f t)) held))
+    where
+      rows_by : List ℤ → List TableauRow
+      rows_by numbers = set (map (freed_row c numbers) (spelled f t).rows) r (record { numbers = numbers; basic = c })
+
+  rows_long : AreLong f (set (map (freed_short f t.turned c own) t.rows) r (record { numbers = own; basic = c }))
+  rows_long =
+      All-set (λ (row : TableauRow). length row.numbers ≡ f.constraints + 1) (map (freed_short f t.turned c own) t.rows) r (record { numbers = own; basic = c })
+      own_short.numbers
+      (All-map (λ (row : TableauRow). length row.numbers ≡ f.constraints + 1) (freed_short f t.turned c own) t.rows
+      (λ k d lt. let row = get_or t.rows k d in
+      let long = (s.rows k d lt).numbers in
+      length-freed_short f t.turned c own row (long ∙ sym own_short.numbers) ∙ long))
 
   freed_rows : (rows : List TableauRow) → All (IsShortRow f) rows
       → map (spelled_row f t.turned) (map (freed_short f t.turned c own) rows) ≡ map (freed_row c other) (map (spelled_row f t.turned) rows)
@@ -82,9 +113,6 @@ module _ (f : ShortSetting) (h : IsSetting f) (t : Tableau) (s : IsShort f t) (c
 
 -- ---- as the code does it, in whose hands the parts of the tableau are
 
-abbrev aim_from : ShortSetting → ℕ → List Bool → List ℤ → ℤ → List ℤ → Tableau
-aim_from f c turned numbers weight aim = freed_aim c (spelled_numbers f turned numbers) (aim_alone (spelled_aim f turned weight aim) weight)
-
 module _ (f : ShortSetting) (h : IsSetting f) (t now : Tableau) (view : t ≡ now) (s : IsShort f now) (c r : ℕ) (column : c < f.columns.count) (lt : r < length now.rows)
     (row : TableauRow) (row_is : row ≡ get_or t.rows r row) where
   seen : (P : Tableau → Type 0) → P now → P t
@@ -109,6 +137,14 @@ module _ (f : ShortSetting) (h : IsSetting f) (t now : Tableau) (view : t ≡ no
     pub found_small : All (IsWithin 50) numbers
     found_small = subst (All (IsWithin 50)) (sym numbers_found) (own_short f h t short c r column within).small
 
+    pub freeing_aim_given : HasShort f (freed_aim c (row_at (spelled f now) r).numbers (spelled f now)) → HasShortAim f turned (aim_from f c turned numbers t.weight aim)
+    freeing_aim_given held = rw (turned_is, numbers_found, aim_is)
+        (freeing_aim f h t short c r column within (seen (λ (x : Tableau). HasShort f (freed_aim c (row_at (spelled f x) r).numbers (spelled f x))) held))
+
+    pub pivot_aim_given : HasShort f (pivoted c r (spelled f now)) → HasShortAim f turned (aim_from f c turned numbers t.weight aim)
+    pivot_aim_given held = rw (turned_is, numbers_found, aim_is)
+        (pivot_aim f h t short c r column within (seen (λ (x : Tableau). HasShort f (pivoted c r (spelled f x))) held))
+
     module _ (left : ℤ) (new : List ℤ) (freed : spelled_aim f turned left new ≡ (aim_from f c turned numbers t.weight aim).aim) (weighed : left ≡ (aim_from f c turned numbers t.weight aim).weight) where
       freed_there : spelled_aim f t.turned left new ≡ (aim_from f c t.turned (row_at t r).numbers t.weight t.aim).aim
       freed_there = rw (turned_is, numbers_found, aim_is) at freed
@@ -127,3 +163,15 @@ module _ (f : ShortSetting) (h : IsSetting f) (t now : Tableau) (view : t ≡ no
       after_pivot again old rows again_is old_is made =
           pivoted_whole f h t short c r column within left new freed_there weighed_there rows (rw (again_is, old_is) at made)
           ∙ ap (λ (x : Tableau). pivoted c r (spelled f x)) view
+
+      pub pivot_rows_given : (again : List Bool) (old : List TableauRow) → again ≡ t.turned → old ≡ t.rows → HasShort f (pivoted c r (spelled f now))
+          → All IsSmallRow (set (map (freed_short f again c (row_in old r).numbers) old) r (record { numbers = (row_in old r).numbers; basic = c }))
+      pivot_rows_given again old again_is old_is held =
+          small_rows f (after (rows_by again old)) h (rw (again_is, old_is) (rows_long f h t short c r column within))
+          (record { short = held.short; small = held.small; same = held.same ∙ sym (after_pivot again old (rows_by again old) again_is old_is refl) })
+        where
+          rows_by : List Bool → List TableauRow → List TableauRow
+          rows_by again old = set (map (freed_short f again c (row_in old r).numbers) old) r (record { numbers = (row_in old r).numbers; basic = c })
+
+          after : List TableauRow → Tableau
+          after rows = record { rows = rows; turned = t.turned; aim = new; weight = left }

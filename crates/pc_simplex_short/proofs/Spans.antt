@@ -1,6 +1,6 @@
 -- Lists that stand one after the other, as one more is put after them.
-use Rattle.std.proofs.Common.{◌≡◌, ◌<◌, ◌≤◌, ◌+◌, ◌-◌, ℕ, zero, suc, List, [], ◌∷◌, ◌++◌, length, map, take, drop, get_or, All, arith, refl, ap, ap₂, sym, ◌∙◌, take_all}
-use Rattle.std.proofs.lemmas.List.Elements.{All-head, All-tail, All-push, All-weaker}
+use Rattle.std.proofs.Common.{◌≡◌, ◌≤◌, ◌+◌, ℕ, zero, suc, List, [], ◌∷◌, ◌++◌, length, map, take, drop, All, arith, refl, ap, ap₂, ◌∙◌, take_all}
+use Rattle.std.proofs.lemmas.List.Elements.{All-head, All-tail}
 use Rattle.pc_simplex_short.specs.declared.places.Span.{Span}
 use Rattle.pc_simplex_short.specs.Spans.{part, IsSpan}
 

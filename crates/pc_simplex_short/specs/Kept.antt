@@ -35,6 +35,12 @@ pub record IsShortRow (f : ShortSetting) (row : TableauRow) : Type 0 where
   pub basic : row.basic < f.columns.count
   pub small : All (IsWithin 50) row.numbers
 
+abbrev pub AreSmall : List ℤ → Type 0
+AreSmall = All (IsWithin 50)
+
+abbrev pub IsSmallRow : TableauRow → Type 0
+IsSmallRow row = AreSmall row.numbers
+
 -- the objective row has a number for each constraint; with its weight it is small enough too
 pub record IsShortAim (f : ShortSetting) (weight : ℤ) (aim : List ℤ) : Type 0 where
   pub numbers : length aim ≡ f.constraints

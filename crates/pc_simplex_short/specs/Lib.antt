@@ -2,3 +2,4 @@ pub mod Kept
 pub mod Runs
 pub mod Short
 pub mod Spans
+pub mod Stays

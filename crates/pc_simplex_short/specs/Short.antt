@@ -1,8 +1,10 @@
 -- Rows in short form: a row is mixed of the first rows, so one number for each constraint and the value say all of it.
 use Rattle.std.specs.Prelude.{ℕ, ◌==◌, not, ℤ, pos, neg_ℤ, ◌+ℤ◌, ◌-ℤ◌, ◌*ℤ◌, Bool, false, cond, List, [], ◌∷◌, ◌++◌, map, slice_index_or, slice_set}
+use Rattle.std.specs.Int.{int_div_euclid}
 use Rattle.pc_program_bound.specs.Sums.{int_at}
 use Rattle.pc_simplex_tableau.specs.Numbers.{table, primitive, combined, is_zero}
-use Rattle.pc_simplex_tableau.specs.Tableau.{TableauRow, Tableau, Columns}
+use Rattle.pc_simplex_tableau.specs.Tableau.{TableauRow, Tableau, Columns, freed_aim}
+use Rattle.pc_simplex_tableau.specs.Conditions.{aim_alone, row_in}
 
 -- what the steps of a phase leave as it is: its columns, the constraints of each column by number, what each column gains, a
 -- number that no gain exceeds, and how many constraints there are
@@ -55,6 +57,9 @@ spelled f t = record {
 
 -- ---- the steps on short rows
 
+abbrev pub quotients : ℤ → List ℤ → List ℤ
+quotients d row = map (λ a. int_div_euclid a d) row
+
 abbrev pub flipped : List Bool → ℕ → List Bool
 flipped turned c = slice_set turned c (not (slice_index_or turned c false))
 
@@ -74,3 +79,12 @@ freed_short f turned c other row =
     cond (is_zero (entry f turned row.numbers c)) row (record row {
       numbers = primitive (combined (entry f turned other c) row.numbers (entry f turned row.numbers c) other);
     })
+
+-- the rows after a pivot at column c in row r
+abbrev pub pivoted_short : ShortSetting → List Bool → ℕ → ℕ → List TableauRow → List TableauRow
+pivoted_short f turned c r rows =
+    slice_set (map (freed_short f turned c (row_in rows r).numbers) rows) r (record { numbers = (row_in rows r).numbers; basic = c })
+
+-- the objective row, as it is spelled, freed of column c by a short row
+abbrev pub aim_from : ShortSetting → ℕ → List Bool → List ℤ → ℤ → List ℤ → Tableau
+aim_from f c turned numbers weight aim = freed_aim c (spelled_numbers f turned numbers) (aim_alone (spelled_aim f turned weight aim) weight)

@@ -1,10 +1,10 @@
 ghost use Rattle.std.specs.Prelude.{◌≡◌, ◌<◌, ◌≤◌, ◌+◌, ◌*ℤ◌, ◌-ℤ◌, length, All, IsTrue};
 ghost use Rattle.pc_program_bound.specs.Bound.{IsFit};
 ghost use Rattle.pc_simplex_tableau.specs.Numbers.{combined};
-ghost use Rattle.pc_simplex_tableau.specs.Tableau.{freed_aim};
-ghost use Rattle.pc_simplex_tableau.specs.Conditions.{aim_alone, freed_entries, freed_weight};
-ghost use Rattle.pc_simplex_short.specs.Short.{spelled_numbers, spelled_aim};
+ghost use Rattle.pc_simplex_tableau.specs.Conditions.{freed_entries, freed_weight};
+ghost use Rattle.pc_simplex_short.specs.Short.{spelled_aim, aim_from};
 ghost use Rattle.pc_simplex_short.specs.Kept.{IsWithin, IsSetting, IsShortAim};
+ghost use Rattle.pc_simplex_short.specs.Stays.{HasShortAim};
 
 use crate::entry::{aim_entry, entry};
 use crate::setting::ShortSetting;
@@ -28,9 +28,10 @@ pub(crate) fn free(
     requires column { column < setting.now.columns.count }
     requires other { length other.now ≡ setting.now.constraints + 1 }
     requires small { All (IsWithin 50) other.now }
-    ensures aim { IsTrue result → spelled_aim setting.now turned.now weight.new aim.new ≡ (freed_aim column (spelled_numbers setting.now turned.now other.now) (aim_alone (spelled_aim setting.now turned.now weight.old aim.old) weight.old)).aim }
-    ensures weight { IsTrue result → weight.new ≡ (freed_aim column (spelled_numbers setting.now turned.now other.now) (aim_alone (spelled_aim setting.now turned.now weight.old aim.old) weight.old)).weight }
+    ensures aim { IsTrue result → spelled_aim setting.now turned.now weight.new aim.new ≡ (aim_from setting.now column turned.now other.now weight.old aim.old).aim }
+    ensures weight { IsTrue result → weight.new ≡ (aim_from setting.now column turned.now other.now weight.old aim.old).weight }
     ensures short { IsTrue result → IsShortAim setting.now weight.new aim.new }
+    ensures given { HasShortAim setting.now turned.now (aim_from setting.now column turned.now other.now weight.old aim.old) → IsTrue result }
 {
     let own = aim_entry(setting, turned, *weight, aim, column);
     if own == 0 {

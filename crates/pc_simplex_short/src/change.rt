@@ -4,6 +4,7 @@ ghost use Rattle.pc_simplex_tableau.specs.Limits.{IsWayBelow};
 ghost use Rattle.pc_simplex_tableau.specs.Ways.{way_of};
 ghost use Rattle.pc_simplex_short.specs.Short.{spelled};
 ghost use Rattle.pc_simplex_short.specs.Kept.{IsSetting, IsShort};
+ghost use Rattle.pc_simplex_short.specs.Stays.{HasShortBoth, HasShortWay};
 
 use crate::setting::ShortSetting;
 use crate::tableau::ShortTableau;
@@ -27,6 +28,7 @@ pub(crate) fn change(
     ensures fits { IsTrue result → IsTrue (does_way_fit setting.now.columns enters leaves (way_of way) (spelled setting.now tableau.old)) }
     ensures changed { IsTrue result → spelled setting.now tableau.new ≡ after_step setting.now.columns enters leaves (way_of way) (spelled setting.now tableau.old) }
     ensures short { IsTrue result → IsShort setting.now tableau.new }
+    ensures given { HasShortWay setting.now enters leaves (way_of way) tableau.old → IsTrue result }
 {
     match way {
         Way::Turning => tableau.turn(setting, enters, setting.columns.end(enters)),
@@ -51,6 +53,7 @@ fn turn_and_pivot(
     ensures fits { IsTrue result → IsTrue (does_way_fit setting.now.columns enters leaves (turning_and_pivoting at) (spelled setting.now tableau.old)) }
     ensures changed { IsTrue result → spelled setting.now tableau.new ≡ after_step setting.now.columns enters leaves (turning_and_pivoting at) (spelled setting.now tableau.old) }
     ensures short { IsTrue result → IsShort setting.now tableau.new }
+    ensures given { HasShortBoth setting.now enters leaves at tableau.old → IsTrue result }
 {
     let range = setting.columns.end(leaves);
     if !tableau.turn(setting, leaves, range) {

@@ -1,8 +1,9 @@
-ghost use Rattle.std.specs.Prelude.{◌≡◌, ◌<◌, ◌≤◌, ◌<ℤ◌, ◌≤ℤ◌, ◌*ℤ◌, ◌-ℤ◌, pos, unsigned_abs, map, length, All, IsTrue, IfSome};
+ghost use Rattle.std.specs.Prelude.{◌≡◌, ◌<◌, ◌≤◌, ◌<ℤ◌, ◌≤ℤ◌, ◌*ℤ◌, ◌-ℤ◌, pos, unsigned_abs, length, All, IsTrue, IfSome, IsSome};
 ghost use Rattle.std.specs.Int.{IsGcd, int_div_euclid};
 ghost use Rattle.pc_program_bound.specs.Bound.{IsFit};
 ghost use Rattle.pc_simplex_tableau.specs.Numbers.{common, primitive, combined};
-ghost use Rattle.pc_simplex_short.specs.Kept.{IsWithin};
+ghost use Rattle.pc_simplex_short.specs.Short.{quotients};
+ghost use Rattle.pc_simplex_short.specs.Kept.{IsWithin, AreSmall};
 
 use crate::small::is_small;
 use crate::word::short_quotient;
@@ -18,6 +19,7 @@ pub(crate) fn reduce(row: &mut [i64], p: i64, t: i64, other: &[i64]) -> bool
     requires sized { length row.old ≡ length other.now }
     ensures reduced { IsTrue result → row.new ≡ primitive (combined p row.old t other.now) }
     ensures small { IsTrue result → All (IsWithin 50) row.new }
+    ensures given { AreSmall (primitive (combined p row.old t other.now)) → IsTrue result }
 {
     let divisor = divisor_of(row, p, t, other);
     if divisor > 1 {
@@ -54,8 +56,9 @@ fn put_divided(row: &mut [i64], p: i64, t: i64, other: &[i64], divisor: i128) ->
     requires t { IsWithin 55 t }
     requires sized { length row.old ≡ length other.now }
     requires divisor { pos 0 <ℤ divisor }
-    ensures divided { IsTrue result → row.new ≡ map (λ a. int_div_euclid a divisor) (combined p row.old t other.now) }
+    ensures divided { IsTrue result → row.new ≡ quotients divisor (combined p row.old t other.now) }
     ensures small { IsTrue result → All (IsWithin 50) row.new }
+    ensures given { AreSmall (quotients divisor (combined p row.old t other.now)) → IsTrue result }
 {
     for place in 0..row.len() {
         match divided(mixed(p, row[place], t, other[place]), divisor) {
@@ -72,6 +75,7 @@ fn divided(number: i128, divisor: i128) -> Option<i64>
     requires divisor { pos 0 <ℤ divisor }
     ensures value { IfSome result (λ q. q ≡ int_div_euclid number divisor) }
     ensures small { IfSome result (IsWithin 50) }
+    ensures given { IsWithin 50 (int_div_euclid number divisor) → IsSome result }
 {
     let quotient = quotient(number, divisor);
     if !is_small(quotient) {

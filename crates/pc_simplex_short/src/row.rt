@@ -3,6 +3,7 @@ ghost use Rattle.pc_program_bound.specs.Sums.{int_at};
 ghost use Rattle.pc_program_bound.specs.Bound.{IsFit};
 ghost use Rattle.pc_simplex_short.specs.Short.{entry, turned_short, freed_short};
 ghost use Rattle.pc_simplex_short.specs.Kept.{IsWithin, IsSetting, IsShortRow};
+ghost use Rattle.pc_simplex_short.specs.Stays.{IsSmallTurned, IsSmallFreed};
 
 use crate::entry::entry;
 use crate::reduce::reduce;
@@ -41,6 +42,7 @@ impl ShortRow {
         requires column { column < setting.now.columns.count }
         ensures turned { IsTrue result → self.new ≡ turned_short setting.now turned.now column range self.old }
         ensures short { IsTrue result → IsShortRow setting.now self.new }
+        ensures given { IsSmallTurned setting.now turned.now column range self.old → IsTrue result }
     {
         let entry = entry(setting, turned, self.numbers.as_slice(), column);
         turn_numbers(
@@ -69,6 +71,7 @@ impl ShortRow {
         requires column { column < setting.now.columns.count }
         ensures freed { IsTrue result → self.new ≡ freed_short setting.now turned.now column other.now self.old }
         ensures short { IsTrue result → IsShortRow setting.now self.new }
+        ensures given { IsSmallFreed setting.now turned.now column other.now self.old → IsTrue result }
     {
         let own = entry(setting, turned, self.numbers.as_slice(), column);
         if own == 0 {
@@ -85,6 +88,7 @@ fn turn_numbers(numbers: &mut [i64], at: usize, entry: i64, range: u64, is_basic
     requires small { All (IsWithin 50) numbers.old }
     ensures turned { IsTrue result → numbers.new ≡ cond is_basic (map neg_ℤ (slice_set numbers.old at (int_at numbers.old at -ℤ entry *ℤ pos range))) (slice_set numbers.old at (int_at numbers.old at -ℤ entry *ℤ pos range)) }
     ensures small { IsTrue result → All (IsWithin 50) numbers.new }
+    ensures given { IsWithin 50 (int_at numbers.old at -ℤ entry *ℤ pos range) → IsTrue result }
 {
     if !lower(numbers, at, entry, range) {
         return false;
@@ -100,6 +104,7 @@ fn lower(numbers: &mut [i64], at: usize, entry: i64, range: u64) -> bool
     requires small { All (IsWithin 50) numbers.old }
     ensures lowered { IsTrue result → numbers.new ≡ slice_set numbers.old at (int_at numbers.old at -ℤ entry *ℤ pos range) }
     ensures small { IsTrue result → All (IsWithin 50) numbers.new }
+    ensures given { IsWithin 50 (int_at numbers.old at -ℤ entry *ℤ pos range) → IsTrue result }
 {
     let value = lowered(numbers[at], entry, range);
     if !is_small(value) {

@@ -1,7 +1,7 @@
-ghost use Rattle.std.specs.Prelude.{◌≡◌, ◌<◌, ◌+◌, map, slice_set, length, All, IsTrue};
-ghost use Rattle.pc_simplex_tableau.specs.Conditions.{row_in};
-ghost use Rattle.pc_simplex_short.specs.Short.{turned_short, freed_short};
+ghost use Rattle.std.specs.Prelude.{◌≡◌, ◌<◌, ◌+◌, map, length, All, IsTrue};
+ghost use Rattle.pc_simplex_short.specs.Short.{turned_short, freed_short, pivoted_short};
 ghost use Rattle.pc_simplex_short.specs.Kept.{IsWithin, IsSetting, IsShortRow};
+ghost use Rattle.pc_simplex_short.specs.Stays.{AreSmallTurned, AreSmallFreed, AreSmallPivoted};
 
 use crate::row::ShortRow;
 use crate::setting::ShortSetting;
@@ -21,6 +21,7 @@ pub(crate) fn turn_all(
     requires column { column < setting.now.columns.count }
     ensures turned { IsTrue result → rows.new ≡ map (turned_short setting.now turned.now column range) rows.old }
     ensures short { IsTrue result → All (IsShortRow setting.now) rows.new }
+    ensures given { AreSmallTurned setting.now turned.now column range rows.old → IsTrue result }
 {
     for row in rows.iter_mut() {
         if !row.turn(setting, turned, column, range) {
@@ -47,6 +48,7 @@ pub(crate) fn free_all(
     requires column { column < setting.now.columns.count }
     ensures freed { IsTrue result → rows.new ≡ map (freed_short setting.now turned.now column other.now) rows.old }
     ensures short { IsTrue result → All (IsShortRow setting.now) rows.new }
+    ensures given { AreSmallFreed setting.now turned.now column other.now rows.old → IsTrue result }
 {
     for row in rows.iter_mut() {
         if !row.free(setting, turned, column, other) {
@@ -70,8 +72,9 @@ pub(crate) fn pivot(
     requires short { All (IsShortRow setting.now) rows.old }
     requires turned { length turned.now ≡ setting.now.columns.count }
     requires column { column < setting.now.columns.count }
-    ensures pivoted { IsTrue result → rows.new ≡ slice_set (map (freed_short setting.now turned.now column (row_in rows.old at).numbers) rows.old) at (record { numbers = (row_in rows.old at).numbers; basic = column }) }
+    ensures pivoted { IsTrue result → rows.new ≡ pivoted_short setting.now turned.now column at rows.old }
     ensures short { IsTrue result → All (IsShortRow setting.now) rows.new }
+    ensures given { AreSmallPivoted setting.now turned.now column at rows.old → IsTrue result }
 {
     let (before, rest) = rows.split_at_mut(at);
     let (own, after) = rest.split_at_mut(1);

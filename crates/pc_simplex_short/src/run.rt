@@ -1,8 +1,9 @@
-ghost use Rattle.std.specs.Prelude.{◌≡◌, ◌<◌, length, IsTrue, IfOk, IfSome};
+ghost use Rattle.std.specs.Prelude.{◌≡◌, ◌<◌, length, IsTrue, IfOk, IfSome, IsSome};
 ghost use Rattle.pc_simplex_tableau.specs.Tableau.{deciding, after_step, does_step_fit, run};
 ghost use Rattle.pc_simplex_short.specs.Short.{spelled};
 ghost use Rattle.pc_simplex_short.specs.Kept.{IsSetting, IsShort};
 ghost use Rattle.pc_simplex_short.specs.Runs.{run_of, IsShortEnd};
+ghost use Rattle.pc_simplex_short.specs.Stays.{IsShortAt, StaysShort};
 
 use crate::change::change;
 use crate::choice::{deciding, entering};
@@ -31,6 +32,7 @@ pub fn take_steps(
     requires short { IsShort setting.now start }
     ensures value { IfOk result (λ o. IfSome o (λ r. run_of setting.now r ≡ run setting.now.columns most taken (spelled setting.now start))) }
     ensures short { IfOk result (λ o. IfSome o (IsShortEnd setting.now)) }
+    ensures given { StaysShort setting.now most start → IfOk result (λ o. IsSome o) }
 {
     let mut tableau = start;
     let mut left = most;
@@ -62,6 +64,7 @@ fn step(tableau: &mut ShortTableau, setting: &ShortSetting, enters: usize) -> Op
     ensures taken { IfSome result (λ leaves. spelled setting.now tableau.new ≡ after_step setting.now.columns enters leaves (deciding setting.now.columns enters (spelled setting.now tableau.old)).way (spelled setting.now tableau.old)) }
     ensures leaves { IfSome result (λ leaves. leaves < setting.now.columns.count) }
     ensures short { IfSome result (λ _. IsShort setting.now tableau.new) }
+    ensures given { IsShortAt setting.now enters (spelled setting.now tableau.old) → IsSome result }
 {
     let limit = deciding(tableau, setting, enters);
     let leaves = limit.column;

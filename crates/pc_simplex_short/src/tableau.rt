@@ -2,6 +2,7 @@ ghost use Rattle.std.specs.Prelude.{◌≡◌, ◌<◌, length, IsTrue};
 ghost use Rattle.pc_simplex_tableau.specs.Tableau.{turned, pivoted, freed_aim, does_freed_aim_fit, row_at};
 ghost use Rattle.pc_simplex_short.specs.Short.{spelled};
 ghost use Rattle.pc_simplex_short.specs.Kept.{IsSetting, IsShort};
+ghost use Rattle.pc_simplex_short.specs.Stays.{HasShortTurn, HasShortFreeing, HasShortPivot};
 
 use crate::row::ShortRow;
 use crate::setting::ShortSetting;
@@ -34,6 +35,7 @@ impl ShortTableau {
         requires column { column < setting.now.columns.count }
         ensures turned { IsTrue result → spelled setting.now self.new ≡ turned setting.now.columns column range (spelled setting.now self.old) }
         ensures short { IsTrue result → IsShort setting.now self.new }
+        ensures given { HasShortTurn setting.now column range self.old → IsTrue result }
     {
         if !rows::turn_all(
             self.rows.as_mut_slice(),
@@ -58,6 +60,7 @@ impl ShortTableau {
         ensures fits { IsTrue (does_freed_aim_fit column (row_at (spelled setting.now self.old) at).numbers (spelled setting.now self.old)) }
         ensures freed { IsTrue result → spelled setting.now self.new ≡ freed_aim column (row_at (spelled setting.now self.old) at).numbers (spelled setting.now self.old) }
         ensures short { IsTrue result → IsShort setting.now self.new }
+        ensures given { HasShortFreeing setting.now column at self.old → IsTrue result }
     {
         let row = &self.rows[at];
         aim::free(
@@ -79,6 +82,7 @@ impl ShortTableau {
         requires at { at < length self.old.rows }
         ensures pivoted { IsTrue result → spelled setting.now self.new ≡ pivoted column at (spelled setting.now self.old) }
         ensures short { IsTrue result → IsShort setting.now self.new }
+        ensures given { HasShortPivot setting.now column at self.old → IsTrue result }
     {
         let row = &self.rows[at];
         if !aim::free(

@@ -2,4 +2,3 @@ pub mod FrontierSamples
 pub mod ShortSamples
 pub mod ShownWalks
 pub mod Starting
-pub mod WholeBox

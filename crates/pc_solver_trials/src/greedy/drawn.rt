@@ -56,7 +56,7 @@ fn drawn(draws: &mut Draws) -> Small {
 }
 
 /// The bound that multipliers prove over the program's own box, if they are multipliers of it.
-#[tactic(auto, using(crate::proofs::WholeBox::IsBox_whole))]
+#[tactic(auto, using(pc_program_bound::proofs::WalkParts::whole_box))]
 fn bound_of(p: &Program, mult: &Mult) -> Option<i128>
     requires { IsProgram p.now }
 {

@@ -3,6 +3,7 @@ use Rattle.std.specs.Int.{w128}
 use Rattle.std.specs.Prelude.{All}
 use Rattle.std.proofs.lemmas.Int.{ints}
 use Rattle.std.proofs.lemmas.List.Elements.{All-weaker}
+use Rattle.pc_num.specs.Scaled.{greatest_size}
 use Rattle.pc_avg.proofs.ChosenFractions.{small_keys, is_fractional}
 use Rattle.pc_avg.proofs.fractions.fraction_of.Goals as goal
 
@@ -10,7 +11,7 @@ pub gained_program-requires-clause-small_gains : goal.gained_program-requires-cl
 gained_program-requires-clause-small_gains c =
     let small = small_keys c.args.problem.now.schema.now c.args.problem.now.constraints.now c.args.problem.now.query.now c.args.problem.now.cells.now.tree.nodes c.requires.posed.formed c.requires.posed.limited c.requires.posed.found.tree c.args.extreme c.args.picks.now c.requires.picked in
     subst (All (λ n. nat_abs n ≤ 402 * 10 ^ 21)) (sym c.requires.keyed)
-    (All-weaker (λ n. nat_abs n ≤ 10 ^ 15) (λ n. nat_abs n ≤ 402 * 10 ^ 21) (λ n less. omega (arith, less)) _ small)
+    (All-weaker (λ n. nat_abs n ≤ greatest_size) (λ n. nat_abs n ≤ 402 * 10 ^ 21) (λ n less. omega (arith, less)) _ small)
 
 pub returns-clause-fractional : goal.returns-clause-fractional
 returns-clause-fractional c =

@@ -7,4 +7,5 @@ returns c =
     record {
       found = are_cells_for c.args.schema.now c.args.constraints.now c.args.chosen.now c.in_ok-nodes.field-0.nodes c.requires.asked.well_formed grown.settled
           c.in_ok-nodes.field-0.leaves grown.leaves c.in_ok-cells.cells c.in_ok-cells.ensures grown.few;
+      needed = grown.needed;
     }

@@ -1,6 +1,6 @@
 use Rattle.std.proofs.Common.{refl}
 use Rattle.pc_cells_tree.specs.Walking.{nothing}
-use Rattle.pc_cells_tree.proofs.Grown.{settled_tree, all_leaves, whole_comparable}
+use Rattle.pc_cells_tree.proofs.Grown.{settled_tree, all_leaves, needed_cuts, whole_comparable}
 use Rattle.pc_cells_tree.proofs.grow.grown_tree.Goals as goal
 
 pub grown_over-requires-clause-comparable : goal.grown_over-requires-clause-comparable
@@ -9,8 +9,13 @@ grown_over-requires-clause-comparable c =
 
 pub returns-clause-settled : goal.returns-clause-settled
 returns-clause-settled c =
-    settled_tree c.args.schema.now c.args.constraints.now c.args.chosen.now c.in_ok-whole.whole nothing c.in_ok-growth.growth c.in_ok-whole.ensures refl refl c.in_ok-growth.ensures
+    settled_tree c.args.schema.now c.args.constraints.now c.args.chosen.now c.in_ok-whole.whole nothing c.in_ok-growth.growth c.in_ok-whole.ensures refl refl c.in_ok-growth.ensures.grown
 
 pub returns-clause-leaves : goal.returns-clause-leaves
 returns-clause-leaves c =
-    all_leaves c.args.schema.now c.args.constraints.now c.args.chosen.now c.in_ok-whole.whole nothing c.in_ok-growth.growth c.in_ok-whole.ensures refl refl c.in_ok-growth.ensures
+    all_leaves c.args.schema.now c.args.constraints.now c.args.chosen.now c.in_ok-whole.whole nothing c.in_ok-growth.growth c.in_ok-whole.ensures refl refl c.in_ok-growth.ensures.grown
+
+pub returns-clause-needed : goal.returns-clause-needed
+returns-clause-needed c =
+    needed_cuts c.args.schema.now c.args.constraints.now c.args.chosen.now c.in_ok-whole.whole nothing c.in_ok-growth.growth c.in_ok-whole.ensures refl refl c.in_ok-growth.ensures.grown
+    c.in_ok-growth.ensures.needed

@@ -19,4 +19,4 @@ pub returns-in-Divided : goal.returns-in-Divided
 returns-in-Divided c =
     let says = subst (IsDecision c.args.constraints.now c.args.chosen.now c.args.part) c.in-Divided.is c.decide.ensures in
     IfOk-weaker c.opened.result _ _
-    (opened-job c.args.constraints.now c.args.chosen.now c.args.part c.args.known c.in-Divided.known c.in-Divided.at c.requires.comparable says.0.divides says.1 c.args.work) c.opened.ensures
+    (opened-job c.args.constraints.now c.args.chosen.now c.args.part c.args.known c.in-Divided.known c.in-Divided.at c.requires.comparable says.0 says.1 c.args.work) c.opened.ensures

@@ -10,7 +10,7 @@ pub overflow_add-result : goal.overflow_add-result
 overflow_add-result c =
     let one : to_z w128 (of_z w128 c.args.first.share) ≡ c.args.first.share = omega (arith, ints) in
     let other : to_z w128 (of_z w128 c.in-Some.share) ≡ c.in-Some.share = omega (arith, ints) in
-    rw (one, other) (all_fit c.args.p.now c.args.mult.now c.args.first c.in-Some.share c.requires.program c.requires.sized c.in-Some.ensures.short c.requires.first c.in-Some.ensures.small)
+    rw (one, other) (all_fit c.args.p.now c.args.mult.now c.args.first c.in-Some.share c.requires.program c.requires.sized c.in-Some.ensures.value.0 c.requires.first c.in-Some.ensures.small)
 
 pub returns-in-Some : goal.returns-in-Some
 returns-in-Some c =
@@ -19,8 +19,8 @@ returns-in-Some c =
     let first = c.args.first in
     let one : to_z w128 (of_z w128 first.share) ≡ first.share = omega (arith, ints) in
     let other : to_z w128 (of_z w128 c.in-Some.share) ≡ c.in-Some.share = omega (arith, ints) in
-    let fits = all_fit p mult first c.in-Some.share c.requires.program c.requires.sized c.in-Some.ensures.short c.requires.first c.in-Some.ensures.small in
+    let fits = all_fit p mult first c.in-Some.share c.requires.program c.requires.sized c.in-Some.ensures.value.0 c.requires.first c.in-Some.ensures.small in
     let sum = to_z-of_z w128 (first.share +ℤ c.in-Some.share) fits in (
-      short_cells_fit p mult first.size c.requires.program c.requires.sized c.in-Some.ensures.short (ap (λ (r : Running). r.size) c.requires.first),
-      rw (one, other, sum) (ap (λ x. first.share +ℤ x) c.in-Some.ensures.value),
+      short_cells_fit p mult first.size c.requires.program c.requires.sized c.in-Some.ensures.value.0 (ap (λ (r : Running). r.size) c.requires.first),
+      rw (one, other, sum) (ap (λ x. first.share +ℤ x) c.in-Some.ensures.value.1),
     )

@@ -44,7 +44,20 @@ loop-cell-preserved c =
     let gain_is = ap (λ xs. get_or xs cell (pos 0)) c.as_slice-gains.ensures in
     let given_same : to_z w64 (of_z w64 c.given.result) ≡ c.given.result = omega (arith, ints) in
     let given_is = c.given.ensures.value ∙ all_taken mult.by _ c.args.tables.now c.requires.tables (omega (arith, c.requires.sized, c.requires.program.few)) in
-    let left = rw (den_read, den, gain_same, given_same) at c.in_ok-rest.ensures.value in
-    let scaled = rw (den_read, den, gain_same, gain_is) at c.in_ok-rest.ensures.scaled in
+    let left = rw (den_read, den, gain_same, given_same) at c.in_ok-rest.ensures.value.1 in
+    let short = rw (den_read, den, gain_same, gain_is) at c.in_ok-rest.ensures.value.0 in
     let left_is = left ∙ rest_same p mult cell gain c.given.result _ gain_is (ap (λ xs. get_or xs cell 0) c.as_slice-mask-items.ensures) given_is c.requires.sized in
-    rw (same, all_same) (one_summed p c.args.floor.now c.args.cap.now mult cell (to_z w128 c.loop-cell.share-bits) c.in_ok-rest.rest c.at_best-share.result c.loop-cell.invariant left_is scaled best c.at_best-share.ensures.small)
+    rw (same, all_same) (one_summed p c.args.floor.now c.args.cap.now mult cell (to_z w128 c.loop-cell.share-bits) c.in_ok-rest.rest c.at_best-share.result c.loop-cell.invariant left_is short best c.at_best-share.ensures.small)
+
+pub returns-in_err-rest-clause-value : goal.returns-in_err-rest-clause-value
+returns-in_err-rest-clause-value c =
+    let mult = c.args.mult.now in
+    let cell = c.loop-cell.cell in
+    let below = rw c.as_slice-mask-items.ensures at c.loop-cell-test.true in
+    let den_read : to_z w128 (of_z w128 mult.den) ≡ mult.den = omega (arith, ints) in
+    let den = kept mult.den (omega (arith, c.requires.den)) in
+    let gain = get_or c.as_slice-gains.result.now cell (pos 0) in
+    let gain_same : to_z w128 (of_z w128 gain) ≡ gain = omega (arith, ints) in
+    let gain_is = ap (λ xs. get_or xs cell (pos 0)) c.as_slice-gains.ensures in
+    let wide = rw (den_read, den, gain_same, gain_is) at c.in_err-rest.ensures.value in
+    rw c.from_residual.ensures (λ short. wide (short.gains cell below))

@@ -1,4 +1,4 @@
-use Rattle.std.proofs.Common.{◌≡◌, ◌<◌, ◌∙◌, ap, length, get_or, pos, neg_ℤ, arith}
+use Rattle.std.proofs.Common.{◌<◌, ◌∙◌, ap, length, get_or, pos, neg_ℤ, arith}
 use Rattle.pc_simplex_short.specs.Kept.{IsWithin}
 use Rattle.pc_simplex_short.proofs.Made.{made_more}
 use Rattle.pc_simplex_short.proofs.Words.{FitsWord, passed_word}

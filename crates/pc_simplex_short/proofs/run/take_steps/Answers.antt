@@ -1,6 +1,7 @@
 use Rattle.std.proofs.Common.{◌∙◌, sym}
 use Rattle.pc_simplex_tableau.proofs.Running.{run_ends, run_stalls}
 use Rattle.pc_simplex_short.specs.Short.{spelled}
+use Rattle.pc_simplex_short.proofs.Given.{stays_here}
 use Rattle.pc_simplex_short.proofs.Running.{run_further}
 use Rattle.pc_simplex_short.proofs.run.take_steps.Goals as goal
 
@@ -23,3 +24,8 @@ returns-clause-value c =
     let l = c.loop-enters in
     let f = c.args.setting.now in
     sym (run_ends f.columns l.steps (spelled f l.tableau) l.left c.in_default.ensures.value) ∙ l.invariant.same
+
+pub returns-in-None-clause-given : goal.returns-in-None-clause-given
+returns-in-None-clause-given c all =
+    let l = c.loop-enters in
+    c.in-None.ensures.given (stays_here c.args.setting.now l.left c.in-Some.enters l.tableau c.if-left-eq0.false c.in-Some.ensures.value (l.invariant.stays all))

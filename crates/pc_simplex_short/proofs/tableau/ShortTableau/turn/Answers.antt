@@ -3,6 +3,7 @@ use Rattle.std.proofs.lemmas.List.{with_items_is}
 use Rattle.pc_simplex_tableau.specs.Tableau.{TableauRow, Tableau}
 use Rattle.pc_simplex_short.specs.Short.{spelled}
 use Rattle.pc_simplex_short.proofs.Flips.{turned_from}
+use Rattle.pc_simplex_short.proofs.Given.{turn_given}
 use Rattle.pc_simplex_short.proofs.tableau.ShortTableau.turn.Goals as goal
 
 pub returns-clause-turned : goal.returns-clause-turned
@@ -23,3 +24,11 @@ returns-clause-turned c true_result =
       flag_is = c.index.ensures;
     })
     c.requires.setting c.requires.column c.requires.short
+
+pub returns-then-not-turn_all-clause-given : goal.returns-then-not-turn_all-clause-given
+returns-then-not-turn_all-clause-given c held =
+    let f = c.args.setting.now in
+    let s = c.self.inside in
+    let t : Tableau = record { rows = s.rows.items; turned = s.turned.items; aim = s.aim.items; weight = s.weight } in
+    c.if-not-turn_all.ensures.given (turn_given f t c.args.self.now c.args.column c.args.range c.as_mut_slice.result.now c.as_slice.result.now c.self.view_is
+    c.as_mut_slice.ensures.value c.as_slice.ensures.value c.requires.setting c.requires.column c.requires.short held)
