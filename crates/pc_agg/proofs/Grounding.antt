@@ -1,6 +1,6 @@
 -- What searches of the chosen rows say of the relation and of the lack.
-use Rattle.std.proofs.Common.{◌≡◌, ℕ, ◌<◌, ◌≤◌, ℤ, Bool, true, false, List, length, map, All, Any, refl, sym, ap, subst, ◌∙◌, arith}
-use Rattle.std.proofs.lemmas.List.{length-append, length-map, get_or-map}
+use Rattle.std.proofs.Common.{◌≡◌, ℕ, ◌<◌, ◌≤◌, ℤ, Bool, true, false, List, ◌++◌, length, map, All, Any, refl, sym, ap, subst, ◌∙◌, arith}
+use Rattle.std.proofs.lemmas.List.{append_assoc, length-append, length-map, get_or-map}
 use Rattle.std.proofs.lemmas.List.Elements.{All-append, All-map}
 use Rattle.pc_model.specs.declared.tree.Tree.{Tree}
 use Rattle.pc_model.specs.Cells.{Class}
@@ -15,6 +15,8 @@ use Rattle.pc_proof.specs.Setting.{Setting, cells, on_chosen, program_for}
 use Rattle.pc_proof.specs.Table.{one, minus_one}
 use Rattle.pc_proof.specs.Unbroken.{IsDecided}
 use Rattle.pc_branch_licences.specs.Pools.{AreLawful}
+use Rattle.pc_agg.specs.declared.grounds.Grounded.{Grounded}
+use Rattle.pc_agg.specs.declared.grounds.Grounded.TheVariants as grounded
 use Rattle.pc_agg.specs.declared.grounds.Lacking.{Lacking}
 use Rattle.pc_agg.specs.declared.grounds.Lacking.TheVariants as lackings
 use Rattle.pc_agg_search.specs.declared.probes.Probed.{Probed}
@@ -24,7 +26,7 @@ use Rattle.pc_agg_search.specs.declared.want.Want.TheVariants as wants
 use Rattle.pc_agg_search.specs.Fitting.{IsVoidTree}
 use Rattle.pc_agg_search.specs.Flat.{flat_tree}
 use Rattle.pc_agg_search.specs.Wants.{want_for, most_chosen, fewest_chosen}
-use Rattle.pc_agg.specs.Grounds.{HasValues, AreGrounds, AreAlways, AreGroundsSurely, IsLacking, IsLackingSurely, IsUnlistedIfNone}
+use Rattle.pc_agg.specs.Grounds.{HasValues, AreGrounds, AreAlways, AreGroundsSurely, IsKept, IsLacking, IsLackingSurely, IsUnlistedIfNone}
 use Rattle.pc_agg_search.specs.declared.problem.Problem.{Problem}
 use Rattle.pc_agg_search.specs.Problem.{IsPosed, setting_of}
 use Rattle.pc_agg.specs.Settling.{IsRelation, IsUnlisted}
@@ -70,6 +72,12 @@ module _ (u : Setting) (gain : Class → ℤ) (want : Want) (budget : ℕ) (foun
 
   pub probed_sure : probed.verdict ≡ verdicts.Open → IsSure (program_for u gain) want probed → Any (IsFound (program_for u gain) want) probed.found
   probed_sure same sure = subst (λ v. IsSure (program_for u gain) want (record { verdict = v; found = probed.found })) same sure
+
+-- what was found before that is kept too
+pub kept_on : (before found more : List (List ℕ)) → found ≡ before ++ more → (ground : Grounded) → IsKept found ground → IsKept before ground
+kept_on before found more grown (grounded.Impossible why) kept = tt
+kept_on before found more grown (grounded.Always tree all) kept = (more ++ kept.0, kept.1 ∙ ap (λ list. list ++ kept.0) grown ∙ append_assoc before more kept.0)
+kept_on before found more grown (grounded.Open left) kept = (more ++ kept.0, kept.1 ∙ ap (λ list. list ++ kept.0) grown ∙ append_assoc before more kept.0)
 
 -- ---- the search for lists without a chosen row
 

@@ -22,10 +22,12 @@ pub mod Questions
 pub mod RungPrograms
 pub mod SeenNumbers
 pub mod SettledGrounds
+pub mod ShownRows
 pub mod StandEnds
 pub mod StandLicences
 pub mod StandMarks
 pub mod StandPrograms
 pub mod StandShown
 pub mod Standing
+pub mod Testing
 pub mod Totals

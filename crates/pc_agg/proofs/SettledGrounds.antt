@@ -1,5 +1,5 @@
 -- What is settled over the grounds of an aggregate that can lack a value owes what it must.
-use Rattle.std.proofs.Common.{◌≡◌, ℕ, ◌<◌, pos, Bool, false, List, length, All, Contains, refl, sym, ap, ap₂, subst, ◌∙◌, Result, Ok, Err, true≢false, Any, nat_lt, ltb-true, ltb-false, arith}
+use Rattle.std.proofs.Common.{◌≡◌, ℕ, ◌<◌, pos, Bool, false, List, length, All, Contains, None, refl, sym, ap, ap₂, subst, ◌∙◌, Result, Ok, Err, true≢false, Any, nat_lt, ltb-true, ltb-false, arith}
 use Rattle.std.specs.Prelude.{◌||◌, IfOk}
 use Rattle.std.proofs.lemmas.Int.{ints}
 use Rattle.std.proofs.lemmas.List.Elements.{All-nil}
@@ -32,6 +32,7 @@ use Rattle.pc_agg.specs.declared.grounds.Grounds.{Grounds}
 use Rattle.pc_agg.specs.declared.grounds.Grounded.{Grounded}
 use Rattle.pc_agg.specs.declared.grounds.Grounded.TheVariants as grounded
 use Rattle.pc_agg.specs.declared.settling.Settled.{Settled}
+use Rattle.pc_agg_search.specs.declared.extreme.Extreme.TheVariants.{Low}
 use Rattle.pc_agg_search.specs.Asked.{Asking, setting_for}
 use Rattle.pc_agg_search.specs.Fitting.{IsFitLack}
 use Rattle.pc_agg.specs.Extremes.{relation_from, HasLawful, IsLackFrom, IsSettledOver, IsSettledFrom}
@@ -39,6 +40,7 @@ use Rattle.pc_agg.specs.Grounds.{IsGrounded, IsGroundedSurely, IsUnlistedIfNone}
 use Rattle.pc_agg.specs.Owed.{OwesSettled, CanGive, IsGiving, MayGiveOne, LeavesLack}
 use Rattle.pc_agg_search.specs.Settings.{unseen}
 use Rattle.pc_agg.specs.Settling.{AreRowsOfCells}
+use Rattle.pc_agg.specs.ShownRows.{IsShownRow}
 use Rattle.pc_agg.proofs.Giving.{is_undecided, settled_lack, can_give, may_give, surely_giving, lack_left}
 use Rattle.pc_agg.proofs.Lacks.{relation_is, relation_may, relation_decided, IsObserving, lack_done, lack_settled}
 use Rattle.pc_agg.proofs.Owing.{settled_with, settled_impossible}
@@ -59,17 +61,17 @@ pub sized_found : (u : Setting) (picks : List Row) (found : List (List ℕ)) →
 sized_found u picks found rows lawful place d inside = sized_rows u picks _ rows (lawful place d inside)
 
 -- what is settled, over a row of each cell
-pub settled_always : (u : Setting) (ground : Grounded) (tree : Tree) (picks passed : List Row) (found also : List (List ℕ)) (relation : Relation) → ground ≡ grounded.Always tree found → AreRowsOfCells u picks →
+pub settled_always : (u : Setting) (ground : Grounded) (tree : Tree) (picks passed : List Row) (found also : List (List ℕ)) (relation : Relation) → ground ≡ grounded.Always tree found → AreRowsOfCells u picks → All (IsShownRow u None Low) picks →
     passed ≡ picks → also ≡ found → relation ≡ relation_from passed also → IsSettledFrom u ground (record { relation = relation; lack = lacks.Always (alwayses.Tree tree); found = found })
-settled_always u ground tree picks passed found also relation same rows picked listed is =
+settled_always u ground tree picks passed found also relation same rows shown picked listed is =
     subst (λ g. IsSettledFrom u g (record { relation = relation; lack = lacks.Always (alwayses.Tree tree); found = found })) (sym same)
-    (record { picks = picks; rows = rows; relation_is = is ∙ ap₂ relation_from picked listed; found_is = refl }, refl)
+    (record { picks = picks; rows = rows; shown = shown; relation_is = is ∙ ap₂ relation_from picked listed; found_is = refl }, refl)
 
-pub settled_open : (u : Setting) (ground : Grounded) (grounds : Grounds) (picks passed : List Row) (settled : Settled) → ground ≡ grounded.Open grounds → AreRowsOfCells u picks → passed ≡ picks →
+pub settled_open : (u : Setting) (ground : Grounded) (grounds : Grounds) (picks passed : List Row) (settled : Settled) → ground ≡ grounded.Open grounds → AreRowsOfCells u picks → All (IsShownRow u None Low) picks → passed ≡ picks →
     settled.relation ≡ relation_from passed grounds.found → IsLackFrom u passed grounds.found grounds.lacking settled.lack → settled.found ≡ grounds.found → IsSettledFrom u ground settled
-settled_open u ground grounds picks passed settled same rows picked is from listed =
+settled_open u ground grounds picks passed settled same rows shown picked is from listed =
     subst (λ g. IsSettledFrom u g settled) (sym same) (
-      record { picks = picks; rows = rows; relation_is = is ∙ ap (λ p. relation_from p grounds.found) picked; found_is = listed },
+      record { picks = picks; rows = rows; shown = shown; relation_is = is ∙ ap (λ p. relation_from p grounds.found) picked; found_is = listed },
       subst (λ p. IsLackFrom u p grounds.found grounds.lacking settled.lack) picked from,
     )
 

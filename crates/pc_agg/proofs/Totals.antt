@@ -26,6 +26,7 @@ use Rattle.pc_agg.specs.declared.settling.Total.{Total}
 use Rattle.pc_agg.specs.declared.settling.Total.TheVariants as totals
 use Rattle.pc_agg_search.specs.Limits.{IsLimit, IsReached, IsCutShort, IsEmpty}
 use Rattle.pc_agg.specs.Settling.{AreRowsOfCells, AreOpenTotals, IsLimitOfGain, IsSettled, IsLeftOpen, IsTotal, IsTotalOf, left_open, settled_after}
+use Rattle.pc_agg.specs.ShownRows.{AreShownLow}
 use Rattle.pc_agg_search.proofs.Empty.{void_tree}
 use Rattle.pc_agg_search.proofs.Shorts.{fit_limit}
 use Rattle.pc_agg.proofs.Ending.{within_limit}
@@ -44,9 +45,9 @@ module _ (u : Setting) where
   sized_rows picks counts rows lawful =
       AllZip-long (IsRowOf u.question.schema u.question.constraints u.question.query.chosen) (cells u) picks rows ∙ sym (lawful.sized ∙ length-map (cells u) (λ (class : Class). class.mask))
 
-  pub settled_listed : (budget : ℕ) (picks : List Row) (found : List (List ℕ)) (settled : Settled) → AreRowsOfCells u picks → 0 < length found → All (AreLawful u) found →
+  pub settled_listed : (budget : ℕ) (picks : List Row) (found : List (List ℕ)) (settled : Settled) → AreRowsOfCells u picks → AreShownLow u (runs_from picks (slice_index_or found 0 [])) → 0 < length found → All (AreLawful u) found →
       settled ≡ record { relation = relations.Possible (runs_from picks (slice_index_or found 0 [])); lack = lacks.Silent; found = found } → IsSettled u budget settled
-  settled_listed budget picks found settled rows some lawful is =
+  settled_listed budget picks found settled rows shown some lawful is =
       subst (IsSettled u budget) (sym is) (record {
         relation = record {
           picks = picks;
@@ -57,19 +58,20 @@ module _ (u : Setting) where
         };
         lack = refl;
         lawful = lawful;
+        shown = shown;
       })
 
-  pub settled_only : (budget : ℕ) (picks : List Row) (counts : List ℕ) (found : List (List ℕ)) (settled : Settled) → AreRowsOfCells u picks → AreLawful u counts → found ≡ counts ∷ [] →
+  pub settled_only : (budget : ℕ) (picks : List Row) (counts : List ℕ) (found : List (List ℕ)) (settled : Settled) → AreRowsOfCells u picks → AreShownLow u (runs_from picks (slice_index_or found 0 [])) → AreLawful u counts → found ≡ counts ∷ [] →
       settled ≡ record { relation = relations.Possible (runs_from picks (slice_index_or found 0 [])); lack = lacks.Silent; found = found } → IsSettled u budget settled
-  settled_only budget picks counts found settled rows lawful only is =
-      settled_listed budget picks found settled rows (omega (arith, ap length only)) (subst (All (AreLawful u)) (sym only) (All-cons (AreLawful u) counts [] lawful (All-nil (AreLawful u)))) is
+  settled_only budget picks counts found settled rows shown lawful only is =
+      settled_listed budget picks found settled rows shown (omega (arith, ap length only)) (subst (All (AreLawful u)) (sym only) (All-cons (AreLawful u) counts [] lawful (All-nil (AreLawful u)))) is
 
   -- ---- nothing
 
   pub settled_void : (budget : ℕ) (gains : List ℤ) (tree : Tree) (settled : Settled) → IsEmpty (program_with u.question.constraints (cells u) gains) budget tree →
       settled ≡ record { relation = relations.Impossible (whys.Void tree); lack = lacks.Silent; found = [] } → IsSettled u budget settled
   settled_void budget gains tree settled empty is =
-      subst (IsSettled u budget) (sym is) (record { relation = let void = void_tree u gains budget tree empty in (void.shows, void.fits); lack = refl; lawful = All-nil (AreLawful u) })
+      subst (IsSettled u budget) (sym is) (record { relation = let void = void_tree u gains budget tree empty in (void.shows, void.fits); lack = refl; lawful = All-nil (AreLawful u); shown = tt })
 
   -- ---- totals
 
@@ -115,11 +117,13 @@ module _ (u : Setting) where
         );
         lack = refl;
         lawful = All-nil (AreLawful u);
+        shown = tt;
       }
       by_test false e = record {
         relation = record { none = refl; most = most.most; fewest = fewest.most; by_most = is_most.left; by_fewest = is_fewest.left; meet = λ less. absurd (omega (arith, ints, e, less)) };
         lack = refl;
         lawful = All-nil (AreLawful u);
+        shown = tt;
       }
 
   pub settled_by_fewest : (budget : ℕ) (most : Limit) (fewest : Total) → IsLeftOpen (program_for u one) budget most → IsTotal u budget (program_for u minus_one) fewest → IsSettled u budget (settled_after most fewest)
@@ -155,4 +159,5 @@ module _ (u : Setting) where
         };
         lack = refl;
         lawful = All-nil (AreLawful u);
+        shown = tt;
       })

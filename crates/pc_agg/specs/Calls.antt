@@ -14,6 +14,7 @@ use Rattle.pc_agg_search.specs.Posing.{AskingOf, answered_setting}
 use Rattle.pc_agg_search.specs.Settings.{unseen}
 use Rattle.pc_agg.specs.declared.settling.Settled.{Settled}
 use Rattle.pc_agg.specs.Owed.{Owes, OwesSettled}
+use Rattle.pc_agg.specs.ShownRows.{RelationShown, LackShown, HasShownRows}
 
 -- to each question that the call is an answer to
 abbrev pub OwesCall : Schema → Folded → List Constraint → Cells → Query → ℕ → Result Answer Memory → Type 0
@@ -24,6 +25,15 @@ abbrev pub OwesSettling : Schema → Folded → List Constraint → Cells → Qu
 OwesSettling schema seen constraints cells query budget settled =
     (asking : Asking schema constraints query seen) →
     OwesSettled (setting_for schema constraints query seen cells.tree.nodes asking) budget settled.relation settled.lack settled.found
+
+-- the rows of the runs of an answer, and of what is settled
+abbrev pub ShowsRows : Schema → List Constraint → Cells → Query → Answer → Type 0
+ShowsRows schema constraints cells query answer = HasShownRows (unseen schema constraints query cells.tree.nodes) answer
+
+abbrev pub SettlesRows : Schema → List Constraint → Cells → Query → Settled → Type 0
+SettlesRows schema constraints cells query settled =
+    RelationShown (unseen schema constraints query cells.tree.nodes) settled.relation
+    × LackShown (unseen schema constraints query cells.tree.nodes) settled.lack
 
 -- what was found is counts of some lost rows
 abbrev pub AreFound : Schema → List Constraint → Cells → Query → List (List ℕ) → Type 0

@@ -39,6 +39,7 @@ use Rattle.pc_agg_search.specs.Ends.{signed}
 use Rattle.pc_agg_search.specs.Fitting.{IsVoidTree}
 use Rattle.pc_agg_search.specs.Wants.{fewest_chosen, most_chosen}
 use Rattle.pc_agg.specs.Settling.{AreRowsOfCells}
+use Rattle.pc_agg.specs.ShownRows.{IsShownRow}
 use Rattle.pc_agg.specs.Stands.{IsStand, IsEndAt}
 use Rattle.pc_agg_search.specs.Wants.{IsFound, IsMet}
 
@@ -154,6 +155,7 @@ HasLawful s (grounded.Open grounds) = All (AreLawful s) grounds.found
 pub record IsSettledOver (s : Setting) (found : List (List ℕ)) (settled : Settled) : Type 0 where
   pub picks : List Row
   pub rows : AreRowsOfCells s picks
+  pub shown : All (IsShownRow s None Low) picks
   pub relation_is : settled.relation ≡ relation_from picks found
   pub found_is : settled.found ≡ found
 

@@ -1,5 +1,5 @@
 -- What the programs of all rows and of the chosen ones say of the relation and of the lack.
-use Rattle.std.specs.Prelude.{◌≡◌, ⊤, ℕ, ◌<◌, pos, neg_ℤ, ◌≤ℤ◌, Bool, true, false, List, [], length, All, Any}
+use Rattle.std.specs.Prelude.{◌≡◌, ⊤, ℕ, ◌<◌, pos, neg_ℤ, ◌≤ℤ◌, Bool, true, false, List, [], ◌++◌, length, All, Any}
 use Rattle.pc_model.specs.declared.tree.Tree.{Tree}
 use Rattle.pc_model.specs.Cells.{Class}
 use Rattle.pc_proof.specs.declared.answer.NeverBy.TheVariants as nevers
@@ -50,6 +50,12 @@ abbrev pub IsGrounded : Setting → Bool → ℕ → Grounded → Type 0
 IsGrounded s observed budget (grounds.Impossible why) = ShowsImpossible s why × IsOfCells why
 IsGrounded s observed budget (grounds.Always tree found) = AreAlways s observed budget tree found
 IsGrounded s observed budget (grounds.Open left) = AreGrounds s observed budget left
+
+-- what was found before stands first in what was found
+abbrev pub IsKept : List (List ℕ) → Grounded → Type 0
+IsKept before (grounds.Impossible why) = ⊤
+IsKept before (grounds.Always tree found) = (more : List (List ℕ)) × (found ≡ before ++ more)
+IsKept before (grounds.Open left) = (more : List (List ℕ)) × (left.found ≡ before ++ more)
 
 -- ---- no search was cut short
 

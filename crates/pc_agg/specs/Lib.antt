@@ -12,4 +12,5 @@ pub mod Owed
 pub mod Posed
 pub mod Rungs
 pub mod Settling
+pub mod ShownRows
 pub mod Stands

@@ -1,5 +1,5 @@
 -- What the private calls say of a setting and a budget, over a problem.
-use Rattle.std.specs.Prelude.{Bool, ℕ, ℤ, List, Any, Option, is_some}
+use Rattle.std.specs.Prelude.{Bool, ℕ, ◌≤◌, ◌^◌, ℤ, List, length, Any, Option, is_some}
 use Rattle.pc_proof.specs.Setting.{program_for}
 use Rattle.pc_agg_search.specs.declared.extreme.Extreme.{Extreme}
 use Rattle.pc_agg_search.specs.declared.problem.Problem.{Problem}
@@ -19,7 +19,7 @@ use Rattle.pc_agg.specs.declared.ladder.Ladder.{Ladder}
 use Rattle.pc_agg.specs.declared.ladder.Test.{Test}
 use Rattle.pc_agg.specs.declared.settling.Total.{Total}
 use Rattle.pc_agg.specs.declared.stand.Stood.{Stood}
-use Rattle.pc_agg.specs.Climbing.{IsHalved, IsSpan, IsSureHalf, IsSureSpan}
+use Rattle.pc_agg.specs.Climbing.{whole_span, IsHalved, IsSpan, IsSureHalf, IsSureSpan, IsTested, LeadsTo}
 use Rattle.pc_agg.specs.Extremes.{IsPair}
 use Rattle.pc_agg.specs.Grounds.{IsGrounded, IsGroundedSurely}
 use Rattle.pc_agg.specs.Marks.{AreAimed, AreAimedReached, AreAims, AreAimsReached, IsAim, IsAimed, IsAimReached}
@@ -89,3 +89,11 @@ HalvesSpan p ladder want span halved =
 
 abbrev pub HalvesSurely : Problem → Ladder → Want → Span → Halved → Type 0
 HalvesSurely p ladder want span halved = IsSureSpan (setting_of p) ladder want span → IsSureHalf (setting_of p) ladder want halved
+
+abbrev pub TestsMiddle : Problem → Ladder → Want → Span → Halved → Type 0
+TestsMiddle p ladder want span halved = IsTested (setting_of p) p.nodes ladder want span halved
+
+-- as many tests lead there as halve the rungs down to one: the logarithm of their number, rounded up
+abbrev pub IsClimbedWithin : Problem → Ladder → Want → List (List ℕ) → Climbed → Type 0
+IsClimbedWithin p ladder want found climbed =
+    (tests : ℕ) → length ladder.rungs ≤ 2 ^ tests → LeadsTo (setting_of p) p.nodes ladder want tests (whole_span ladder found) climbed

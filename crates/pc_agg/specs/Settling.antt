@@ -23,6 +23,7 @@ use Rattle.pc_agg.specs.declared.settling.Total.TheVariants as totals
 use Rattle.pc_agg_search.specs.declared.limit.Limit.{Limit}
 use Rattle.pc_agg_search.specs.Fitting.{IsFitTree}
 use Rattle.pc_agg_search.specs.Limits.{found_of, IsLimit}
+use Rattle.pc_agg.specs.ShownRows.{RelationShown}
 
 -- a row of each cell
 abbrev pub AreRowsOfCells : Setting → List Row → Type 0
@@ -60,6 +61,7 @@ pub record IsSettled (s : Setting) (budget : ℕ) (settled : Settled) : Type 0 w
   pub relation : IsRelation s budget settled.found settled.relation
   pub lack : settled.lack ≡ lacks.Silent
   pub lawful : All (AreLawful s) settled.found
+  pub shown : RelationShown s settled.relation
 
 -- a total settles the relation, or is left with its bound and tree, and nothing was found
 pub record IsLeftOpen (p : Program) (budget : ℕ) (limit : Limit) : Type 0 where

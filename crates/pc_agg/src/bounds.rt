@@ -10,7 +10,8 @@ ghost use Rattle.pc_agg_search.specs.Limits.{found_of};
 ghost use Rattle.pc_agg_search.specs.Asked.{AreAsked};
 ghost use Rattle.pc_agg_search.specs.Problem.{IsEasyFor, IsPosed, setting_of};
 ghost use Rattle.pc_agg_search.specs.Posing.{IsAsked};
-ghost use Rattle.pc_agg.specs.Calls.{OwesCall, OwesProblem};
+ghost use Rattle.pc_agg.specs.Calls.{OwesCall, OwesProblem, ShowsRows};
+ghost use Rattle.pc_agg.specs.ShownRows.{HasShownRows};
 ghost use Rattle.pc_agg.specs.Posed.{AreAimsOf, AreAimsReachedOf};
 
 use crate::aim::{Aims, BothAimed, aim_at_both};
@@ -38,6 +39,7 @@ pub fn bound_count(
     requires asked { AreAsked schema.now seen.now constraints.now cells.now query.now nodes }
     requires counts { query.now.agg ≡ aggs.Count }
     ensures owes { OwesCall schema.now seen.now constraints.now cells.now query.now nodes result }
+    ensures rows { IfOk result (ShowsRows schema.now constraints.now cells.now query.now) }
 {
     let problem = Problem {
         schema,
@@ -63,6 +65,7 @@ pub fn bound_sum(
     requires asked { AreAsked schema.now seen.now constraints.now cells.now query.now nodes }
     requires sums { query.now.agg ≡ aggs.Sum }
     ensures owes { OwesCall schema.now seen.now constraints.now cells.now query.now nodes result }
+    ensures rows { IfOk result (ShowsRows schema.now constraints.now cells.now query.now) }
 {
     let problem = Problem {
         schema,
@@ -78,6 +81,7 @@ fn bound(alloc: Global, problem: &Problem<'_>, seen: &Folded) -> Result<Answer, 
     requires asked { IsAsked problem.now seen.now }
     requires has_value { always_has_value problem.now.query.now.agg ≡ true }
     ensures owes { IfOk result (OwesProblem problem.now seen.now) }
+    ensures rows { IfOk result (HasShownRows (setting_of problem.now)) }
 {
     match aim_at_both(alloc, problem)? {
         BothAimed::At(aims) => {

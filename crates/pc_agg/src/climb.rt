@@ -3,7 +3,7 @@ ghost use Rattle.pc_branch_licences.specs.Pools.{AreLawful};
 ghost use Rattle.pc_agg.specs.Climbing.{above, narrowed};
 ghost use Rattle.pc_agg.specs.Rungs.{program_at, IsLadder};
 ghost use Rattle.pc_agg_search.specs.Problem.{IsEasyFor, IsPosed, setting_of};
-ghost use Rattle.pc_agg.specs.Posed.{HalvesSpan, HalvesSurely, IsClimbedSurelyTo, IsClimbedTo};
+ghost use Rattle.pc_agg.specs.Posed.{HalvesSpan, HalvesSurely, IsClimbedSurelyTo, IsClimbedTo, IsClimbedWithin, TestsMiddle};
 
 use crate::ladder::{Ladder, Test};
 use crate::rungs::program_at;
@@ -43,6 +43,7 @@ pub(crate) fn climb(
     requires lawful { All (AreLawful (setting_of problem.now)) found }
     ensures climbed { IfOk result (IsClimbedTo problem.now ladder.now want found) }
     ensures nested { IsEasyFor problem.now → IfOk result (IsClimbedSurelyTo problem.now ladder.now want) }
+    ensures tests { IfOk result (IsClimbedWithin problem.now ladder.now want found) }
 {
     let mut span = Span {
         from: 0,
@@ -107,6 +108,7 @@ fn halve(
     requires lawful { All (AreLawful (setting_of problem.now)) span.found }
     ensures halved { IfOk result (HalvesSpan problem.now ladder.now want span) }
     ensures nested { IsEasyFor problem.now → IfOk result (HalvesSurely problem.now ladder.now want span) }
+    ensures tested { IfOk result (TestsMiddle problem.now ladder.now want span) }
 {
     let Span {
         from,

@@ -3,7 +3,7 @@ ghost use Rattle.pc_model.specs.Right.{always_has_value};
 ghost use Rattle.pc_agg_search.specs.Asked.{AreAsked};
 ghost use Rattle.pc_agg_search.specs.Problem.{IsPosed, setting_of};
 ghost use Rattle.pc_agg.specs.Extremes.{HasLawful, IsSettledFrom};
-ghost use Rattle.pc_agg.specs.Calls.{AreFound, OwesSettling};
+ghost use Rattle.pc_agg.specs.Calls.{AreFound, OwesSettling, SettlesRows};
 
 use crate::grounds::{Grounded, ground};
 use crate::judged::{relation_from, settle_found};
@@ -29,6 +29,7 @@ pub fn settle(
     requires asked { AreAsked schema.now seen.now constraints.now cells.now query.now nodes }
     ensures lawful { IfOk result (λ settled. AreFound schema.now constraints.now cells.now query.now settled.found) }
     ensures owes { IfOk result (OwesSettling schema.now seen.now constraints.now cells.now query.now nodes) }
+    ensures rows { IfOk result (SettlesRows schema.now constraints.now cells.now query.now) }
 {
     let problem = Problem {
         schema,

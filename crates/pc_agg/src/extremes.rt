@@ -6,7 +6,8 @@ ghost use Rattle.pc_agg.specs.Extremes.{agg_of, key_at, pair_at, seen_number, te
 ghost use Rattle.pc_agg.specs.Grounds.{HasValues};
 ghost use Rattle.pc_agg_search.specs.Problem.{IsEasyFor, IsPosed, setting_of};
 ghost use Rattle.pc_agg_search.specs.Posing.{IsAsked};
-ghost use Rattle.pc_agg.specs.Calls.{OwesCall, OwesProblem};
+ghost use Rattle.pc_agg.specs.Calls.{OwesCall, OwesProblem, ShowsRows};
+ghost use Rattle.pc_agg.specs.ShownRows.{HasShownRows};
 ghost use Rattle.pc_agg.specs.Posed.{HaveValue, IsPairAt, MayHaveValue};
 ghost use Rattle.pc_agg_search.specs.Posed.{AsksNumbers};
 
@@ -36,6 +37,7 @@ pub fn bound_min(
     requires asked { AreAsked schema.now seen.now constraints.now cells.now query.now nodes }
     requires least { query.now.agg ≡ aggs.Min }
     ensures owes { OwesCall schema.now seen.now constraints.now cells.now query.now nodes result }
+    ensures rows { IfOk result (ShowsRows schema.now constraints.now cells.now query.now) }
 {
     let problem = Problem {
         schema,
@@ -61,6 +63,7 @@ pub fn bound_max(
     requires asked { AreAsked schema.now seen.now constraints.now cells.now query.now nodes }
     requires greatest { query.now.agg ≡ aggs.Max }
     ensures owes { OwesCall schema.now seen.now constraints.now cells.now query.now nodes result }
+    ensures rows { IfOk result (ShowsRows schema.now constraints.now cells.now query.now) }
 {
     let problem = Problem {
         schema,
@@ -82,6 +85,7 @@ fn bound_extreme(
     requires asked { IsAsked problem.now seen.now }
     requires extreme { problem.now.query.now.agg ≡ agg_of far }
     ensures owes { IfOk result (OwesProblem problem.now seen.now) }
+    ensures rows { IfOk result (HasShownRows (setting_of problem.now)) }
 {
     let number = seen_number(seen, far);
     let observed = number.is_some();

@@ -5,7 +5,7 @@ ghost use Rattle.pc_branch.specs.Outcome.{IsEasyProgram};
 ghost use Rattle.pc_branch.specs.Ends.{HasSmallGains};
 ghost use Rattle.pc_branch_licences.specs.Pools.{AreLawful};
 ghost use Rattle.pc_agg_search.specs.Wants.{want_for, IsMet, IsProbed, IsSure};
-ghost use Rattle.pc_agg.specs.Grounds.{HasValues, IsLacking, IsLackingSurely, IsUnlistedIfNone};
+ghost use Rattle.pc_agg.specs.Grounds.{HasValues, IsKept, IsLacking, IsLackingSurely, IsUnlistedIfNone};
 ghost use Rattle.pc_agg_search.specs.Problem.{IsEasyFor, IsPosed, setting_of};
 ghost use Rattle.pc_agg.specs.Posed.{IsGroundedAt, IsGroundedSurelyAt};
 
@@ -75,6 +75,7 @@ fn ground_unseen(
     requires totals { IsUnlistedIfNone (setting_of problem.now) problem.now.nodes found }
     ensures grounded { IfOk result (IsGroundedAt problem.now false) }
     ensures nested { IsEasyFor problem.now → 0 < length found → IfOk result (IsGroundedSurelyAt problem.now false) }
+    ensures kept { IfOk result (IsKept found) }
 {
     if !has_chosen(problem.cells) {
         let tree = flat_tree(alloc, problem.constraints.len())?;
@@ -118,6 +119,7 @@ fn ground_most(
     requires lacking { IsLacking (setting_of problem.now) observed problem.now.nodes found lacking }
     ensures grounded { IfOk result (IsGroundedAt problem.now observed) }
     ensures nested { IsEasyFor problem.now → 0 < length found → IsLackingSurely (setting_of problem.now) found lacking → IfOk result (IsGroundedSurelyAt problem.now observed) }
+    ensures kept { IfOk result (IsKept found) }
 {
     let most = chosen_program(alloc, problem, 1)?;
     let want = want_for(observed);

@@ -230,7 +230,7 @@ fn negated(number: i128) -> i128
     -number
 }
 
-/// A row of each cell.
+/// The lowest row of the first leaf of each cell.
 pub fn rows_of_cells(alloc: Global, cells: &Cells) -> Result<Seq<Row>, Memory>
     requires filled { All IsFilled cells.now.cells }
     ensures { IfOk result (λ picks. AreRowsIn cells.now.cells picks) }

@@ -20,7 +20,9 @@ use Rattle.pc_cells.specs.Found.{cell_of, cells_of}
 use Rattle.pc_agg_search.specs.declared.extreme.Extreme.{Extreme}
 use Rattle.pc_agg_search.specs.declared.extreme.Extreme.TheVariants.{Low, High}
 use Rattle.pc_agg_search.specs.Ends.{gain_towards, adds, signed, IsPick}
-use Rattle.pc_agg_search.specs.Targets.{number_in, gain_in, IsPickIn}
+use Rattle.pc_agg_search.specs.FirstRows.{number_in}
+use Rattle.pc_agg_search.specs.Targets.{gain_in, IsPickIn}
+use Rattle.pc_agg_search.proofs.FirstRows.{in_some}
 
 signed_cond : (extreme : Extreme) (test : Bool) (number : ℤ) → signed extreme (cond test number (pos 0)) ≡ cond test (signed extreme number) (pos 0)
 signed_cond High test number = refl
@@ -71,7 +73,7 @@ module _ (s : Setting) (extreme : Extreme) (agg : Agg) (valued : always_has_valu
   module _ (formed : IsWellFormed s.question.schema) (tree : IsSettledTree s.question.schema s.question.constraints s.question.query.chosen s.nodes) where
     pick_is : (class : Class) (row : Row) → IsPickIn s.question.query.column extreme (cell_of (leaves s) class) row → IsPick s agg extreme class row
     pick_is class row pick =
-        let of_cell = (rows_of_tree s.question.schema s.question.constraints s.question.query.chosen s.nodes formed tree class row).1 pick.inside in
+        let of_cell = (rows_of_tree s.question.schema s.question.constraints s.question.query.chosen s.nodes formed tree class row).1 (in_some s.question.query.column extreme (boxes_of (leaves s) class) row pick) in
         let number = number_in s.question.query.column extreme (boxes_of (leaves s) class) in
         let chosen_is : is_in s.question.query.chosen row ≡ class.chosen = ap (λ (c : Class). c.chosen) of_cell.of_class in
         record {
@@ -81,6 +83,7 @@ module _ (s : Setting) (extreme : Extreme) (agg : Agg) (valued : always_has_valu
               ∙ signed_cond extreme (is_in s.question.query.chosen row) number
               ∙ ap (λ (test : Bool). cond test (signed extreme number) (pos 0)) chosen_is
               ∙ gain_is class;
+          shown = pick;
         }
 
     each_pick : (classes : List Class) (picks : List Row) → AllZip (IsPickIn s.question.query.column extreme) (map (cell_of (leaves s)) classes) picks → AllZip (IsPick s agg extreme) classes picks

@@ -15,8 +15,10 @@ use Rattle.pc_agg_search.specs.declared.extreme.Extreme.TheVariants.{Low, High}
 use Rattle.pc_agg_search.specs.Ends.{signed}
 use Rattle.pc_agg_search.specs.Keys.{key_of}
 use Rattle.pc_agg_search.specs.Keys.{IsAtEnd}
-use Rattle.pc_agg_search.specs.Targets.{number_in, gain_in, IsPickIn}
+use Rattle.pc_agg_search.specs.FirstRows.{number_in}
+use Rattle.pc_agg_search.specs.Targets.{gain_in, IsPickIn}
 use Rattle.pc_agg_search.proofs.CellGains.{asked_is}
+use Rattle.pc_agg_search.proofs.FirstRows.{in_some}
 
 module _ (s : Setting) (extreme : Extreme) (IsNumbered : ℕ → Type 0) (numbered : IsSomeAnd s.question.query.column IsNumbered) where
   abbrev column : Option ℕ
@@ -56,8 +58,9 @@ module _ (s : Setting) (extreme : Extreme) (IsNumbered : ℕ → Type 0) (number
   module _ (formed : IsWellFormed s.question.schema) (tree : IsSettledTree s.question.schema s.question.constraints s.question.query.chosen s.nodes) where
     at_end : (class : Class) (row : Row) → IsPickIn column extreme (cell_of (leaves s) class) row → IsAtEnd s extreme class row
     at_end class row pick = record {
-      of_cell = (rows_of_tree s.question.schema s.question.constraints s.question.query.chosen s.nodes formed tree class row).1 pick.inside;
+      of_cell = (rows_of_tree s.question.schema s.question.constraints s.question.query.chosen s.nodes formed tree class row).1 (in_some column extreme (boxes_of (leaves s) class) row pick);
       number = number_is class row pick.number;
+      shown = pick;
     }
 
     each_end : (classes : List Class) (picks : List Row) → AllZip (IsPickIn column extreme) (map (cell_of (leaves s)) classes) picks → AllZip (IsAtEnd s extreme) classes picks

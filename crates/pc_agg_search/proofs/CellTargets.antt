@@ -1,12 +1,18 @@
 -- The targets of cells as far as a loop over the cells has come.
-use Rattle.std.proofs.Common.{◌+◌, ◌<◌, ◌≤◌, ◌^◌, ℕ, ℤ, nat_abs, List, [], ◌∷◌, ◌++◌, length, take, Option, false, refl, subst}
+use Rattle.std.proofs.Common.{◌+◌, ◌<◌, ◌≤◌, ◌^◌, ℕ, ℤ, nat_abs, List, [], ◌∷◌, ◌++◌, length, take, All, Option, None, Some, IfSome, false, refl, subst}
 use Rattle.std.proofs.lemmas.List.{take_more, take_all, map-append}
 use Rattle.std.proofs.lemmas.List.Elements.{All-nil, All-push}
 use Rattle.std.proofs.lemmas.Slice.Zip.{all_zipped_more}
 use Rattle.pc_model.specs.declared.row.Row.{Row}
 use Rattle.pc_cells.specs.declared.cells.Cell.{Cell}
+use Rattle.pc_cells.specs.Found.{cell_at, HasNumbers}
 use Rattle.pc_agg_search.specs.declared.extreme.Extreme.{Extreme}
-use Rattle.pc_agg_search.specs.Targets.{cell_at, gain_in, IsPickIn, IsTarget, AreTargets}
+use Rattle.pc_agg_search.specs.Targets.{gain_in, IsPickIn, IsTarget, AreTargets}
+
+-- what is asked of each cell, of the one at a place
+pub numbers_at : (column : Option ℕ) (cells : List Cell) (place : ℕ) → place < length cells → IfSome column (λ named. All (HasNumbers named) cells) → IfSome column (λ named. HasNumbers named (cell_at cells place))
+numbers_at None cells place inside numbers = tt
+numbers_at (Some named) cells place inside numbers = numbers place (record { mask = 0; chosen = false; leaves = [] }) inside
 
 module _ (column : Option ℕ) (extreme : Extreme) where
   pub no_targets : AreTargets column extreme [] [] []

@@ -4,6 +4,7 @@ pub mod CellNumbers
 pub mod CellPrograms
 pub mod CellTargets
 pub mod Empty
+pub mod FirstRows
 pub mod FlatTrees
 pub mod FormedAnswers
 pub mod FormedRuns

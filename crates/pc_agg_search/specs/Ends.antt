@@ -6,14 +6,15 @@ use Rattle.pc_model.specs.declared.query.Agg.TheVariants.{Count, Sum}
 use Rattle.pc_model.specs.declared.query.Query.{Query}
 use Rattle.pc_model.specs.Membership.{is_in}
 use Rattle.pc_model.specs.Aggregate.{asked}
-use Rattle.pc_model.specs.Cells.{Class, IsRowOf}
+use Rattle.pc_model.specs.Cells.{Class, IsRowOf, boxes_of}
 use Rattle.pc_program_bound.specs.declared.program.Program.{Program}
-use Rattle.pc_proof.specs.Setting.{Setting, high_in, on_chosen, program_for}
+use Rattle.pc_proof.specs.Setting.{Setting, leaves, high_in, on_chosen, program_for}
 use Rattle.pc_proof.specs.Table.{one, minus_one, minus_low}
 use Rattle.pc_proof.specs.Unbroken.{HoldsLow, HoldsHigh}
 use Rattle.pc_proof.specs.declared.answer.End.{End as AnswerEnd}
 use Rattle.pc_agg_search.specs.declared.extreme.Extreme.{Extreme}
 use Rattle.pc_agg_search.specs.declared.extreme.Extreme.TheVariants.{Low, High}
+use Rattle.pc_agg_search.specs.FirstRows.{IsFirstRow}
 
 -- what a row of a cell gains towards an end of a count or a sum; nothing for other aggregates
 abbrev pub gain_towards : Setting → Agg → Extreme → Class → ℤ
@@ -34,10 +35,11 @@ abbrev pub signed : Extreme → ℤ → ℤ
 signed High number = number
 signed Low number = neg_ℤ number
 
--- a row of the cell that adds what the cell gains
+-- the row of the cell that is shown, which adds what the cell gains
 pub record IsPick (s : Setting) (agg : Agg) (extreme : Extreme) (class : Class) (row : Row) : Type 0 where
   pub of_cell : IsRowOf s.question.schema s.question.constraints s.question.query.chosen class row
   pub adds : signed extreme (adds agg s.question.query row) ≡ gain_towards s agg extreme class
+  pub shown : IsFirstRow s.question.query.column extreme (boxes_of (leaves s) class) row
 
 -- an end that breaks no rule
 abbrev pub HoldsEnd : Setting → Extreme → AnswerEnd → Type 0

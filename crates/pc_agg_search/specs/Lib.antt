@@ -1,6 +1,7 @@
 pub mod Asked
 pub mod Easy
 pub mod Ends
+pub mod FirstRows
 pub mod Fitting
 pub mod Flat
 pub mod Keys

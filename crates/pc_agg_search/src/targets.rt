@@ -1,11 +1,12 @@
 ghost use Rattle.std.specs.Prelude.{◌≡◌, ◌<◌, ◌≤◌, ◌^◌, pos, nat_abs, length, cond, true, None, Some, All, IfOk, IfSome};
 ghost use Rattle.pc_model.specs.Accepted.{IsQuery};
 ghost use Rattle.pc_model.specs.Right.{always_has_value};
-ghost use Rattle.pc_cells.specs.Found.{leaves_at, IsFilled, HoldsNumber, HasNumbers};
+ghost use Rattle.pc_cells.specs.Found.{cell_at, leaves_at, IsFilled, HoldsNumber, HasNumbers};
 ghost use Rattle.pc_proof.specs.Setting.{cells};
 ghost use Rattle.pc_agg_search.specs.Ends.{signed};
 ghost use Rattle.pc_agg_search.specs.Problem.{IsPosed};
-ghost use Rattle.pc_agg_search.specs.Targets.{cell_at, number_in, IsTarget, AreTargets};
+ghost use Rattle.pc_agg_search.specs.FirstRows.{number_in, IsFirstLeaf};
+ghost use Rattle.pc_agg_search.specs.Targets.{IsTarget, AreTargets};
 ghost use Rattle.pc_agg_search.specs.Posed.{AreAtEnd, ArePicks, AsksNumbers, gains_of, keys_of};
 
 use crate::extreme::Extreme;
@@ -92,8 +93,8 @@ fn target_of(
     extreme: Extreme,
 ) -> Result<Target, Memory>
     requires there { cell < length cells.now.cells }
-    requires filled { All IsFilled cells.now.cells }
-    requires numbers { IfSome column (λ named. All (HasNumbers named) cells.now.cells) }
+    requires filled { IsFilled (cell_at cells.now.cells cell) }
+    requires numbers { IfSome column (λ named. HasNumbers named (cell_at cells.now.cells cell)) }
     ensures { IfOk result (λ target. IsTarget column extreme (cell_at cells.now.cells cell) target.gain target.pick) }
 {
     let chosen = cells.cells.as_slice()[cell].chosen;
@@ -116,7 +117,7 @@ fn gain_of(chosen: bool, number: i64, extreme: Extreme) -> i128
     }
 }
 
-/// What a row adds at an end of a cell, and the place of a leaf with such a row.
+/// What a row adds at an end of a cell, and the place of the first leaf with such a row.
 #[derive(Clone, Copy)]
 struct Held {
     number: i64,
@@ -125,11 +126,12 @@ struct Held {
 
 fn held_at(cells: &Cells, cell: usize, column: Option<u8>, extreme: Extreme) -> Held
     requires there { cell < length cells.now.cells }
-    requires filled { All IsFilled cells.now.cells }
-    requires numbers { IfSome column (λ named. All (HasNumbers named) cells.now.cells) }
+    requires filled { IsFilled (cell_at cells.now.cells cell) }
+    requires numbers { IfSome column (λ named. HasNumbers named (cell_at cells.now.cells cell)) }
     ensures number { result.number ≡ number_in column extreme (leaves_at cells.now.cells cell) }
     ensures leaf { result.leaf < length (leaves_at cells.now.cells cell) }
     ensures held { IfSome column (λ named. HoldsNumber (leaves_at cells.now.cells cell) result.leaf named result.number) }
+    ensures first { IsFirstLeaf column extreme (leaves_at cells.now.cells cell) result.leaf }
 {
     match column {
         None => Held { number: 1, leaf: 0 },
@@ -139,10 +141,11 @@ fn held_at(cells: &Cells, cell: usize, column: Option<u8>, extreme: Extreme) -> 
 
 fn held_end(cells: &Cells, cell: usize, column: u8, extreme: Extreme) -> Held
     requires there { cell < length cells.now.cells }
-    requires filled { All IsFilled cells.now.cells }
-    requires numbers { All (HasNumbers column) cells.now.cells }
+    requires filled { IsFilled (cell_at cells.now.cells cell) }
+    requires numbers { HasNumbers column (cell_at cells.now.cells cell) }
     ensures number { result.number ≡ number_in (Some column) extreme (leaves_at cells.now.cells cell) }
     ensures held { HoldsNumber (leaves_at cells.now.cells cell) result.leaf column result.number }
+    ensures first { IsFirstLeaf (Some column) extreme (leaves_at cells.now.cells cell) result.leaf }
 {
     let ends = cells.extreme(cell, column);
     match extreme {

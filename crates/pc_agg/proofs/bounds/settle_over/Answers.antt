@@ -11,6 +11,7 @@ use Rattle.pc_agg.specs.declared.settling.Settled.{Settled}
 use Rattle.pc_agg.specs.Marks.{IsAmong}
 use Rattle.pc_agg.specs.Settling.{listed}
 use Rattle.pc_agg.proofs.Aiming.{lawful_both, low_among, high_among, none_among_both, sized_first, none_of, some_of}
+use Rattle.pc_agg.proofs.ShownRows.{picks_shown, low_picks}
 use Rattle.pc_agg.proofs.Totals.{settled_listed}
 use Rattle.pc_agg.proofs.bounds.settle_over.Goals as goal
 
@@ -33,8 +34,9 @@ returns-then-not-is_empty-clause-settled c =
     let lawful = lawful_both c.args.problem.now.schema.now c.args.problem.now.constraints.now c.args.problem.now.query.now nodes c.requires.posed.limited c.args.problem.now.query.now.agg c.args.problem.now.nodes Low High c.args.aims.now.low c.args.aims.now.high aims.low aims.high in
     let some = some_of c.in_ok-found.found (sym c.is_empty.ensures ∙ c.if-not-is_empty.true) in
     let rows = AllZip-weaker (IsPick u c.args.problem.now.query.now.agg Low) (IsRowOf c.args.problem.now.schema.now c.args.problem.now.constraints.now c.args.problem.now.query.now.chosen) (λ class row pick. pick.of_cell) (cells u) c.args.aims.now.low.picks aims.low.picked in
+    let shown = picks_shown u c.args.problem.now.query.now.agg Low c.args.aims.now.low.picks aims.low.picked in
     IfOk-weaker c.listed.result _ _
-    (λ settled is. settled_listed u c.args.problem.now.nodes c.args.aims.now.low.picks c.in_ok-found.found settled rows some (subst (All (AreLawful u)) (sym c.in_ok-found.ensures) lawful) (rw c.as_slice.ensures at is))
+    (λ settled is. settled_listed u c.args.problem.now.nodes c.args.aims.now.low.picks c.in_ok-found.found settled rows (low_picks u c.args.aims.now.low.picks shown _) some (subst (All (AreLawful u)) (sym c.in_ok-found.ensures) lawful) (rw c.as_slice.ensures at is))
     c.listed.ensures
 
 pub returns-then-not-is_empty-clause-low : goal.returns-then-not-is_empty-clause-low

@@ -31,3 +31,9 @@ returns-clause-nested c = λ nested sure.
     let sure_probe = subst (λ p. IsSure p c.args.want c.in_ok-probed.probed) c.in_ok-program.ensures.program (c.in_ok-probed.ensures.nested (c.in_ok-program.ensures.nested nested)) in
     subst (IsSureHalf u c.args.ladder.now c.args.want) (sym c.narrowed.ensures)
     (is_sure_half u c.args.problem.now.nodes c.args.ladder.now c.args.want span middle c.in_ok-probed.probed probed sure_probe sure)
+
+pub returns-clause-tested : goal.returns-clause-tested
+returns-clause-tested c =
+    let span = c.args.span in
+    let probed = subst (λ p. IsProbed p c.args.want c.args.problem.now.nodes span.found c.in_ok-probed.probed) c.in_ok-program.ensures.program c.in_ok-probed.ensures.probed in
+    (c.in_ok-probed.probed, probed, c.narrowed.ensures)

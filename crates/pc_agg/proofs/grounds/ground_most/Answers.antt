@@ -52,3 +52,9 @@ returns-clause-nested c = λ nested some lacks.
     most_sure u c.args.observed c.in_ok-verdict.field-0 c.in_ok-most.most c.want_for-want.result c.in_ok-most.ensures.program c.want_for-want.ensures
     (c.in_ok-verdict.ensures.nested (c.in_ok-most.ensures.nested nested)) in
     most_surely u c.args.observed c.args.problem.now.nodes c.args.found c.requires.lawful c.requires.totals c.in_ok-verdict.field-0 probed c.args.lacking c.in-Open.is some lacks sure
+
+pub returns-in-Short-2-clause-kept : goal.returns-in-Short-2-clause-kept
+returns-in-Short-2-clause-kept c = (c.in_ok-verdict.ensures.probed.more, c.in_ok-verdict.ensures.probed.grown)
+
+pub returns-clause-kept : goal.returns-clause-kept
+returns-clause-kept c = (c.in_ok-verdict.ensures.probed.more, c.in_ok-verdict.ensures.probed.grown)

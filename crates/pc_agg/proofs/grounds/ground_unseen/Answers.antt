@@ -1,11 +1,13 @@
-use Rattle.std.proofs.Common.{false, All, refl, sym, subst}
+use Rattle.std.proofs.Common.{false, [], All, refl, sym, subst}
+use Rattle.std.proofs.lemmas.List.{append-nil}
+use Rattle.std.proofs.lemmas.Result.{IfOk-weaker}
 use Rattle.pc_proof.specs.Setting.{on_chosen}
 use Rattle.pc_proof.specs.Table.{minus_one}
 use Rattle.pc_agg_search.specs.declared.want.Want.TheVariants as wants
 use Rattle.pc_agg.specs.Grounds.{AreAlways, IsLacking, IsLackingSurely}
 use Rattle.pc_agg_search.specs.Problem.{setting_of}
 use Rattle.pc_agg_search.specs.Wants.{IsMet, IsProbed, IsSure}
-use Rattle.pc_agg.proofs.Grounding.{probed_empty, probed_lawful, probed_some, probed_sure, fewest_short, fewest_open, some_chosen, none_chosen}
+use Rattle.pc_agg.proofs.Grounding.{kept_on, probed_empty, probed_lawful, probed_some, probed_sure, fewest_short, fewest_open, some_chosen, none_chosen}
 use Rattle.pc_agg.proofs.Lawful.{lawful_met}
 use Rattle.pc_agg.proofs.grounds.ground_unseen.Goals as goal
 use Rattle.pc_agg.proofs.grounds.ground_unseen.Goals.{in-Short, in-Open}
@@ -64,3 +66,11 @@ returns-clause-nested c = λ nested some.
           subst (IsLackingSurely u c.in_ok-verdict.field-0.found) (sym w.lacking-is)
           (probed_sure u (on_chosen minus_one) wants.Without c.args.problem.now.nodes c.args.found c.in_ok-verdict.field-0 probed w.in-Open.is sure)
     ])
+
+pub returns-then-not-has_chosen-clause-kept : goal.returns-then-not-has_chosen-clause-kept
+returns-then-not-has_chosen-clause-kept c = ([], sym (append-nil c.args.found))
+
+pub returns-clause-kept : goal.returns-clause-kept
+returns-clause-kept c =
+    let probed = c.in_ok-verdict.ensures.probed in
+    IfOk-weaker c.ground_most.result _ _ (kept_on c.args.found c.in_ok-verdict.field-0.found probed.more probed.grown) c.ground_most.ensures.kept
