@@ -1,5 +1,5 @@
 use csv::ByteRecord;
-use pc_records::{Table, field};
+use pc_records::{Table, field, lines_are_records, plain_lines_are_records};
 use std::alloc::Global;
 use std::test::Fail;
 
@@ -53,8 +53,11 @@ static RECORDS: [(&str, &str); 23] = [
     ("\u{feff}\"a,b\"\n", "[a,b];"),
 ];
 
+// The laws say of all texts without quotes what this says of some.
 #[test]
 fn reads_records(rt: HostRuntime) -> Result<(), Fail> {
+    lines_are_records();
+    plain_lines_are_records();
     let alloc = rt.alloc();
     for (text, want) in RECORDS.iter() {
         let out = laid_out(alloc, text.as_bytes())?;

@@ -7,7 +7,7 @@ pub(crate) mod folds;
 use crate::stored::numbers as numbers_of_pairs;
 use pc_list::{Seq, Text};
 use pc_model::{Column, Kind, Reason, Refusal, Row, Schema};
-use pc_rows::{Case, Rows, read_rows, reads_plain_fields, reads_plain_text};
+use pc_rows::{Case, Rows, read_rows, reads_plain_fields, reads_plain_lines, reads_plain_text};
 use std::alloc::{AllocError, Global};
 use std::process::Abort;
 use std::test::Fail;
@@ -461,6 +461,7 @@ static PLAIN: [Read; 1] = [(
 #[test]
 fn plain_rows_are_read(rt: HostRuntime) -> Result<(), Fail> {
     reads_plain_fields();
+    reads_plain_lines();
     reads_plain_text();
     let schema = sales(rt.alloc(), odd_names(rt.alloc())?)?;
     are_read(&rt, rt.alloc(), &schema, &PLAIN)

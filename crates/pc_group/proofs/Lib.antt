@@ -4,6 +4,7 @@ mod FormedCuts
 mod GroupNames
 mod Inner
 mod Narrowed
+mod NeededCuts
 mod Owing
 mod SameNodes
 mod Telling

@@ -1,10 +1,16 @@
 -- One tree of cuts for many blocks, and how the tree of each is written.
-use Rattle.std.specs.Prelude.{◌≡◌, ⊤, List, [], ◌∷◌, All, Option, Some, None, IsSome}
+use Rattle.std.specs.Prelude.{◌≡◌, ⊤, ℕ, true, List, [], ◌∷◌, map, All, Any, Option, Some, None, IsSome}
 use Rattle.pc_model.specs.declared.schema.Schema.{Schema}
 use Rattle.pc_model.specs.declared.constraint.Constraint.{Constraint}
+use Rattle.pc_model.specs.declared.region.Region.{Region}
+use Rattle.pc_model.specs.declared.area.Area.{Area}
+use Rattle.pc_model.specs.declared.tree.Cut.{Cut}
 use Rattle.pc_model.specs.declared.tree.CutNode.{CutNode}
+use Rattle.pc_model.specs.declared.tree.CutNode.TheVariants as forms
 use Rattle.pc_model.specs.CutTrees.{CutShape, leaf, inner, shape_of}
-use Rattle.pc_cells_tree.specs.Linked.{IsDividedFor}
+use Rattle.pc_model.specs.Regions.{whole_region}
+use Rattle.pc_cells_tree.specs.Decisions.{IsNeeded}
+use Rattle.pc_cells_tree.specs.Linked.{AreBoxesOf, IsDividedFor, box_at, is_leaf_node, node_at}
 use Rattle.pc_cells_tree.specs.Owned.{HasOwnBits}
 use Rattle.pc_cells_tree.specs.Walking.{HasCutsAt}
 use Rattle.pc_proof.specs.declared.document.Block.{Block}
@@ -16,6 +22,17 @@ use Rattle.pc_group.specs.Wanted.{Wanted, area_of}
 -- each leaf can be marked for the area of each block
 abbrev pub AreDividedFor : Schema → List Constraint → List CutNode → List Wanted → Type 0
 AreDividedFor schema constraints nodes blocks = All (λ (w : Wanted). IsDividedFor schema constraints (area_of w) nodes) blocks
+
+-- each cut divides a leaf of the old tree, or a part of one, that could not be marked for one of the areas
+abbrev pub HasCutsForSome : Schema → List Constraint → List Area → List CutNode → List CutNode → Type 0
+HasCutsForSome schema constraints areas before after =
+    (boxes : List Region) → AreBoxesOf (whole_region schema) after boxes →
+    (k : ℕ) (cut : Cut) (first second : ℕ) → is_leaf_node (node_at before k) ≡ true → node_at after k ≡ forms.Inner cut first second →
+    Any (λ (area : Area). IsNeeded constraints area (box_at boxes k) cut) areas
+
+-- .. for the area of one of the blocks
+abbrev pub HasCutsForBlocks : Schema → List Constraint → List Wanted → List CutNode → List CutNode → Type 0
+HasCutsForBlocks schema constraints blocks before after = HasCutsForSome schema constraints (map area_of blocks) before after
 
 -- the bits of the cuts of a tree are of names of their columns
 abbrev pub HasOwnShape : Schema → CutShape → Type 0

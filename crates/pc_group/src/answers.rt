@@ -9,7 +9,7 @@ ghost use Rattle.pc_cells_tree.specs.Owned.{HasOwnCuts};
 ghost use Rattle.pc_cells_tree.specs.Walking.{bare};
 ghost use Rattle.pc_proof.specs.Form.{IsInForm};
 ghost use Rattle.pc_group.specs.Answers.{AnswersWanted};
-ghost use Rattle.pc_group.specs.Trees.{Told, AreDividedFor, AreOfTree, AreWritten, told};
+ghost use Rattle.pc_group.specs.Trees.{Told, AreDividedFor, AreOfTree, AreWritten, HasCutsForBlocks, told};
 ghost use Rattle.pc_group.specs.Wanted.{wanted};
 
 use crate::answering::answer_queries;
@@ -42,6 +42,8 @@ pub fn answer_with(
     ensures tree { IsTree schema.now shared.new.nodes }
     ensures kept { KeepsInner shared.old.nodes shared.new.nodes }
     ensures own { HasOwnCuts schema.now shared.old.nodes → HasOwnCuts schema.now shared.new.nodes }
+    ensures needed { HasCutsForBlocks schema.now constraints.now (wanted schema.now queries.now)
+        shared.old.nodes shared.new.nodes }
     ensures divided { OnOk result (AreDividedFor schema.now constraints.now shared.new.nodes (wanted schema.now queries.now)) }
     ensures answers { IfOk result (λ document. AllZip (AnswersWanted nodes schema.now rows.now constraints.now) (wanted schema.now queries.now) (told document.blocks)) }
     ensures shared { IfOk result (λ document. AreOfTree shared.new.nodes (told document.blocks)) }

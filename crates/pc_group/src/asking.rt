@@ -5,7 +5,7 @@ ghost use Rattle.pc_cells_tree.specs.Linked.{KeepsInner};
 ghost use Rattle.pc_session.specs.Sessions.{IsSession};
 ghost use Rattle.pc_proof.specs.Form.{IsInForm};
 ghost use Rattle.pc_group.specs.Answers.{AnswersWanted};
-ghost use Rattle.pc_group.specs.Trees.{AreDividedFor, AreOfTree, AreWritten, told};
+ghost use Rattle.pc_group.specs.Trees.{AreDividedFor, AreOfTree, AreWritten, HasCutsForBlocks, told};
 ghost use Rattle.pc_group.specs.Wanted.{wanted};
 
 use crate::answers::answer_with;
@@ -31,6 +31,8 @@ pub fn ask(
     ensures rows { session.new.rows ≡ session.old.rows }
     ensures constraints { session.new.constraints ≡ session.old.constraints }
     ensures kept { KeepsInner session.old.tree.nodes session.new.tree.nodes }
+    ensures needed { HasCutsForBlocks session.old.schema session.old.constraints
+        (wanted session.old.schema queries.now) session.old.tree.nodes session.new.tree.nodes }
     ensures divided { OnOk result (AreDividedFor session.old.schema session.old.constraints session.new.tree.nodes (wanted session.old.schema queries.now)) }
     ensures answers { IfOk result (λ document. AllZip (AnswersWanted nodes session.old.schema session.old.rows session.old.constraints) (wanted session.old.schema queries.now) (told document.blocks)) }
     ensures shared { IfOk result (λ document. AreOfTree session.new.tree.nodes (told document.blocks)) }

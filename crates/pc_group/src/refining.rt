@@ -5,13 +5,14 @@ ghost use Rattle.pc_model.specs.Boxes.{IsAreaOf, IsServable};
 ghost use Rattle.pc_model.specs.WellFormed.{IsWellFormed};
 ghost use Rattle.pc_cells_tree.specs.Linked.{IsTree, IsDividedFor, KeepsInner};
 ghost use Rattle.pc_cells_tree.specs.Owned.{HasOwnCuts};
+ghost use Rattle.pc_group.specs.Trees.{HasCutsForSome};
 
 use pc_cells::Shared;
 use pc_model::{Area, Constraint, Schema};
 use pc_num::Memory;
 
-/// Cuts the shared tree on until each leaf can be marked for each of the areas. After `Memory` it may have been
-/// cut on for some of them.
+/// Cuts the shared tree on until each leaf can be marked for each of the areas, by no cut that none of them needs. After
+/// `Memory` it may have been cut on for some of them.
 pub fn refine_for_all(
     schema: &Schema,
     constraints: &[Constraint],
@@ -26,6 +27,8 @@ pub fn refine_for_all(
     ensures tree { IsTree schema.now shared.new.nodes }
     ensures kept { KeepsInner shared.old.nodes shared.new.nodes }
     ensures own { HasOwnCuts schema.now shared.old.nodes → HasOwnCuts schema.now shared.new.nodes }
+    ensures needed { HasCutsForSome schema.now constraints.now areas.now
+        shared.old.nodes shared.new.nodes }
     ensures divided { OnOk result (All (λ (area : Area). IsDividedFor schema.now constraints.now area shared.new.nodes) areas.now) }
 {
     for area in areas {

@@ -1,5 +1,5 @@
 -- What the status of a run means, from the reply and what the put of it left.
-use Rattle.std.proofs.Common.{◌≡◌, ℕ, ⊎_elim, inl, inr, ◌++◌, List, take, Option, Some, None, Result, Ok, Err, IfSome, ◌⊎◌, sym, subst, refl, ap}
+use Rattle.std.proofs.Common.{◌≡◌, ℕ, ⊎_elim, inl, inr, ◌++◌, List, take, Option, Some, None, Result, Ok, Err, IfOk, IfSome, ◌⊎◌, sym, subst, refl, ap}
 use Rattle.pc_base.specs.declared.status.Status.{Status}
 use Rattle.pc_base.specs.declared.status.Status.TheVariants as ended
 use Rattle.pc_base.specs.declared.outside.Put.TheVariants.{All, Failed}
@@ -9,6 +9,7 @@ use Rattle.pc_check.specs.declared.verdict.Verdict.{Verdict}
 use Rattle.pc_check.specs.declared.verdict.Verdict.TheVariants as verdicts
 use Rattle.pc_run.specs.declared.input.Input.{Input}
 use Rattle.pc_run.specs.declared.input.Input.TheVariants.{Asks, Proves, Claims, Shows, Contradicts, Measures, Follows, Makes}
+use Rattle.pc_run.specs.Inputs.{IsSoundInput}
 use Rattle.pc_run.specs.Outcome.{Obstacle, refused, absent, files_of, ComesTo}
 use Rattle.pc_model.specs.declared.fault.Fault.{Fault}
 use Rattle.pc_run.specs.Reports.{malformed_line}
@@ -45,8 +46,9 @@ told_fault call asked status text command says told = record {
   told = subst (λ (t : List ℕ). IsTold call t) says.line told;
 }
 
-answered : (call : Call) (asked : Asked) (status : Status) (text : List ℕ) (input : Input) → command_of call.words ≡ Some asked → ComesTo call.reading.before.files asked (Ok input) → LoadsAll call.reading (files_of asked) → SaysInput input status text → IsAnswered call status text
-answered call asked status text input command agrees loads says = record { asked = asked; command = command; input = input; agrees = agrees; loads = loads; says = says }
+answered : (call : Call) (asked : Asked) (status : Status) (text : List ℕ) (input : Input) → command_of call.words ≡ Some asked → ComesTo call.reading.before.files asked (Ok input) → IsSoundInput input → LoadsAll call.reading (files_of asked) → SaysInput input status text → IsAnswered call status text
+answered call asked status text input command agrees sound loads says =
+    record { asked = asked; command = command; input = input; agrees = agrees; sound = sound; loads = loads; says = says }
 
 -- what is said of an input is done, or no
 abbrev IsEnd : Status → Type 0
@@ -83,18 +85,18 @@ told_refusal call asked text fault command agrees loads is told = record {
 }
 
 -- the whole text was put
-outcome_whole : (call : Call) (asked : Asked) (status : Status) (text : List ℕ) → command_of call.words ≡ Some asked → (outcome : Result Input Obstacle) → Says outcome status text → ComesTo call.reading.before.files asked outcome → LoadsOutcome call.reading asked outcome → IsWritten call text → Means call status
-outcome_whole call asked status text command (Ok input) says agrees loads written =
-    ended_whole call status (record { text = text; answered = answered call asked status text input command agrees loads says; written = written }) (ends input status text says)
-outcome_whole call asked status text command (Err (refused fault)) says agrees loads written =
+outcome_whole : (call : Call) (asked : Asked) (status : Status) (text : List ℕ) → command_of call.words ≡ Some asked → (outcome : Result Input Obstacle) → IfOk outcome IsSoundInput → Says outcome status text → ComesTo call.reading.before.files asked outcome → LoadsOutcome call.reading asked outcome → IsWritten call text → Means call status
+outcome_whole call asked status text command (Ok input) sound says agrees loads written =
+    ended_whole call status (record { text = text; answered = answered call asked status text input command agrees sound loads says; written = written }) (ends input status text says)
+outcome_whole call asked status text command (Err (refused fault)) sound says agrees loads written =
     rw says.0 (told_refusal call asked text fault command agrees loads says.1 (inl written))
-outcome_whole call asked status text command (Err (absent file)) says agrees loads written = absurd says
+outcome_whole call asked status text command (Err (absent file)) sound says agrees loads written = absurd says
 
 command_whole : (call : Call) (status : Status) (text : List ℕ) → RepliesToCommand call.reading call.words status text → IsWritten call text → Means call status
 command_whole call status text replies written =
     ⊎_elim
     (λ (says : SaysFault call.reading replies.asked status text). rw says.ended (told_fault call replies.asked status text replies.command says (inl written)))
-    (λ (says : SaysOutcome call.reading replies.asked status text). outcome_whole call replies.asked status text replies.command says.outcome says.says says.agrees says.loads written)
+    (λ (says : SaysOutcome call.reading replies.asked status text). outcome_whole call replies.asked status text replies.command says.outcome says.sound says.says says.agrees says.loads written)
     replies.replies
 
 pub means_whole : (call : Call) (status : Status) (text : List ℕ) → RespondsIn call status text → IsWritten call text → Means call status
@@ -105,18 +107,18 @@ means_whole call status text responds written =
     responds
 
 -- a front of it was put
-outcome_cut_off : (call : Call) (asked : Asked) (status : Status) (text : List ℕ) → command_of call.words ≡ Some asked → (outcome : Result Input Obstacle) → Says outcome status text → ComesTo call.reading.before.files asked outcome → LoadsOutcome call.reading asked outcome → IsCutOff call text → Means call (after_failed_put status)
-outcome_cut_off call asked status text command (Ok input) says agrees loads cut =
-    ended_cut_off call status (record { status = status; text = text; answered = answered call asked status text input command agrees loads says; cut_off = cut }) (ends input status text says)
-outcome_cut_off call asked status text command (Err (refused fault)) says agrees loads cut =
+outcome_cut_off : (call : Call) (asked : Asked) (status : Status) (text : List ℕ) → command_of call.words ≡ Some asked → (outcome : Result Input Obstacle) → IfOk outcome IsSoundInput → Says outcome status text → ComesTo call.reading.before.files asked outcome → LoadsOutcome call.reading asked outcome → IsCutOff call text → Means call (after_failed_put status)
+outcome_cut_off call asked status text command (Ok input) sound says agrees loads cut =
+    ended_cut_off call status (record { status = status; text = text; answered = answered call asked status text input command agrees sound loads says; cut_off = cut }) (ends input status text says)
+outcome_cut_off call asked status text command (Err (refused fault)) sound says agrees loads cut =
     rw says.0 (told_refusal call asked text fault command agrees loads says.1 (inr cut))
-outcome_cut_off call asked status text command (Err (absent file)) says agrees loads cut = absurd says
+outcome_cut_off call asked status text command (Err (absent file)) sound says agrees loads cut = absurd says
 
 command_cut_off : (call : Call) (status : Status) (text : List ℕ) → RepliesToCommand call.reading call.words status text → IsCutOff call text → Means call (after_failed_put status)
 command_cut_off call status text replies cut =
     ⊎_elim
     (λ (says : SaysFault call.reading replies.asked status text). rw says.ended (told_fault call replies.asked status text replies.command says (inr cut)))
-    (λ (says : SaysOutcome call.reading replies.asked status text). outcome_cut_off call replies.asked status text replies.command says.outcome says.says says.agrees says.loads cut)
+    (λ (says : SaysOutcome call.reading replies.asked status text). outcome_cut_off call replies.asked status text replies.command says.outcome says.sound says.says says.agrees says.loads cut)
     replies.replies
 
 pub means_cut_off : (call : Call) (status : Status) (text : List ℕ) → RespondsIn call status text → IsCutOff call text → Means call (after_failed_put status)

@@ -11,6 +11,7 @@ use Rattle.pc_rows.specs.declared.case.Case.{Case}
 use Rattle.pc_run.specs.declared.input.Claim.{Claim}
 use Rattle.pc_run.specs.declared.input.Input.{Input}
 use Rattle.pc_run.specs.declared.input.Input.TheVariants.{Claims}
+use Rattle.pc_run.specs.Inputs.{IsSoundInput}
 use Rattle.pc_run.specs.Outcome.{refused, files_of, accepted_under, ComesTo, AreAccepted}
 use Rattle.pc_run.specs.Loading.{Reading, IsUnread, LoadsAll, EndsAt, AreInOrder}
 use Rattle.pc_run.specs.Replies.{BreaksFirst, SaysInput, SaysProof, SpellsUnbroken}
@@ -33,9 +34,10 @@ pub record Call : Type 1 where
 abbrev pub call_of : List (List ℕ) → Reading → Writing → Call
 call_of words reading writing = record { words = words; reading = reading; writing = writing }
 
--- the whole text was written
-abbrev pub IsWritten : Call → List ℕ → Type 0
-IsWritten call text = IfSome call.writing.before.kept (λ kept. call.writing.after.kept ≡ Some (kept ++ text))
+-- the whole text was written, and no put failed in this call
+pub record IsWritten (call : Call) (text : List ℕ) : Type 0 where
+  pub no_fault : call.writing.after.faults ≡ call.writing.before.faults
+  pub whole : IfSome call.writing.before.kept (λ kept. call.writing.after.kept ≡ Some (kept ++ text))
 
 -- a front of the text was written, and a put failed in this call
 pub record IsCutOff (call : Call) (text : List ℕ) : Type 0 where
@@ -46,12 +48,14 @@ pub record IsCutOff (call : Call) (text : List ℕ) : Type 0 where
 abbrev pub IsTold : Call → List ℕ → Type 0
 IsTold call line = IsWritten call line ⊎ IsCutOff call line
 
--- the words are a command whose files are accepted, and this is what is said of them, with this status
+-- The words are a command whose files are accepted and come to this input, which is as the command needs it; and this is what is
+-- said of it, with this status.
 pub record IsAnswered (call : Call) (status : Status) (text : List ℕ) : Type 0 where
   pub asked : Asked
   pub command : command_of call.words ≡ Some asked
   pub input : Input
   pub agrees : ComesTo call.reading.before.files asked (Ok input)
+  pub sound : IsSoundInput input
   pub loads : LoadsAll call.reading (files_of asked)
   pub says : SaysInput input status text
 

@@ -46,7 +46,8 @@ impl Session {
         ensures rows { IfOk result (λ session. session.rows ≡ rows) }
         ensures constraints { IfOk result (λ session. session.constraints ≡ constraints) }
         ensures session { IfOk result IsSession }
-        ensures needed { IfOk result (λ session. HasNeededCuts schema constraints (whole_area schema) (forms.Leaf Barren ∷ []) session.tree.nodes) }
+        ensures needed { IfOk result (λ session.
+            HasNeededCuts schema constraints (whole_area schema) (forms.Leaf Barren ∷ []) session.tree.nodes) }
     {
         let whole = schema.whole_area(alloc)?;
         let mut tree = Shared::new(alloc, &schema)?;
@@ -68,7 +69,8 @@ impl Session {
         ensures schema { self.new.schema ≡ self.old.schema }
         ensures session { IsSession self.new }
         ensures kept { KeepsInner self.old.tree.nodes self.new.tree.nodes }
-        ensures needed { HasNeededCuts self.old.schema self.new.constraints (whole_area self.old.schema) self.old.tree.nodes self.new.tree.nodes }
+        ensures needed { HasNeededCuts self.old.schema self.new.constraints (whole_area self.old.schema)
+            self.old.tree.nodes self.new.tree.nodes }
         ensures cuts { IfOk result (λ cuts. length self.new.tree.nodes ≡ length self.old.tree.nodes + 2 * cuts) }
         ensures of_rows { IsOfRows edit → IfOk result (λ cuts. (cuts ≡ 0) × (self.new.tree ≡ self.old.tree)) }
         ensures frugal { AddsOneBox edit → IfOk result (λ cuts. cuts ≤ 4 * length self.old.schema.columns * leaf_count self.old.tree.nodes) }

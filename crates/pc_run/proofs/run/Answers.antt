@@ -11,7 +11,7 @@ returns-in-All-clause-promise g c =
     let writing = writing_of g.K.Sink.told c.args.out.now c.put.new.self in
     let leaves = rw c.as_slice.ensures.value at c.in-All.ensures.puts.leaves in
     keeps_whole (call_of (map string_bytes c.args.words.now) reading writing) c.in-Ok.reply.status c.in-Ok.reply.text.items c.in-Ok.ensures.responds
-    (written_from writing.before.kept writing.after.kept c.in-Ok.reply.text.items leaves)
+    (record { no_fault = c.in-All.ensures.puts.cause; whole = written_from writing.before.kept writing.after.kept c.in-Ok.reply.text.items leaves })
 
 pub returns-in-Failed-clause-promise : goal.returns-in-Failed-clause-promise
 returns-in-Failed-clause-promise g c =

@@ -21,3 +21,6 @@ returns-clause-session c =
 
 pub returns-clause-divided : goal.returns-clause-divided
 returns-clause-divided c = rw c.as_slice.ensures at c.answer_with.ensures.divided
+
+pub returns-clause-needed : goal.returns-clause-needed
+returns-clause-needed c = rw c.as_slice.ensures at c.answer_with.ensures.needed
