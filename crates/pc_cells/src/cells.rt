@@ -48,8 +48,7 @@ pub fn decompose(
 ) -> Result<Cells, Memory>
     requires asked { CanBeDivided schema.now constraints.now chosen.now }
     ensures found { IfOk result (AreCellsFor schema.now constraints.now chosen.now) }
-    ensures needed { IfOk result (λ found.
-        AreNeeded constraints.now chosen.now (whole_region schema.now) (shape_of found.tree.nodes)) }
+    ensures needed { IfOk result (λ found. AreNeeded constraints.now chosen.now (whole_region schema.now) (shape_of found.tree.nodes)) }
 {
     let Growth { nodes, leaves } = grown_tree(alloc, schema, constraints, chosen)?;
     let cells = gather(alloc, leaves)?;

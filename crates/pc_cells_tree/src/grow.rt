@@ -46,8 +46,7 @@ pub fn grown_tree(
 ) -> Result<Growth, Memory>
     requires asked { CanBeDivided schema.now constraints.now chosen.now }
     ensures settled { IfOk result (λ growth. IsSettledTree schema.now constraints.now chosen.now growth.nodes) }
-    ensures needed { IfOk result (λ growth.
-        AreNeeded constraints.now chosen.now (whole_region schema.now) (shape_of growth.nodes)) }
+    ensures needed { IfOk result (λ growth. AreNeeded constraints.now chosen.now (whole_region schema.now) (shape_of growth.nodes)) }
     ensures leaves { IfOk result (λ growth. growth.leaves ≡ leaves_in schema.now growth.nodes) }
     ensures few { IfOk result (λ growth. length growth.leaves < 2 ^ 32) }
 {
