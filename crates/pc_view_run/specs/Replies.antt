@@ -1,9 +1,9 @@
 -- What is replied to words, by what the input holds.
-use Rattle.std.specs.Prelude.{◌≡◌, ℕ, ◌⊎◌, ◌||◌, nat_lt, Bool, true, false, List, [], ◌∷◌, ◌++◌, codes, decimal, bytes_eq, length, Option, Some, None, Result, Ok, Err, IfSome, if◌then◌else◌}
+use Rattle.std.specs.Prelude.{◌≡◌, ℕ, ◌||◌, Bool, true, false, List, [], ◌∷◌, ◌++◌, codes, decimal, bytes_eq, Option, Some, None, Result, Ok, Err, if◌then◌else◌}
 use Rattle.std.specs.List.{concat, list_any}
-use Rattle.pc_base.specs.Counts.{Rose}
-use Rattle.pc_base.specs.Files.{file_of, IsAbsent}
-use Rattle.pc_base.specs.Shelves.{ShelfState}
+use Rattle.pc_base.specs.declared.outside.Loaded.{Loaded}
+use Rattle.pc_base.specs.declared.outside.Loaded.TheVariants as loads
+use Rattle.pc_base.specs.Shelves.{IsLoad, ShelfState}
 use Rattle.pc_reports.specs.declared.entry.Entry.{Entry}
 use Rattle.pc_reports.specs.declared.entry.Said.{Said}
 use Rattle.pc_reports.specs.declared.entry.Said.TheVariants as saids
@@ -87,19 +87,16 @@ abbrev pub reported : Result (List Entry) ℕ → Reply
 reported (Ok entries) = record { status = status_of entries; text = table_text entries }
 reported (Err line) = malformed line
 
--- the reply to these bytes, or where there are none
-abbrev pub reply_to : Option (List ℕ) → Reply
-reply_to None = unread
-reply_to (Some bytes) = if nat_lt limit (length bytes) then malformed 0 else reported (report_of bytes)
+-- the reply to what a load of the input left; without memory there is none
+abbrev pub IsReplyTo : Loaded → List ℕ → Reply → Type 0
+IsReplyTo loads.Whole bytes reply = reply ≡ reported (report_of bytes)
+IsReplyTo loads.Long bytes reply = reply ≡ malformed 0
+IsReplyTo loads.Failed bytes reply = reply ≡ unread
+IsReplyTo loads.Memory bytes reply = ⊥
 
--- these bytes are the input, where the shelf tells it; or it could not be read, for a cause
-abbrev pub IsInput : ShelfState → ShelfState → Option (List ℕ) → Type 0
-IsInput before after None = Rose before.faults after.faults ⊎ IsAbsent before.files input_name
-IsInput before after (Some bytes) = IfSome before.files (λ files. file_of files input_name ≡ Some bytes)
-
--- the reply is the one to the input
+-- the input was loaded once, and the reply is the one to what the load left
 abbrev pub Tells : ShelfState → ShelfState → Reply → Type 0
-Tells before after reply = (input : Option (List ℕ)) × IsInput before after input × (reply ≡ reply_to input)
+Tells before after reply = (loaded : Loaded) × (bytes : List ℕ) × IsLoad before input_name limit loaded bytes after × IsReplyTo loaded bytes reply
 
 -- .. of words that are a call; of others nothing is loaded
 abbrev pub Responds : Bool → ShelfState → ShelfState → Reply → Type 0

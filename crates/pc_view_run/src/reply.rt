@@ -1,4 +1,4 @@
-ghost use Rattle.std.specs.Prelude.{◌≡◌, IfOk, map, string_bytes};
+ghost use Rattle.std.specs.Prelude.{◌≡◌, ◌≤◌, ◌+◌, IfOk, map, string_bytes};
 ghost use Rattle.std.specs.List.{list_any};
 ghost use Rattle.pc_reports.specs.Report.{report_of};
 ghost use Rattle.pc_view_run.specs.Replies.{Responds, Tells, has_outer, is_call, is_impossible, is_open, is_outer, malformed, reported, status_of, unread, usage};
@@ -28,7 +28,8 @@ pub(crate) fn respond<F: Shelf>(
     words: &[String],
     files: &mut F,
 ) -> Result<Reply, Memory>
-    ensures { IfOk result (Responds (is_call (map string_bytes words.now)) (F.told files.old) (F.told files.new)) }
+    ensures responds { IfOk result (Responds (is_call (map string_bytes words.now)) (F.told files.old) (F.told files.new)) }
+    ensures loads { (F.told files.new).calls ≤ (F.told files.old).calls + 1 }
 {
     if is_call(words) {
         return read_reply(alloc, files);
@@ -57,7 +58,8 @@ fn usage(alloc: Global) -> Result<Reply, Memory>
 
 #[tactic(auto, using(crate::proofs::Inputs::inputs))]
 fn read_reply<F: Shelf>(alloc: Global, files: &mut F) -> Result<Reply, Memory>
-    ensures { IfOk result (Tells (F.told files.old) (F.told files.new)) }
+    ensures tells { IfOk result (Tells (F.told files.old) (F.told files.new)) }
+    ensures loads { (F.told files.new).calls ≤ (F.told files.old).calls + 1 }
 {
     let mut bytes = Vec::new(alloc);
     match files.load(alloc, "/dev/stdin", &mut bytes, LIMIT) {

@@ -1,4 +1,4 @@
-ghost use Rattle.std.specs.Prelude.{◌≡◌, map, string_bytes};
+ghost use Rattle.std.specs.Prelude.{◌≡◌, ◌≤◌, ◌+◌, map, string_bytes};
 ghost use Rattle.pc_view_run.specs.Replies.{is_call};
 ghost use Rattle.pc_view_run.specs.Views.{Views, cut_off};
 
@@ -11,7 +11,9 @@ use std::alloc::Global;
 /// not, by one put.
 #[tactic(auto, using(crate::proofs::Puts::puts))]
 pub fn view<F: Shelf, K: Sink>(alloc: Global, words: &[String], files: &mut F, out: &mut K) -> Ended
-    ensures { Views (is_call (map string_bytes words.now)) (F.told files.old) (F.told files.new) (K.told out.old) (K.told out.new) result }
+    ensures views { Views (is_call (map string_bytes words.now)) (F.told files.old) (F.told files.new) (K.told out.old) (K.told out.new) result }
+    ensures loads { (F.told files.new).calls ≤ (F.told files.old).calls + 1 }
+    ensures puts { (K.told out.new).calls ≤ (K.told out.old).calls + 1 }
 {
     let Ok(reply) = respond(alloc, words, files) else {
         return Ended::Memory;
