@@ -1,5 +1,6 @@
 -- What a report or a document says, block by block.
-use Rattle.std.specs.Prelude.{ℕ, List, [], ◌∷◌, ◌++◌, take, position, Option, Some, None, Result, Ok, Err}
+use Rattle.std.specs.Prelude.{ℕ, ◌==◌, ◌&&◌, not, Bool, List, [], ◌∷◌, ◌++◌, codes, take, position, Option, Some, None, Result, Ok, Err, if◌then◌else◌}
+use Rattle.std.specs.List.{starts_with, ends_with}
 use Rattle.pc_reports.specs.declared.entry.Entry.{Entry}
 use Rattle.pc_reports.specs.declared.line.Line.{Line}
 use Rattle.pc_reports.specs.declared.line.Line.TheVariants as lines
@@ -28,6 +29,14 @@ unfoldable pub entries_from : List Entry → List Line → Result (List Entry) �
 entries_from before [] = Ok before
 entries_from before (line ∷ rest) = with_entry before line rest >>= λ found. entries_from found rest
 
--- the entries of a report, or the number of the first line that may not stand there
+-- a document that does not end as one does
+unfoldable pub is_cut_off : List ℕ → Bool
+is_cut_off bytes = starts_with ◌==◌ bytes (codes "pc 1" ++ 10 ∷ []) && not (ends_with ◌==◌ bytes (codes "end" ++ 10 ∷ []))
+
+abbrev pub entries_in : List ℕ → List Line → Result (List Entry) ℕ
+entries_in bytes lines = if is_cut_off bytes then Err 0 else entries_from [] lines
+
+-- The entries of a report. Else the first line that may stand nowhere; else 0, for a document that is cut off; else the query line
+-- of the first block that is none.
 unfoldable pub report_of : List ℕ → Result (List Entry) ℕ
-report_of bytes = said_in bytes >>= entries_from []
+report_of bytes = said_in bytes >>= entries_in bytes

@@ -1,5 +1,5 @@
 ghost use Rattle.std.specs.Prelude.{◌≡◌, ◌<◌, ◌∷◌, [], length, position, IfSome, MatchOption};
-ghost use Rattle.pc_reports.specs.Report.{body_of, entries_from, report_of, with_entry};
+ghost use Rattle.pc_reports.specs.Report.{body_of, entries_from, is_cut_off, report_of, with_entry};
 ghost use Rattle.pc_reports.specs.Statements.{Gives, is_query};
 
 use crate::block::block_of;
@@ -9,13 +9,25 @@ use crate::lines::{is_query, said_in};
 use pc_list::Seq;
 use std::alloc::Global;
 
-/// What the blocks of a report or of a document say, in their order, or the first line that may not stand there.
+/// What the blocks of a report or of a document say, in their order. Else the first line that may stand nowhere; else 0,
+/// for a document that is cut off; else the query line of the first block that is none.
 #[tactic(auto, unfolding(crate::specs::Report::report_of))]
 pub fn read_report(alloc: Global, bytes: &[u8]) -> Result<Seq<Entry>, NoReport>
     ensures { Gives result (report_of bytes.now) }
 {
     let lines = said_in(alloc, bytes)?;
+    if is_cut_off(bytes) {
+        return Err(NoReport::Line(0));
+    }
     entries_of(alloc, lines.as_slice())
+}
+
+// Whether it begins as a document and does not end as one.
+#[tactic(auto, unfolding(crate::specs::Report::is_cut_off))]
+fn is_cut_off(bytes: &[u8]) -> bool
+    ensures { result ≡ is_cut_off bytes.now }
+{
+    bytes.starts_with(b"pc 1\n".as_slice()) && !bytes.ends_with(b"end\n".as_slice())
 }
 
 fn entries_of(alloc: Global, lines: &[Line]) -> Result<Seq<Entry>, NoReport>
