@@ -2,7 +2,7 @@
 use super::*;
 use pc_reports::{NoReport, read_report};
 
-static REFUSED: [(&[u8], u64); 34] = [
+static REFUSED: [(&[u8], u64); 35] = [
     (b"x\n", 1),
     (b"\n", 1),
     (b"query count", 1),
@@ -16,6 +16,10 @@ static REFUSED: [(&[u8], u64); 34] = [
     (b"pc 2\n", 1),
     (b"pc 1\nend\n", 2),
     (b"pc 1\nrelation possible\n", 2),
+    (
+        b"pc 1\nquery count\ntree own\nrelation possible\nlow 3 exact\nhigh 7 exact\n",
+        0,
+    ),
     (b"query count\n\n", 2),
     (b"query count\nsome more\n", 2),
     (b"query count\ntree new\n", 2),
