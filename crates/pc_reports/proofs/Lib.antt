@@ -1,0 +1,3 @@
+pub mod Reading
+pub mod Splits
+pub mod Utf8

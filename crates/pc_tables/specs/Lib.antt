@@ -1,0 +1,4 @@
+pub mod Decimals
+pub mod Names
+pub mod Ratios
+pub mod Table

@@ -1,0 +1,36 @@
+ghost use Rattle.std.specs.Prelude.{◌≡◌, ◌≤◌, ◌+◌, map, string_bytes};
+ghost use Rattle.pc_view_run.specs.Replies.{is_call};
+ghost use Rattle.pc_view_run.specs.Views.{Views, cut_off};
+
+use crate::ended::Ended;
+use crate::reply::respond;
+use pc_base::{Put, Shelf, Sink};
+use std::alloc::Global;
+
+/// Does what the words ask: reads a report from the standard input and writes its table, or the line that says why
+/// not, by one put.
+#[tactic(auto, using(crate::proofs::Puts::puts))]
+pub fn view<F: Shelf, K: Sink>(alloc: Global, words: &[String], files: &mut F, out: &mut K) -> Ended
+    ensures views { Views (is_call (map string_bytes words.now)) (F.told files.old) (F.told files.new) (K.told out.old) (K.told out.new) result }
+    ensures loads { (F.told files.new).calls ≤ (F.told files.old).calls + 1 }
+    ensures puts { (K.told out.new).calls ≤ (K.told out.old).calls + 1 }
+{
+    let Ok(reply) = respond(alloc, words, files) else {
+        return Ended::Memory;
+    };
+    match out.put(reply.text.as_slice()) {
+        Put::All => reply.status,
+        Put::Failed => cut_off(reply.status),
+        Put::Memory => Ended::Memory,
+    }
+}
+
+/// A table that was cut off is a write fault; the line of a refusal keeps its status.
+fn cut_off(status: Ended) -> Ended
+    ensures { result ≡ cut_off status }
+{
+    match status {
+        Ended::Settled | Ended::Open | Ended::Impossible => Ended::WriteFault,
+        _ => status,
+    }
+}
