@@ -1,0 +1,128 @@
+-- What a call of `pc_draft` comes to: its words, what the loads of its files gave, and what was put.
+use Rattle.std.specs.Prelude.{◌≡◌, ◌⊎◌, ℕ, ⊤, List, [], ◌∷◌, codes, bytes_eq, cond, Option, Some, None, Result, Ok, Err}
+use Rattle.pc_model.specs.declared.schema.Schema.{Schema}
+use Rattle.pc_model.specs.declared.constraint.Constraint.{Constraint}
+use Rattle.pc_model.specs.declared.fault.FileKind.{FileKind}
+use Rattle.pc_model.specs.declared.fault.FileKind.TheVariants as kinds
+use Rattle.pc_model.specs.declared.fault.Reason.TheVariants as reasons
+use Rattle.pc_model.specs.declared.fault.Fault.{Fault}
+use Rattle.pc_model.specs.Refusals.{fault_at}
+use Rattle.pc_model.specs.Texts.{file_limit}
+use Rattle.pc_base.specs.declared.outside.Loaded.TheVariants as loads
+use Rattle.pc_base.specs.declared.outside.Put.{Put}
+use Rattle.pc_base.specs.declared.outside.Put.TheVariants as puts
+use Rattle.pc_base.specs.declared.status.Status.{Status}
+use Rattle.pc_base.specs.declared.status.Status.TheVariants as ended
+use Rattle.pc_base.specs.Shelves.{IsLoad, IsPut, ShelfState, SinkState}
+use Rattle.pc_schema.specs.SchemaFile.{schema_of}
+use Rattle.pc_lang.specs.Files.{constraints_of}
+use Rattle.pc_sql.specs.Statement.{sql_text}
+use Rattle.pc_draft_run.specs.declared.stop.Stop.{Stop}
+use Rattle.pc_draft_run.specs.declared.stop.Stop.TheVariants as stops
+use Rattle.pc_draft_run.specs.Texts.{fault_line, malformed_line, usage_line}
+
+-- the names of the two files, and that of the table
+pub record Names : Type 0 where
+  pub schema : List ℕ
+  pub constraints : List ℕ
+  pub table : List ℕ
+
+abbrev pub asked : List (List ℕ) → Option Names
+asked (command ∷ schema ∷ constraints ∷ table ∷ []) = cond (bytes_eq command (codes "sql")) (Some (record { schema = schema; constraints = constraints; table = table })) None
+asked words = None
+
+-- ---- one file
+
+-- the whole file was loaded, with these bytes
+abbrev pub IsWhole : ShelfState → ShelfState → List ℕ → List ℕ → Type 0
+IsWhole before after name bytes = IsLoad before name file_limit loads.Whole bytes after
+
+-- it was loaded whole and is refused by its reader, or it is too long
+abbrev pub IsRefusedFile : {X : Type 0} → ShelfState → ShelfState → FileKind → List ℕ → (List ℕ → Result X Fault) → Fault → Type 0
+IsRefusedFile before after kind name value_of fault =
+    ((bytes : List ℕ) × IsWhole before after name bytes × (value_of bytes ≡ Err fault))
+    ⊎ ((bytes : List ℕ) × IsLoad before name file_limit loads.Long bytes after × (fault ≡ fault_at kind 0 reasons.TooLong))
+
+-- one load of the file, and what is read of the bytes that it gave
+abbrev pub Reads : {X : Type 0} → ShelfState → ShelfState → FileKind → List ℕ → (List ℕ → Result X Fault) → Result X Stop → Type 0
+Reads before after kind name value_of (Ok x) = (bytes : List ℕ) × IsWhole before after name bytes × (value_of bytes ≡ Ok x)
+Reads before after kind name value_of (Err (stops.Refused fault)) = IsRefusedFile before after kind name value_of fault
+Reads before after kind name value_of (Err (stops.Unread file)) = (file ≡ kind) × (bytes : List ℕ) × IsLoad before name file_limit loads.Failed bytes after
+Reads before after kind name value_of (Err stops.Memory) = ⊤
+
+-- ---- both files
+
+abbrev pub ReadsSchema : ShelfState → ShelfState → Names → Result Schema Stop → Type 0
+ReadsSchema before after names result = Reads before after kinds.Schema names.schema schema_of result
+
+abbrev pub ReadsConstraints : ShelfState → ShelfState → Names → Schema → Result (List Constraint) Stop → Type 0
+ReadsConstraints before after names schema result = Reads before after kinds.Constraints names.constraints (constraints_of schema) result
+
+-- both are accepted, and the text is the statement for them
+pub record IsStatement (before after : ShelfState) (names : Names) (text : List ℕ) : Type 0 where
+  pub middle : ShelfState
+  pub schema : Schema
+  pub constraints : List Constraint
+  pub first : ReadsSchema before middle names (Ok schema)
+  pub second : ReadsConstraints middle after names schema (Ok constraints)
+  pub said : text ≡ sql_text schema constraints names.table
+
+-- the schema is accepted, and the constraints are not
+pub record StopsLater (before after : ShelfState) (names : Names) (stop : Stop) : Type 0 where
+  pub middle : ShelfState
+  pub schema : Schema
+  pub first : ReadsSchema before middle names (Ok schema)
+  pub second : ReadsConstraints middle after names schema (Err stop)
+
+abbrev pub Drafts : ShelfState → ShelfState → Names → Result (List ℕ) Stop → Type 0
+Drafts before after names (Ok text) = IsStatement before after names text
+Drafts before after names (Err stop) = ReadsSchema before after names (Err stop) ⊎ StopsLater before after names stop
+
+-- ---- the reply
+
+abbrev pub Replies : ShelfState → ShelfState → Names → Status → List ℕ → Type 0
+Replies before after names ended.Done text = Drafts before after names (Ok text)
+Replies before after names ended.SaidNo text = ⊥
+Replies before after names ended.Usage text = ⊥
+Replies before after names ended.Malformed text = (fault : Fault) × Drafts before after names (Err (stops.Refused fault)) × (text ≡ malformed_line fault)
+Replies before after names ended.ReadFault text = (file : FileKind) × Drafts before after names (Err (stops.Unread file)) × (text ≡ fault_line file)
+Replies before after names ended.WriteFault text = ⊥
+Replies before after names ended.Memory text = ⊥
+
+-- words that are no command load nothing
+abbrev pub Responds : ShelfState → ShelfState → Option Names → Status → List ℕ → Type 0
+Responds before after None status text = (status ≡ ended.Usage) × (text ≡ usage_line) × (after ≡ before)
+Responds before after (Some names) status text = Replies before after names status text
+
+-- ---- the call
+
+pub record Call : Type 0 where
+  pub words : List (List ℕ)
+  pub before : ShelfState
+  pub after : ShelfState
+  pub sink : SinkState
+  pub left : SinkState
+
+-- this is replied, and one put of it did this
+abbrev pub Says : Call → Status → List ℕ → Put → Type 0
+Says call status text put = Responds call.before call.after (asked call.words) status text × IsPut call.sink text put call.left
+
+-- A statement is done where the whole of it is put, and a write fault where it is not; a line of a refusal stays what it says.
+abbrev pub Means : Call → Status → Type 0
+Means call ended.Done = (text : List ℕ) × Says call ended.Done text puts.All
+Means call ended.SaidNo = ⊥
+Means call ended.Usage = (text : List ℕ) × (put : Put) × Says call ended.Usage text put
+Means call ended.Malformed = (text : List ℕ) × (put : Put) × Says call ended.Malformed text put
+Means call ended.ReadFault = (text : List ℕ) × (put : Put) × Says call ended.ReadFault text put
+Means call ended.WriteFault = (text : List ℕ) × Says call ended.Done text puts.Failed
+Means call ended.Memory = (call.left ≡ call.sink) ⊎ ((text : List ℕ) × IsPut call.sink text puts.Memory call.left)
+
+-- the status where a put failed
+abbrev pub after_failed_put : Status → Status
+after_failed_put ended.Done = ended.WriteFault
+after_failed_put ended.SaidNo = ended.SaidNo
+after_failed_put ended.Usage = ended.Usage
+after_failed_put ended.Malformed = ended.Malformed
+after_failed_put ended.ReadFault = ended.ReadFault
+after_failed_put ended.WriteFault = ended.WriteFault
+after_failed_put ended.Memory = ended.Memory

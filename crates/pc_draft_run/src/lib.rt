@@ -1,0 +1,150 @@
+//! The run of `pc_draft`: a statement of SQL that tests constraints on a full table, from the bytes of files.
+#![tactic(auto)]
+
+ghost use Rattle.std.specs.Prelude.{◌≡◌, IfOk, map, string_bytes};
+ghost use Rattle.pc_model.specs.WellFormed.{IsWellFormed};
+ghost use Rattle.pc_sql.specs.Statement.{sql_text};
+ghost use Rattle.pc_base.specs.declared.status.Status.TheVariants as ended;
+ghost use Rattle.pc_draft_run.specs.Texts.{usage_line};
+ghost use Rattle.pc_draft_run.specs.Draft.{Drafts, Means, Replies, Responds, after_failed_put, asked};
+
+mod line;
+mod loading;
+mod stop;
+
+use crate::line::{fault_line, malformed_line, usage_line};
+use crate::loading::{load_constraints, load_schema};
+use crate::stop::Stop;
+use pc_base::{Put, Shelf, Sink, Status};
+use pc_list::Seq;
+use pc_model::{Constraint, Schema};
+use pc_num::Memory;
+use pc_sql::put_sql;
+use std::alloc::Global;
+
+/// The status with which a run ends, and the text that it writes.
+#[derive(Debug, Drop)]
+struct Reply {
+    status: Status,
+    text: Seq<u8>,
+}
+
+/// Runs the command that the words are, `sql SCHEMA CONSTRAINTS TABLE`: loads the schema, and where it is accepted the
+/// constraints, and writes the statement or the line of a refusal by at most one put.
+pub fn draft<F: Shelf, K: Sink>(
+    alloc: Global,
+    words: &[String],
+    files: &mut F,
+    out: &mut K,
+) -> Status
+    ensures { Means (record { words = map string_bytes words.now; before = F.told files.old; after = F.told files.new; sink = K.told out.old; left = K.told out.new }) result }
+{
+    let Ok(reply) = respond(alloc, words, files) else {
+        return Status::Memory;
+    };
+    match out.put(reply.text.as_slice()) {
+        Put::All => reply.status,
+        Put::Failed => after_failed_put(reply.status),
+        Put::Memory => Status::Memory,
+    }
+}
+
+/// A statement that was cut off is a write fault; the line of a refusal keeps its status.
+fn after_failed_put(status: Status) -> Status
+    ensures { result ≡ after_failed_put status }
+{
+    match status {
+        Status::Done => Status::WriteFault,
+        _ => status,
+    }
+}
+
+/// The reply to any words.
+fn respond<F: Shelf>(alloc: Global, words: &[String], files: &mut F) -> Result<Reply, Memory>
+    ensures { IfOk result (λ reply. Responds (F.told files.old) (F.told files.new) (asked (map string_bytes words.now)) reply.status reply.text) }
+{
+    match words {
+        [command, schema, constraints, table] => {
+            if command.as_str() != "sql" {
+                return usage(alloc);
+            }
+            let schema = schema.as_str();
+            reply_to(alloc, files, schema, constraints.as_str(), table.as_str())
+        }
+        _ => usage(alloc),
+    }
+}
+
+fn usage(alloc: Global) -> Result<Reply, Memory>
+    ensures { IfOk result (λ reply. (reply.status ≡ ended.Usage) × (reply.text ≡ usage_line)) }
+{
+    Ok(Reply {
+        status: Status::Usage,
+        text: Seq::from_vec(usage_line(alloc)?.into_bytes()),
+    })
+}
+
+/// The reply to a command.
+fn reply_to<F: Shelf>(
+    alloc: Global,
+    files: &mut F,
+    schema: &str,
+    constraints: &str,
+    table: &str,
+) -> Result<Reply, Memory>
+    ensures { IfOk result (λ reply. Replies (F.told files.old) (F.told files.new) (record { schema = schema.now; constraints = constraints.now; table = table.now }) reply.status reply.text) }
+{
+    match drafted(alloc, files, schema, constraints, table) {
+        Ok(text) => Ok(Reply {
+            status: Status::Done,
+            text,
+        }),
+        Err(Stop::Refused(fault)) => Ok(Reply {
+            status: Status::Malformed,
+            text: Seq::from_vec(malformed_line(alloc, fault)?.into_bytes()),
+        }),
+        Err(Stop::Unread(file)) => Ok(Reply {
+            status: Status::ReadFault,
+            text: Seq::from_vec(fault_line(alloc, file)?.into_bytes()),
+        }),
+        Err(Stop::Memory) => Err(Memory),
+    }
+}
+
+/// The statement for the files of these names, or why there is none.
+fn drafted<F: Shelf>(
+    alloc: Global,
+    files: &mut F,
+    schema: &str,
+    constraints: &str,
+    table: &str,
+) -> Result<Seq<u8>, Stop>
+    ensures { Drafts (F.told files.old) (F.told files.new) (record { schema = schema.now; constraints = constraints.now; table = table.now }) result }
+{
+    let read = match load_schema(alloc, files, schema) {
+        Ok(read) => read,
+        Err(stop) => return Err(stop),
+    };
+    let held = match load_constraints(alloc, files, constraints, &read) {
+        Ok(held) => held,
+        Err(stop) => return Err(stop),
+    };
+    match statement(alloc, &read, held.as_slice(), table) {
+        Ok(text) => Ok(text),
+        Err(_) => Err(Stop::Memory),
+    }
+}
+
+fn statement(
+    alloc: Global,
+    schema: &Schema,
+    constraints: &[Constraint],
+    table: &str,
+) -> Result<Seq<u8>, Memory>
+    requires { IsWellFormed schema.now }
+    ensures { IfOk result (λ text. text ≡ sql_text schema.now constraints.now table.now) }
+{
+    let mut text = Vec::new(alloc);
+    put_sql(alloc, schema, constraints, table, &mut text)?;
+    Ok(Seq::from_vec(text))
+}

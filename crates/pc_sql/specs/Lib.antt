@@ -1,0 +1,3 @@
+pub mod Conditions
+pub mod Statement
+pub mod Texts
