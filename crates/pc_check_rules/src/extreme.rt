@@ -1,6 +1,6 @@
 /// One of the two ends of a range.
 #[derive(Clone, Copy, Debug, PartialEq, Eq)]
-pub(crate) enum Extreme {
+pub enum Extreme {
     Low,
     High,
 }

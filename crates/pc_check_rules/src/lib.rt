@@ -9,6 +9,7 @@ mod extreme;
 mod fractions;
 mod gains;
 mod halt;
+mod laws;
 mod numbers;
 mod programs;
 mod ratios;
@@ -24,7 +25,10 @@ mod walk;
 pub use cells::{GatheredCell, cells_of};
 pub use cuts::judge_cuts;
 pub use ends::{judge_high, judge_low};
+pub use extreme::Extreme;
 pub use halt::Halt;
+pub use laws::formed_values_are_measured;
+pub use programs::{chosen_program, even_program, program_towards};
 pub use rules::{
     CUTS, HIGH_ENDS, LACKS, LEAVES, LOW_ENDS, MULTIPLIERS, NAMES_AND_TREES, POSSIBLE_RUNS,
     RELATIONS, SPLITS, VALUES_OF_RUNS,

@@ -18,7 +18,7 @@ use pc_proof::program_of;
 use std::alloc::Global;
 
 /// The program of a search tree that shows a value to be an end.
-pub(crate) fn program_towards(
+pub fn program_towards(
     alloc: Global,
     scene: &Scene<'_>,
     extreme: Extreme,
@@ -119,7 +119,7 @@ fn open_caps(
 }
 
 /// The program with the same gain for each cell.
-pub(crate) fn even_program(alloc: Global, scene: &Scene<'_>, gain: i128) -> Result<Program, Memory>
+pub fn even_program(alloc: Global, scene: &Scene<'_>, gain: i128) -> Result<Program, Memory>
     requires limited { AreLimited scene.now.constraints.now }
     ensures program { IfOk result (IsProgramIn scene.now (even_program gain)) }
     ensures is_program { IfOk result IsProgram }
@@ -129,11 +129,7 @@ pub(crate) fn even_program(alloc: Global, scene: &Scene<'_>, gain: i128) -> Resu
 }
 
 /// The program with a gain for each chosen cell.
-pub(crate) fn chosen_program(
-    alloc: Global,
-    scene: &Scene<'_>,
-    gain: i128,
-) -> Result<Program, Memory>
+pub fn chosen_program(alloc: Global, scene: &Scene<'_>, gain: i128) -> Result<Program, Memory>
     requires limited { AreLimited scene.now.constraints.now }
     ensures program { IfOk result (IsProgramIn scene.now (chosen_program gain)) }
     ensures is_program { IfOk result IsProgram }

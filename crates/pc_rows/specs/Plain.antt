@@ -46,7 +46,7 @@ pub record SpellsPlainly (bytes text : List ℕ) (schema : Schema) (rows : List 
   pub of_bytes : text_of bytes ≡ Ok text
   pub fields : records default_config (strip_bom text) ≡ table_fields schema rows
 
--- the lines of a file without quotes, split at their commas, are the plain fields of rows of the domain
+-- the lines of a file without quotes and lone CR, split at their commas, are the plain fields of rows of the domain
 pub record SpellsByLines (bytes text : List ℕ) (schema : Schema) (rows : List Row) : Type 0 where
   pub own : AreOf schema rows
   pub of_bytes : text_of bytes ≡ Ok text

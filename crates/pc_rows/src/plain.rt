@@ -10,7 +10,7 @@ pub fn reads_plain_fields()
     ensures { (bytes text : List ℕ) (schema : Schema) (rows : List Row) → SpellsPlainly bytes text schema rows → rows_of schema bytes ≡ Ok rows }
 {}
 
-/// Each such list is read from lines without quotes that have its plain fields between their commas.
+/// Each such list is read from lines without quotes and lone CR that have its plain fields between their commas.
 #[tactic(auto, using(crate::proofs::PlainFields::reads_plain_lines))]
 pub fn reads_plain_lines()
     ensures { (bytes text : List ℕ) (schema : Schema) (rows : List Row)

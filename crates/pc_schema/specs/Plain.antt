@@ -25,7 +25,7 @@ pub record SpellsPlainly (bytes text : List ℕ) (schema : Schema) : Type 0 wher
   pub of_bytes : text_of bytes ≡ Ok text
   pub fields : records default_config (strip_bom text) ≡ map column_fields schema.columns
 
--- the lines of a file without quotes, split at their commas, are the plain fields of a well-formed schema
+-- the lines of a file without quotes and lone CR, split at their commas, are the plain fields of a well-formed schema
 pub record SpellsByLines (bytes text : List ℕ) (schema : Schema) : Type 0 where
   pub well_formed : IsWellFormed schema
   pub of_bytes : text_of bytes ≡ Ok text

@@ -9,7 +9,7 @@ pub fn reads_plain_fields()
     ensures { (bytes text : List ℕ) (schema : Schema) → SpellsPlainly bytes text schema → schema_of bytes ≡ Ok schema }
 {}
 
-/// Each well-formed schema is read from lines without quotes that have its plain fields between their commas.
+/// Each well-formed schema is read from lines without quotes and lone CR that have its plain fields between their commas.
 #[tactic(auto, using(crate::proofs::PlainFields::reads_plain_lines))]
 pub fn reads_plain_lines()
     ensures { (bytes text : List ℕ) (schema : Schema)

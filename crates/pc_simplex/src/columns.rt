@@ -10,7 +10,7 @@ use pc_program_bound::Program;
 use pc_simplex_tableau::Columns;
 use std::alloc::Global;
 
-/// The columns of the first phase. Steps name columns by numbers below 2^32, so more columns than that are too many to be held.
+/// The columns of the first phase. Steps name columns by numbers of 32 bits, so 2^32 columns or more are too many.
 pub(crate) fn first_columns(
     alloc: Global,
     p: &Program,
