@@ -1,4 +1,2 @@
-pub mod Decimals
 pub mod Names
-pub mod Ratios
 pub mod Table

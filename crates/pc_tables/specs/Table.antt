@@ -4,7 +4,7 @@ use Rattle.std.specs.List.{flat_map}
 use Rattle.csv.specs.Writing.{default_writer, row_text}
 use Rattle.pc_reports.specs.declared.entry.Entry.{Entry}
 use Rattle.pc_reports.specs.declared.entry.SaidEnd.{SaidEnd}
-use Rattle.pc_tables.specs.Decimals.{decimal_of}
+use Rattle.pc_decimals.specs.Decimals.{decimal_of}
 use Rattle.pc_tables.specs.Names.{group_text, lack_text, mark_text, said_text}
 
 abbrev pub header : List (List ℕ)

@@ -2,9 +2,9 @@ ghost use Rattle.std.specs.Prelude.{◌≡◌, map, IfOk};
 ghost use Rattle.csv.specs.Writing.{default_writer, row_text};
 ghost use Rattle.pc_tables.specs.Table.{bare_fields, fields_of, full_fields, ranged_fields};
 
-use crate::decimal::decimal_of;
 use crate::names::{group_text, lack_text, mark_text, said_text};
 use csv::WriterBuilder;
+use pc_decimals::decimal_of;
 use pc_num::Memory;
 use pc_reports::{Entry, SaidEnd};
 use std::alloc::Global;

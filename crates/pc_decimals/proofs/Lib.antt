@@ -1,0 +1,2 @@
+pub mod OutsideQuotients
+pub mod Sizes

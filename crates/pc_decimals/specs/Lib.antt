@@ -1,0 +1,4 @@
+pub mod Decimals
+pub mod Numbers
+pub mod Outside
+pub mod Ratios
