@@ -1,0 +1,4 @@
+pub mod Escaping
+pub mod Growing
+pub mod Parting
+pub mod Rowing

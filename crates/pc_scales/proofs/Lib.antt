@@ -1,0 +1,4 @@
+pub mod Hulls
+pub mod Placing
+pub mod Runs
+pub mod Widths
