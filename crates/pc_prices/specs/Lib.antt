@@ -1,0 +1,2 @@
+pub mod Nudges
+pub mod Prices

@@ -1,0 +1,4 @@
+pub mod Parts
+pub mod Ranks
+pub mod Tallies
+pub mod Texts

@@ -1,0 +1,5 @@
+pub mod Adds
+pub mod BlockSteps
+pub mod Scenes
+pub mod States
+pub mod Told
