@@ -1,13 +1,14 @@
 -- What a run writes and how it ends.
-use Rattle.std.specs.Prelude.{◌≡◌, ℕ, ◌⊎◌, ◌++◌, Bool, List, take, Some, IfSome}
+use Rattle.std.specs.Prelude.{◌≡◌, ℕ, ◌⊎◌, ◌++◌, List, take, Some, IfSome}
 use Rattle.pc_base.specs.Counts.{Rose}
 use Rattle.pc_base.specs.Shelves.{ShelfState, SinkState}
 use Rattle.pc_view_run.specs.declared.ended.Ended.{Ended}
 use Rattle.pc_view_run.specs.declared.ended.Ended.TheVariants as ends
 use Rattle.pc_view_run.specs.declared.reply.Reply.{Reply}
 use Rattle.pc_view_run.specs.Replies.{Responds}
+use Rattle.pc_view_run.specs.Words.{Asked}
 
--- a table that was cut off is a write fault; the line of a refusal keeps its status
+-- a text that was cut off is a write fault; the line of a refusal keeps its status
 abbrev pub cut_off : Ended → Ended
 cut_off ends.Settled = ends.WriteFault
 cut_off ends.Open = ends.WriteFault
@@ -32,8 +33,8 @@ abbrev pub Writes : SinkState → SinkState → Reply → Ended → Type 0
 Writes before after reply ended =
     ((ended ≡ reply.status) × IsWritten before after reply.text) ⊎ ((ended ≡ cut_off reply.status) × IsCutOff before after reply.text)
 
--- the reply to words that are the call or not was written, or there was no memory and nothing was written
-abbrev pub Views : Bool → ShelfState → ShelfState → SinkState → SinkState → Ended → Type 0
-Views call shelf shelf_after sink sink_after ended =
-    ((reply : Reply) × Responds call shelf shelf_after reply × Writes sink sink_after reply ended)
+-- the reply to what words ask for was written, or there was no memory and nothing was written
+abbrev pub Views : Asked → ShelfState → ShelfState → SinkState → SinkState → Ended → Type 0
+Views asked shelf shelf_after sink sink_after ended =
+    ((reply : Reply) × Responds asked shelf shelf_after reply × Writes sink sink_after reply ended)
     ⊎ ((ended ≡ ends.Memory) × (sink_after.kept ≡ sink.kept))

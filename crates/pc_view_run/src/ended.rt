@@ -4,19 +4,19 @@ ghost use Rattle.pc_view_run.specs.Codes.{code_of};
 /// How a run ended.
 #[derive(Clone, Copy, Debug, PartialEq, Eq)]
 pub enum Ended {
-    /// The table is written, and all that it says is settled.
+    /// The text is written, and all that a report says is settled.
     Settled,
     /// It is written, and an end is outer, or something is undecided.
     Open,
     /// It is written, and for a block no lost rows are possible.
     Impossible,
-    /// The words are no call, or the input is no report.
+    /// The words are no command, or the input or a file is refused.
     Refused,
-    /// The input could not be read.
+    /// The input or a file could not be read.
     ReadFault,
-    /// The table could not be written.
+    /// The text could not be written.
     WriteFault,
-    /// There was no memory for the table.
+    /// There was no memory for the text.
     Memory,
 }
 

@@ -1,5 +1,5 @@
 ghost use Rattle.std.specs.Prelude.{◌≡◌, ◌≤◌, ◌+◌, map, string_bytes};
-ghost use Rattle.pc_view_run.specs.Replies.{is_call};
+ghost use Rattle.pc_view_run.specs.Words.{asked};
 ghost use Rattle.pc_view_run.specs.Views.{Views, cut_off};
 
 use crate::ended::Ended;
@@ -7,12 +7,12 @@ use crate::reply::respond;
 use pc_base::{Put, Shelf, Sink};
 use std::alloc::Global;
 
-/// Does what the words ask: reads a report from the standard input and writes its table, or the line that says why
-/// not, by one put.
+/// Does what the words ask: reads what `pc` wrote from the standard input, and writes a table, a picture or the reasons of it,
+/// or the line that says why not, by one put.
 #[tactic(auto, using(crate::proofs::Puts::puts))]
 pub fn view<F: Shelf, K: Sink>(alloc: Global, words: &[String], files: &mut F, out: &mut K) -> Ended
-    ensures views { Views (is_call (map string_bytes words.now)) (F.told files.old) (F.told files.new) (K.told out.old) (K.told out.new) result }
-    ensures loads { (F.told files.new).calls ≤ (F.told files.old).calls + 1 }
+    ensures views { Views (asked (map string_bytes words.now)) (F.told files.old) (F.told files.new) (K.told out.old) (K.told out.new) result }
+    ensures loads { (F.told files.new).calls ≤ (F.told files.old).calls + 3 }
     ensures puts { (K.told out.new).calls ≤ (K.told out.old).calls + 1 }
 {
     let Ok(reply) = respond(alloc, words, files) else {
@@ -25,7 +25,7 @@ pub fn view<F: Shelf, K: Sink>(alloc: Global, words: &[String], files: &mut F, o
     }
 }
 
-/// A table that was cut off is a write fault; the line of a refusal keeps its status.
+/// A text that was cut off is a write fault; the line of a refusal keeps its status.
 fn cut_off(status: Ended) -> Ended
     ensures { result ≡ cut_off status }
 {

@@ -6,6 +6,7 @@ use std::test::Fail;
 mod faults;
 mod refused;
 mod tables;
+mod views;
 
 const CALL: [&str; 1] = ["table"];
 

@@ -85,8 +85,14 @@ fn the_line_of_what_is_no_report(rt: HostRuntime) -> Result<(), Fail> {
     Ok(())
 }
 
-static NO_CALLS: [&[&str]; 5] = [
+const USAGE: &str = "usage: pc_view table | chart | svg\n       pc_view why SCHEMA CONSTRAINTS\n";
+
+static NO_CALLS: [&[&str]; 9] = [
     &[],
+    &["why"],
+    &["why", "schema.csv"],
+    &["why", "schema.csv", "constraints.txt", "x"],
+    &["table", "schema.csv", "constraints.txt"],
     &["tables"],
     &["table", "table"],
     &["-h"],
@@ -95,7 +101,7 @@ static NO_CALLS: [&[&str]; 5] = [
 
 #[test]
 fn words_that_are_no_call(rt: HostRuntime) -> Result<(), Fail> {
-    let ending = ("usage: pc_view table\n", Ended::Refused);
+    let ending = (USAGE, Ended::Refused);
     for words in &NO_CALLS {
         assert!(rt;
             ends(rt.alloc(), words, b"".as_slice(), ending)?,

@@ -1,0 +1,37 @@
+-- The lines that tell why nothing is shown.
+use Rattle.std.specs.Prelude.{◌≡◌, ℕ, List, [], ◌∷◌, codes, decimal}
+use Rattle.std.specs.List.{concat}
+use Rattle.pc_loads.specs.declared.stop.Stop.{Stop}
+use Rattle.pc_loads.specs.declared.stop.Stop.TheVariants as stops
+use Rattle.pc_loads.specs.Texts.{fault_line, line_break, malformed_line}
+use Rattle.pc_view_run.specs.declared.ended.Ended.TheVariants as ends
+use Rattle.pc_view_run.specs.declared.reply.Reply.{Reply}
+use Rattle.pc_view_run.specs.declared.input.Input.{Input}
+use Rattle.pc_view_run.specs.declared.input.Input.TheVariants as inputs
+
+abbrev pub usage_text : List ℕ
+usage_text =
+    concat (codes "usage: pc_view table | chart | svg" ∷ line_break ∷ codes "       pc_view why SCHEMA CONSTRAINTS" ∷ line_break ∷ [])
+
+abbrev pub usage : Reply
+usage = record { status = ends.Refused; text = usage_text }
+
+-- what the input is to be
+abbrev pub input_text : Input → List ℕ
+input_text inputs.Report = codes "report"
+input_text inputs.Document = codes "document"
+
+abbrev pub malformed : Input → ℕ → Reply
+malformed input line = record { status = ends.Refused; text = concat (codes "malformed " ∷ input_text input ∷ codes " at " ∷ decimal line ∷ line_break ∷ []) }
+
+abbrev pub unread : Input → Reply
+unread input = record { status = ends.ReadFault; text = concat (codes "read fault: " ∷ input_text input ∷ line_break ∷ []) }
+
+abbrev pub unfit : Reply
+unfit = record { status = ends.Refused; text = concat (codes "the document does not fit these constraints" ∷ line_break ∷ []) }
+
+-- .. why a file is not read; without memory there is no reply
+abbrev pub IsStopReply : Stop → Reply → Type 0
+IsStopReply (stops.Refused fault) reply = reply ≡ record { status = ends.Refused; text = malformed_line fault }
+IsStopReply (stops.Unread file) reply = reply ≡ record { status = ends.ReadFault; text = fault_line file }
+IsStopReply stops.Memory reply = ⊥
