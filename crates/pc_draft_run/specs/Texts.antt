@@ -1,5 +1,5 @@
--- The lines that tell why there is no statement, as `pc` prints them.
-use Rattle.std.specs.Prelude.{ℕ, List, [], ◌∷◌, ◌++◌, codes, decimal}
+-- The lines that tell why there is no answer, as `pc` prints them.
+use Rattle.std.specs.Prelude.{ℕ, List, [], ◌∷◌, codes, decimal}
 use Rattle.std.specs.List.{concat}
 use Rattle.pc_model.specs.declared.fault.FileKind.{FileKind}
 use Rattle.pc_model.specs.declared.fault.Fault.{Fault}
@@ -9,7 +9,7 @@ abbrev pub line_break : List ℕ
 line_break = 10 ∷ []
 
 abbrev pub usage_line : List ℕ
-usage_line = codes "usage: pc_draft sql SCHEMA CONSTRAINTS TABLE" ++ line_break
+usage_line = concat (codes "usage: pc_draft sql SCHEMA CONSTRAINTS TABLE" ∷ line_break ∷ codes "       pc_draft schema ROWS [COLUMN..]" ∷ line_break ∷ [])
 
 abbrev pub fault_line : FileKind → List ℕ
 fault_line file = concat (codes "read fault: " ∷ file_name_of file ∷ line_break ∷ [])

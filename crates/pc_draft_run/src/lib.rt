@@ -1,4 +1,5 @@
-//! The run of `pc_draft`: a statement of SQL that tests constraints on a full table, from the bytes of files.
+//! The run of `pc_draft`, from the bytes of files: a statement of SQL that tests constraints on a full table, or a draft of a
+//! schema for a row file.
 #![tactic(auto)]
 
 ghost use Rattle.std.specs.Prelude.{◌≡◌, IfOk, map, string_bytes};
@@ -6,14 +7,16 @@ ghost use Rattle.pc_model.specs.WellFormed.{IsWellFormed};
 ghost use Rattle.pc_sql.specs.Statement.{sql_text};
 ghost use Rattle.pc_base.specs.declared.status.Status.TheVariants as ended;
 ghost use Rattle.pc_draft_run.specs.Texts.{usage_line};
-ghost use Rattle.pc_draft_run.specs.Draft.{Drafts, Means, Replies, Responds, after_failed_put, asked};
+ghost use Rattle.pc_draft_run.specs.Draft.{Drafts, Means, Replies, Responds, after_failed_put, asked, asked_drafting, asked_statement};
 
 mod line;
 mod loading;
+mod sketch;
 mod stop;
 
 use crate::line::{fault_line, malformed_line, usage_line};
 use crate::loading::{load_constraints, load_schema};
+use crate::sketch::sketch;
 use crate::stop::Stop;
 use pc_base::{Put, Shelf, Sink, Status};
 use pc_list::Seq;
@@ -24,13 +27,13 @@ use std::alloc::Global;
 
 /// The status with which a run ends, and the text that it writes.
 #[derive(Debug, Drop)]
-struct Reply {
-    status: Status,
-    text: Seq<u8>,
+pub(crate) struct Reply {
+    pub status: Status,
+    pub text: Seq<u8>,
 }
 
-/// Runs the command that the words are, `sql SCHEMA CONSTRAINTS TABLE`: loads the schema, and where it is accepted the
-/// constraints, and writes the statement or the line of a refusal by at most one put.
+/// Runs the command that the words are, `sql SCHEMA CONSTRAINTS TABLE` or `schema ROWS [COLUMN..]`: loads its files, each at
+/// most once, and writes the answer or the line of a refusal by at most one put.
 pub fn draft<F: Shelf, K: Sink>(
     alloc: Global,
     words: &[String],
@@ -49,12 +52,12 @@ pub fn draft<F: Shelf, K: Sink>(
     }
 }
 
-/// A statement that was cut off is a write fault; the line of a refusal keeps its status.
+/// An answer that was cut off is a write fault; the line of a refusal keeps its status.
 fn after_failed_put(status: Status) -> Status
     ensures { result ≡ after_failed_put status }
 {
     match status {
-        Status::Done => Status::WriteFault,
+        Status::Done | Status::SaidNo => Status::WriteFault,
         _ => status,
     }
 }
@@ -64,14 +67,45 @@ fn respond<F: Shelf>(alloc: Global, words: &[String], files: &mut F) -> Result<R
     ensures { IfOk result (λ reply. Responds (F.told files.old) (F.told files.new) (asked (map string_bytes words.now)) reply.status reply.text) }
 {
     match words {
-        [command, schema, constraints, table] => {
-            if command.as_str() != "sql" {
-                return usage(alloc);
+        [command, rest @ ..] => {
+            if command.as_str() == "sql" {
+                return respond_statement(alloc, rest, files);
             }
+            if command.as_str() == "schema" {
+                return respond_drafting(alloc, rest, files);
+            }
+            usage(alloc)
+        }
+        [] => usage(alloc),
+    }
+}
+
+fn respond_statement<F: Shelf>(
+    alloc: Global,
+    words: &[String],
+    files: &mut F,
+) -> Result<Reply, Memory>
+    ensures { IfOk result (λ reply. Responds (F.told files.old) (F.told files.new) (asked_statement (map string_bytes words.now)) reply.status reply.text) }
+{
+    match words {
+        [schema, constraints, table] => {
             let schema = schema.as_str();
             reply_to(alloc, files, schema, constraints.as_str(), table.as_str())
         }
         _ => usage(alloc),
+    }
+}
+
+fn respond_drafting<F: Shelf>(
+    alloc: Global,
+    words: &[String],
+    files: &mut F,
+) -> Result<Reply, Memory>
+    ensures { IfOk result (λ reply. Responds (F.told files.old) (F.told files.new) (asked_drafting (map string_bytes words.now)) reply.status reply.text) }
+{
+    match words {
+        [file, columns @ ..] => sketch(alloc, files, file.as_str(), columns),
+        [] => usage(alloc),
     }
 }
 
@@ -84,7 +118,7 @@ fn usage(alloc: Global) -> Result<Reply, Memory>
     })
 }
 
-/// The reply to a command.
+/// The reply to a command of a statement.
 fn reply_to<F: Shelf>(
     alloc: Global,
     files: &mut F,

@@ -8,7 +8,10 @@ use std::alloc::{AllocError, Global};
 pub(crate) fn usage_line(alloc: Global) -> Result<String, AllocError>
     ensures { IfOk result (λ text. string_bytes text ≡ usage_line) }
 {
-    String::from_str(alloc, "usage: pc_draft sql SCHEMA CONSTRAINTS TABLE\n")
+    String::from_str(
+        alloc,
+        "usage: pc_draft sql SCHEMA CONSTRAINTS TABLE\n       pc_draft schema ROWS [COLUMN..]\n",
+    )
 }
 
 /// The line for a file that could not be read.

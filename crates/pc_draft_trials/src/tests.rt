@@ -1,2 +1,4 @@
 mod calls;
+mod drafts;
+mod sketches;
 mod statements;

@@ -10,7 +10,8 @@ const RULE: &str = "a: true => day = 2, 0..1\n";
 const STATEMENT: &str =
     "SELECT 'a' AS \"constraint\",\n  COUNT(CASE WHEN (1 = 1) THEN 1 END) AS \"rows\",\n  COUNT(CASE WHEN ((1 = 1)) AND NOT (\"day\" BETWEEN 2 AND 2) THEN 1 END) AS \"broken\",\n  CASE WHEN COUNT(CASE WHEN (1 = 1) THEN 1 END) BETWEEN 0 AND 1 THEN 'yes' ELSE 'no' END AS \"within\"\nFROM \"sales\";\n";
 
-const USAGE: &str = "usage: pc_draft sql SCHEMA CONSTRAINTS TABLE\n";
+const USAGE: &str =
+    "usage: pc_draft sql SCHEMA CONSTRAINTS TABLE\n       pc_draft schema ROWS [COLUMN..]\n";
 
 const WORDS: [&str; 4] = ["sql", "s", "c", "sales"];
 
@@ -82,8 +83,10 @@ fn refused_files(rt: HostRuntime) -> Result<(), Fail> {
     Ok(())
 }
 
-static NO_COMMANDS: [&[&str]; 7] = [
+static NO_COMMANDS: [&[&str]; 9] = [
     &[],
+    &["schema"],
+    &["Schema", "r"],
     &["sql"],
     &["sql", "s", "c"],
     &["sql", "s", "c", "sales", "more"],

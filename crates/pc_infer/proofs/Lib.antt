@@ -1,0 +1,5 @@
+pub mod Drafting
+pub mod Named
+pub mod SchemaText
+pub mod Texts
+pub mod Wider
