@@ -1,0 +1,43 @@
+# Completions of pc, pc_view and pc_draft for bash: source this file.
+_pc() {
+  local word=${COMP_WORDS[COMP_CWORD]} command=${COMP_WORDS[1]} previous=${COMP_WORDS[COMP_CWORD - 1]}
+  COMPREPLY=()
+  if [ "$COMP_CWORD" -eq 1 ]; then
+    mapfile -t COMPREPLY < <(compgen -W "bound prove check show conflict quantile session gen" -- "$word")
+  elif [ "$previous" = --nodes ]; then
+    mapfile -t COMPREPLY < <(compgen -W "1 1000 10000 100000" -- "$word")
+  elif [[ $word == -* && $command =~ ^(bound|prove|conflict|quantile|session)$ ]]; then
+    mapfile -t COMPREPLY < <(compgen -W "--nodes" -- "$word")
+  elif [ "$command" != gen ]; then
+    compopt -o filenames
+    mapfile -t COMPREPLY < <(compgen -f -- "$word")
+  fi
+}
+_pc_view() {
+  local word=${COMP_WORDS[COMP_CWORD]}
+  COMPREPLY=()
+  if [ "$COMP_CWORD" -eq 1 ]; then
+    mapfile -t COMPREPLY < <(compgen -W "table chart svg why" -- "$word")
+  elif [[ ${COMP_WORDS[1]} == why && $COMP_CWORD -le 3 ]]; then
+    compopt -o filenames
+    mapfile -t COMPREPLY < <(compgen -f -- "$word")
+  fi
+}
+_pc_draft() {
+  local word=${COMP_WORDS[COMP_CWORD]} command=${COMP_WORDS[1]}
+  COMPREPLY=()
+  if [ "$COMP_CWORD" -eq 1 ]; then
+    mapfile -t COMPREPLY < <(compgen -W "schema sql" -- "$word")
+  elif [[ $command == schema && $COMP_CWORD -eq 2 || $command == sql && $COMP_CWORD -le 3 ]]; then
+    compopt -o filenames
+    mapfile -t COMPREPLY < <(compgen -f -- "$word")
+  elif [[ $command == schema && -r ${COMP_WORDS[2]} ]]; then
+    # the names of the header, where they are plain
+    local header
+    IFS= read -r header < "${COMP_WORDS[2]}"
+    mapfile -t COMPREPLY < <(IFS=,; compgen -W "${header%$'\r'}" -- "$word")
+  fi
+}
+complete -F _pc pc ./pc
+complete -F _pc_view pc_view ./pc_view
+complete -F _pc_draft pc_draft ./pc_draft
