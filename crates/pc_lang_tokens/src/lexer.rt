@@ -57,9 +57,9 @@ fn starts_blank(text: &[u8]) -> bool
     }
 }
 
-// The token that begins the text, and how many bytes it takes.
+/// The token that begins the text, and how many bytes it takes.
 #[tactic(auto, unfolding(crate::specs::Lexing::token_at))]
-fn token_at(alloc: Global, text: &[u8]) -> Result<(Token, usize), ReadStop>
+pub fn token_at(alloc: Global, text: &[u8]) -> Result<(Token, usize), ReadStop>
     ensures { Answers result (token_at text.now) }
 {
     let number = number_len(text);

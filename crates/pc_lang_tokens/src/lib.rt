@@ -11,7 +11,7 @@ mod word;
 
 pub use again::{names_read_back, numbers_are_spelled, tokens_are_spelled, tokens_read_back};
 pub use front::front_name;
-pub use lexer::read_tokens;
+pub use lexer::{read_tokens, token_at};
 pub use put::put_name;
 pub use texts::put_tokens;
 pub use token::{Symbol, Token, Word};

@@ -3,7 +3,6 @@
 
 mod laws;
 mod limits;
-mod rest;
 mod rests;
 
 pub use laws::{

@@ -2,11 +2,10 @@ ghost use Rattle.std.specs.Prelude.{◌≡◌, length, IfOk, SomeIff};
 ghost use Rattle.pc_program_bound.specs.Allocation.{IsProgram, constraints_of};
 ghost use Rattle.pc_prices.specs.Prices.{HasFitRests, rests_of};
 
-use crate::rest::rest;
 use pc_list::Seq;
 use pc_model::Mult;
 use pc_num::Memory;
-use pc_program_bound::Program;
+use pc_program_bound::{Program, rest};
 use std::alloc::Global;
 
 /// What is left of each cell's gain, or none where a number on the way does not fit.

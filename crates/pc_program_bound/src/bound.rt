@@ -6,7 +6,7 @@ ghost use Rattle.pc_program_bound.specs.Bound.{IsFit, HasFitWidth, bound_of, con
 ghost use Rattle.pc_program_bound.specs.Parts.{IsAround, AreFitConstraints, AreFitCells};
 
 use crate::Program;
-use crate::rest::rest;
+use crate::left::rest;
 use crate::running::{Running, with_cell, with_constraint};
 use crate::short::short_shares;
 use pc_model::Mult;

@@ -4,8 +4,8 @@
 mod allocation;
 mod bound;
 mod laws;
+mod left;
 mod program;
-mod rest;
 mod running;
 mod short;
 mod tables;
@@ -18,5 +18,6 @@ pub use laws::{
     bounds_hold, nodes_spell_their_splits, relaxed_bounds_hold, trees_bound_allocations,
     void_means_none,
 };
+pub use left::rest;
 pub use program::{Program, is_box, is_program};
 pub use walk::tree_bound;

@@ -2,7 +2,7 @@ use Rattle.std.proofs.Common.{arith, pos, ◌≡◌, ap, ◌∙◌, get_or, to_z
 use Rattle.std.specs.Int.{w128}
 use Rattle.std.proofs.lemmas.Int.{ints}
 use Rattle.pc_program_bound.proofs.Widths.{rest_is}
-use Rattle.pc_program_bound.proofs.rest.rest.Goals as goal
+use Rattle.pc_program_bound.proofs.left.rest.Goals as goal
 
 pub returns : goal.returns
 returns c =

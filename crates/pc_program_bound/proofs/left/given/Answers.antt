@@ -6,7 +6,7 @@ use Rattle.pc_program_bound.specs.Bound.{IsFit}
 use Rattle.pc_program_bound.specs.Parts.{taken}
 use Rattle.pc_program_bound.proofs.Steps.{no_sums_fit, more_sums_fit, next_sum_fits, passed}
 use Rattle.pc_program_bound.proofs.SumBelow.{sum_below-zero, sum_below-more}
-use Rattle.pc_prices.proofs.rest.given.Goals as goal
+use Rattle.pc_program_bound.proofs.left.given.Goals as goal
 
 pub loop-place-init : goal.loop-place-init
 loop-place-init c = record { summed = rw (sum_below-zero (taken c.args.mask c.args.by.now)) (search rules); fits = no_sums_fit _ }

@@ -2,7 +2,7 @@ use Rattle.std.proofs.Common.{◌≡◌}
 use Rattle.pc_program_bound.specs.Sums.{sum_below}
 use Rattle.pc_program_bound.specs.Bound.{AreFit}
 use Rattle.pc_program_bound.specs.Parts.{taken}
-use Rattle.pc_program_bound.proofs.rest.given.Given as goal
+use Rattle.pc_program_bound.proofs.left.given.Given as goal
 
 -- the sum so far
 abbrev pub invariant-loop-place : goal.invariant-loop-place
