@@ -1,6 +1,4 @@
-ghost use Rattle.std.specs.Prelude.{◌≡◌, ◌≤◌, ◌<◌, ◌+◌, IfOk, codes, unsigned_abs};
-ghost use Rattle.std.specs.List.{starts_with};
-ghost use Rattle.pc_num.specs.Put.{scaled_text};
+ghost use Rattle.std.specs.Prelude.{◌≡◌, ◌≤◌, ◌<◌, ◌+◌, IfOk, unsigned_abs};
 ghost use Rattle.pc_num.specs.Scaled.{signed};
 ghost use Rattle.pc_decimals.specs.Decimals.{averaged, away, decimal_of, is_average, millionths, rounded};
 ghost use Rattle.pc_decimals.specs.Numbers.{greatest};

@@ -1,21 +1,15 @@
 -- What a call of `pc_draft` comes to: its words, what the loads of its files gave, and what was put.
-use Rattle.std.specs.Prelude.{◌≡◌, ◌⊎◌, ℕ, ⊤, List, [], ◌∷◌, codes, bytes_eq, cond, Option, Some, None, Result, Ok, Err}
+use Rattle.std.specs.Prelude.{◌≡◌, ◌⊎◌, ℕ, List, [], ◌∷◌, codes, bytes_eq, cond, Option, Some, None, Result, Ok, Err}
 use Rattle.pc_model.specs.declared.schema.Schema.{Schema}
 use Rattle.pc_model.specs.declared.constraint.Constraint.{Constraint}
 use Rattle.pc_model.specs.declared.fault.FileKind.{FileKind}
 use Rattle.pc_model.specs.declared.fault.FileKind.TheVariants as kinds
-use Rattle.pc_model.specs.declared.fault.Reason.TheVariants as reasons
 use Rattle.pc_model.specs.declared.fault.Fault.{Fault}
-use Rattle.pc_model.specs.Refusals.{fault_at}
-use Rattle.pc_model.specs.Texts.{file_limit}
-use Rattle.pc_base.specs.declared.outside.Loaded.TheVariants as loads
 use Rattle.pc_base.specs.declared.outside.Put.{Put}
 use Rattle.pc_base.specs.declared.outside.Put.TheVariants as puts
 use Rattle.pc_base.specs.declared.status.Status.{Status}
 use Rattle.pc_base.specs.declared.status.Status.TheVariants as ended
-use Rattle.pc_base.specs.Shelves.{IsLoad, IsPut, ShelfState, SinkState}
-use Rattle.pc_schema.specs.SchemaFile.{schema_of}
-use Rattle.pc_lang.specs.Files.{constraints_of}
+use Rattle.pc_base.specs.Shelves.{IsPut, ShelfState, SinkState}
 use Rattle.pc_sql.specs.Statement.{sql_text}
 use Rattle.pc_schema.specs.Plain.{plain_text}
 use Rattle.pc_infer.specs.declared.draft.Drafted.{Drafted}
@@ -23,9 +17,11 @@ use Rattle.pc_infer.specs.declared.draft.Drafted.TheVariants as drafts
 use Rattle.pc_infer.specs.declared.why.Misfit.{Misfit}
 use Rattle.pc_infer.specs.Draft.{drafted_of}
 use Rattle.pc_infer.specs.Texts.{misfit_lines}
-use Rattle.pc_draft_run.specs.declared.stop.Stop.{Stop}
-use Rattle.pc_draft_run.specs.declared.stop.Stop.TheVariants as stops
-use Rattle.pc_draft_run.specs.Texts.{fault_line, malformed_line, usage_line}
+use Rattle.pc_loads.specs.declared.stop.Stop.{Stop}
+use Rattle.pc_loads.specs.declared.stop.Stop.TheVariants as stops
+use Rattle.pc_loads.specs.Loading.{Reads, ReadsConstraints, ReadsSchema}
+use Rattle.pc_loads.specs.Texts.{fault_line, malformed_line}
+use Rattle.pc_draft_run.specs.Texts.{usage_line}
 
 -- the names of the two files, and that of the table
 pub record Names : Type 0 where
@@ -57,52 +53,27 @@ asked (command ∷ words) =
     cond (bytes_eq command (codes "sql")) (asked_statement words) (cond (bytes_eq command (codes "schema")) (asked_drafting words) None)
 asked [] = None
 
--- ---- one file
-
--- the whole file was loaded, with these bytes
-abbrev pub IsWhole : ShelfState → ShelfState → List ℕ → List ℕ → Type 0
-IsWhole before after name bytes = IsLoad before name file_limit loads.Whole bytes after
-
--- it was loaded whole and is refused by its reader, or it is too long
-abbrev pub IsRefusedFile : {X : Type 0} → ShelfState → ShelfState → FileKind → List ℕ → (List ℕ → Result X Fault) → Fault → Type 0
-IsRefusedFile before after kind name value_of fault =
-    ((bytes : List ℕ) × IsWhole before after name bytes × (value_of bytes ≡ Err fault))
-    ⊎ ((bytes : List ℕ) × IsLoad before name file_limit loads.Long bytes after × (fault ≡ fault_at kind 0 reasons.TooLong))
-
--- one load of the file, and what is read of the bytes that it gave
-abbrev pub Reads : {X : Type 0} → ShelfState → ShelfState → FileKind → List ℕ → (List ℕ → Result X Fault) → Result X Stop → Type 0
-Reads before after kind name value_of (Ok x) = (bytes : List ℕ) × IsWhole before after name bytes × (value_of bytes ≡ Ok x)
-Reads before after kind name value_of (Err (stops.Refused fault)) = IsRefusedFile before after kind name value_of fault
-Reads before after kind name value_of (Err (stops.Unread file)) = (file ≡ kind) × (bytes : List ℕ) × IsLoad before name file_limit loads.Failed bytes after
-Reads before after kind name value_of (Err stops.Memory) = ⊤
-
 -- ---- both files
-
-abbrev pub ReadsSchema : ShelfState → ShelfState → Names → Result Schema Stop → Type 0
-ReadsSchema before after names result = Reads before after kinds.Schema names.schema schema_of result
-
-abbrev pub ReadsConstraints : ShelfState → ShelfState → Names → Schema → Result (List Constraint) Stop → Type 0
-ReadsConstraints before after names schema result = Reads before after kinds.Constraints names.constraints (constraints_of schema) result
 
 -- both are accepted, and the text is the statement for them
 pub record IsStatement (before after : ShelfState) (names : Names) (text : List ℕ) : Type 0 where
   pub middle : ShelfState
   pub schema : Schema
   pub constraints : List Constraint
-  pub first : ReadsSchema before middle names (Ok schema)
-  pub second : ReadsConstraints middle after names schema (Ok constraints)
+  pub first : ReadsSchema before middle names.schema (Ok schema)
+  pub second : ReadsConstraints middle after names.constraints schema (Ok constraints)
   pub said : text ≡ sql_text schema constraints names.table
 
 -- the schema is accepted, and the constraints are not
 pub record StopsLater (before after : ShelfState) (names : Names) (stop : Stop) : Type 0 where
   pub middle : ShelfState
   pub schema : Schema
-  pub first : ReadsSchema before middle names (Ok schema)
-  pub second : ReadsConstraints middle after names schema (Err stop)
+  pub first : ReadsSchema before middle names.schema (Ok schema)
+  pub second : ReadsConstraints middle after names.constraints schema (Err stop)
 
 abbrev pub Drafts : ShelfState → ShelfState → Names → Result (List ℕ) Stop → Type 0
 Drafts before after names (Ok text) = IsStatement before after names text
-Drafts before after names (Err stop) = ReadsSchema before after names (Err stop) ⊎ StopsLater before after names stop
+Drafts before after names (Err stop) = ReadsSchema before after names.schema (Err stop) ⊎ StopsLater before after names stop
 
 -- ---- a draft of a schema
 

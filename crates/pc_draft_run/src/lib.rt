@@ -12,14 +12,12 @@ ghost use Rattle.pc_draft_run.specs.Draft.{Drafts, Means, Replies, Responds, aft
 mod line;
 mod loading;
 mod sketch;
-mod stop;
 
-use crate::line::{fault_line, malformed_line, usage_line};
-use crate::loading::{load_constraints, load_schema};
+use crate::line::usage_line;
 use crate::sketch::sketch;
-use crate::stop::Stop;
 use pc_base::{Put, Shelf, Sink, Status};
 use pc_list::Seq;
+use pc_loads::{Stop, fault_line, load_constraints, load_schema, malformed_line};
 use pc_model::{Constraint, Schema};
 use pc_num::Memory;
 use pc_sql::put_sql;

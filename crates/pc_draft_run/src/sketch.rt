@@ -1,16 +1,13 @@
-ghost use Rattle.std.specs.Prelude.{◌≡◌, map, string_bytes, IfOk};
-ghost use Rattle.pc_base.specs.declared.status.Status.TheVariants as ended;
-ghost use Rattle.pc_schema.specs.Plain.{plain_text};
+ghost use Rattle.std.specs.Prelude.{map, string_bytes, IfOk};
 ghost use Rattle.pc_infer.specs.Draft.{IsDraft};
 ghost use Rattle.pc_draft_run.specs.Draft.{Sketches, Tells};
 
 use crate::Reply;
-use crate::line::{fault_line, malformed_line};
 use crate::loading::load_draft;
-use crate::stop::Stop;
 use pc_base::{Shelf, Status};
 use pc_infer::{Drafted, misfit_lines, schema_text};
 use pc_list::Seq;
+use pc_loads::{Stop, fault_line, malformed_line};
 use pc_num::Memory;
 use std::alloc::Global;
 

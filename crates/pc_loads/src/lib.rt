@@ -6,5 +6,5 @@ mod loading;
 mod stop;
 
 pub use line::{fault_line, malformed_line};
-pub use loading::{load_constraints, load_schema};
+pub use loading::{load_constraints, load_schema, too_long};
 pub use stop::Stop;

@@ -57,7 +57,8 @@ pub fn load_constraints<F: Shelf>(
     }
 }
 
-fn too_long(file: FileKind) -> Fault
+/// The refusal of a file that is longer than one may be.
+pub fn too_long(file: FileKind) -> Fault
     ensures { result ≡ fault_at file 0 reasons.TooLong }
 {
     Fault {

@@ -1,5 +1,5 @@
 -- Programs of constraints of which one has another limit.
-use Rattle.std.proofs.Common.{◌≡◌, ◌≢◌, ℕ, zero, suc, ◌+◌, ◌/◌, ◌<◌, ◌≤◌, ◌&&◌, Bool, true, false, inl, inr, ◌⊎◌, List, [], ◌∷◌, ◌++◌, map, length, get_or, refl, ap, sym, ◌∙◌, arith, Option, Some, None, if◌then◌else◌}
+use Rattle.std.proofs.Common.{◌≡◌, ◌≢◌, ℕ, zero, suc, ◌+◌, ◌/◌, ◌<◌, ◌≤◌, Bool, true, false, inl, inr, ◌⊎◌, List, [], ◌∷◌, ◌++◌, map, length, get_or, refl, ap, sym, ◌∙◌, arith}
 use Rattle.std.specs.Prelude.{◌==◌, nat_lt, ℤ, min, fold, unwrap_or}
 use Rattle.std.proofs.Math.Nat.{min-eq_left, min-eq_right}
 use Rattle.std.specs.List.{reduce}
@@ -12,10 +12,9 @@ use Rattle.pc_model.specs.Places.{has_bit}
 use Rattle.pc_model.specs.Cells.{Class}
 use Rattle.pc_program_bound.specs.declared.program.Program.{Program}
 use Rattle.pc_program_bound.specs.Sums.{nat_at}
-use Rattle.pc_program_bound.specs.Allocation.{cells_of, constraints_of}
+use Rattle.pc_program_bound.specs.Allocation.{cells_of}
 use Rattle.pc_program_bound.specs.CellPrograms.{members, cap_of, program_with}
 use Rattle.pc_program_bound.proofs.CellPlaces.{no_class}
-use Rattle.pc_prices.specs.Prices.{is_capped_by}
 use Rattle.pc_prices.specs.Nudges.{AreNear, AreAlike, IsCapNudged, IsMostNudged, IsLeastNudged, HasNearMost, HasNearLeast}
 
 -- ---- least numbers

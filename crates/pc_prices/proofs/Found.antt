@@ -8,10 +8,10 @@ use Rattle.std.proofs.Math.Seq.{get_or-append_seam}
 use Rattle.pc_model.specs.declared.tree.Mult.{Mult}
 use Rattle.pc_program_bound.specs.declared.program.Program.{Program}
 use Rattle.pc_program_bound.specs.Sums.{sum_below, nat_at, int_at}
-use Rattle.pc_program_bound.specs.Allocation.{cells_of, constraints_of}
+use Rattle.pc_program_bound.specs.Allocation.{cells_of}
 use Rattle.pc_program_bound.specs.Bound.{IsFit, rest_of}
-use Rattle.pc_program_bound.proofs.SumBelow.{sum_below-zero, sum_below-suc, sum_below-more, sum_below-same}
-use Rattle.pc_prices.specs.Prices.{table, above_zero, is_capped, is_capped_by, capped_of, capped_part, with_capped, most_worth, least_worth, fitted, rests_of, worth_of}
+use Rattle.pc_program_bound.proofs.SumBelow.{sum_below-zero, sum_below-suc, sum_below-same}
+use Rattle.pc_prices.specs.Prices.{table, above_zero, is_capped, is_capped_by, capped_of, capped_part, with_capped, most_worth, fitted, rests_of, worth_of}
 use Rattle.pc_prices.specs.declared.limits.Worth.{Worth}
 
 -- ---- tables

@@ -1,5 +1,5 @@
 -- A bound moves by at most the worth of what is nudged.
-use Rattle.std.proofs.Common.{◌≡◌, ◌≢◌, ℕ, zero, suc, ◌+◌, ◌<◌, ◌≤◌, Bool, true, false, cond, inl, inr, ◌⊎◌, List, refl, ap, sym, ◌∙◌, arith}
+use Rattle.std.proofs.Common.{◌≡◌, ◌≢◌, ℕ, suc, ◌+◌, ◌<◌, ◌≤◌, Bool, true, false, cond, inl, inr, ◌⊎◌, List, refl, ap, ◌∙◌, arith}
 use Rattle.std.specs.Prelude.{ℤ, pos, neg_ℤ, ◌+ℤ◌, ◌*ℤ◌, ◌≤ℤ◌, ◌<ℤ◌, ◌==◌, int_lt}
 use Rattle.std.specs.Int.{int_max}
 use Rattle.std.proofs.lemmas.Int.{ints, clamps, by_lt_z}
@@ -13,7 +13,7 @@ use Rattle.pc_program_bound.specs.Bound.{rest_of, constraint_share, cell_share, 
 use Rattle.pc_program_bound.proofs.Ring.{mul-more, mul_mono, mul_anti}
 use Rattle.pc_program_bound.proofs.SumBelow.{sum_below-same, sum_below-add, sum_below-one, sum_below_mono}
 use Rattle.pc_prices.specs.Prices.{above_zero, is_capped_by, capped_part, most_worth, least_worth}
-use Rattle.pc_prices.specs.Nudges.{AreNear, AreWithin, AreAlike, IsCapNudged, IsMostNudged, IsLeastNudged}
+use Rattle.pc_prices.specs.Nudges.{AreNear, AreWithin, AreAlike, IsMostNudged, IsLeastNudged}
 
 -- ---- sums
 

@@ -1,4 +1,4 @@
-ghost use Rattle.std.specs.Prelude.{◌≡◌, ℕ, ℤ, List, length, ◌∷◌, ◌++◌};
+ghost use Rattle.std.specs.Prelude.{ℕ, ℤ, List, length, ◌∷◌, ◌++◌};
 ghost use Rattle.pc_model.specs.declared.constraint.Constraint.{Constraint};
 ghost use Rattle.pc_model.specs.declared.tree.Mult.{Mult};
 ghost use Rattle.pc_model.specs.Cells.{Class};

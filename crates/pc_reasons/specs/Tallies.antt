@@ -1,5 +1,5 @@
 -- What the lines of search trees make of each limit of each constraint.
-use Rattle.std.specs.Prelude.{ℕ, ◌+◌, ◌-◌, ◌/◌, ℤ, pos, int_lt, nat_abs, max, Bool, true, false, not, if◌then◌else◌, List, map, fold, replicate, Option, Some, None}
+use Rattle.std.specs.Prelude.{ℕ, ◌+◌, ◌-◌, ◌/◌, ℤ, pos, int_lt, nat_abs, max, Bool, true, false, if◌then◌else◌, List, map, fold, replicate, Option, Some, None}
 use Rattle.std.specs.List.{zip}
 use Rattle.pc_model.specs.declared.tree.Mult.{Mult}
 use Rattle.pc_model.specs.declared.tree.TreeNode.{TreeNode}

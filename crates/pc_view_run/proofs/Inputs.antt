@@ -1,8 +1,10 @@
 -- What a load of the input tells.
 use Rattle.std.proofs.Common.{◌≡◌, ℕ, List}
+use Rattle.pc_model.specs.declared.fault.Fault.{Fault}
 use Rattle.pc_model.specs.declared.schema.Schema.{Schema}
 use Rattle.pc_model.specs.declared.constraint.Constraint.{Constraint}
 use Rattle.pc_base.specs.Shelves.{IsLoad, ShelfState}
+use Rattle.pc_base.specs.declared.outside.Loaded.{Loaded}
 use Rattle.pc_base.specs.declared.outside.Loaded.TheVariants as loads
 use Rattle.pc_reports.specs.Report.{report_of}
 use Rattle.pc_view_run.specs.declared.input.Input.TheVariants as input
@@ -10,6 +12,7 @@ use Rattle.pc_view_run.specs.declared.reply.Reply.{Reply}
 use Rattle.pc_view_run.specs.declared.style.Style.{Style}
 use Rattle.pc_view_run.specs.Lines.{malformed, unread}
 use Rattle.pc_view_run.specs.Reasons.{IsReplyOver, TellsReasons}
+use Rattle.pc_view_run.specs.Refusals.{IsPointed, Points, PointsAfter, PointsIn}
 use Rattle.pc_view_run.specs.Reports.{Tells, input_name, limit, reported}
 
 module _ (before after : ShelfState) (into : List ℕ) (reply : Reply) where
@@ -36,3 +39,13 @@ module _ (before after : ShelfState) (into : List ℕ) (reply : Reply) where
 pub ruleset inputs = (tells_whole, tells_long, tells_failed)
 
 pub ruleset documents = (reasons_whole, reasons_long, reasons_failed)
+
+pub points_after : (name : List ℕ) (before middle after : ShelfState) (loaded : Loaded) (into : List ℕ) (reply : Reply) → IsLoad before input_name limit loaded into middle → PointsAfter name loaded into middle after reply → Points name before after reply
+points_after name before middle after loaded into reply load is = record { loaded = loaded; bytes = into; middle = middle; load = load; later = is }
+
+pub points_in : (name : List ℕ) (fault : Fault) (before after : ShelfState) (loaded : Loaded) (into : List ℕ) (reply : Reply) → IsLoad before name limit loaded into after → IsPointed fault loaded into reply → PointsIn name fault before after reply
+points_in name fault before after loaded into reply load is = (loaded, into, load, is)
+
+pub ruleset refusals = (points_after)
+
+pub ruleset pointed_files = (points_in)

@@ -1,6 +1,7 @@
 pub mod Codes
 pub mod Lines
 pub mod Reasons
+pub mod Refusals
 pub mod Replies
 pub mod Reports
 pub mod Settled

@@ -6,6 +6,7 @@ ghost use Rattle.pc_view_run.specs.Lines.{input_text};
 pub(crate) enum Input {
     Report,
     Document,
+    Refusal,
 }
 
 impl Input {
@@ -15,6 +16,7 @@ impl Input {
         match self {
             Input::Report => "report",
             Input::Document => "document",
+            Input::Refusal => "refusal",
         }
     }
 }

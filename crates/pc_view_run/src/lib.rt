@@ -3,8 +3,10 @@
 
 mod ended;
 mod input;
+mod laws;
 mod line;
 mod reasons;
+mod refusal;
 mod reply;
 mod report;
 mod run;
@@ -12,4 +14,5 @@ mod settled;
 mod style;
 
 pub use ended::Ended;
+pub use laws::refusals_are_read_back;
 pub use run::view;

@@ -9,7 +9,8 @@ use pc_loads::{Stop, fault_line, malformed_line};
 use pc_num::Memory;
 use std::alloc::Global;
 
-const USAGE: &str = "usage: pc_view table | chart | svg\n       pc_view why SCHEMA CONSTRAINTS\n";
+const USAGE: &str =
+    "usage: pc_view table | chart | svg\n       pc_view why SCHEMA CONSTRAINTS\n       pc_view fault FILE\n";
 
 pub(crate) fn usage(alloc: Global) -> Result<Reply, Memory>
     ensures { IfOk result (λ reply. reply ≡ usage) }

@@ -1,10 +1,11 @@
-ghost use Rattle.std.specs.Prelude.{◌≡◌, ◌≤◌, ◌+◌, IfOk, map, string_bytes};
+ghost use Rattle.std.specs.Prelude.{◌≤◌, ◌+◌, IfOk, map, string_bytes};
 ghost use Rattle.pc_view_run.specs.Replies.{Responds};
-ghost use Rattle.pc_view_run.specs.Words.{asked, asked_of_one, asked_of_three, report, reasons, nothing};
+ghost use Rattle.pc_view_run.specs.Words.{asked, asked_of_one, asked_of_two};
 
 use crate::ended::Ended;
 use crate::line::usage;
 use crate::reasons::explain;
+use crate::refusal::point;
 use crate::report::show;
 use crate::style::Style;
 use pc_base::Shelf;
@@ -30,6 +31,7 @@ pub(crate) fn respond<F: Shelf>(
 {
     match words {
         [word] => respond_to_one(alloc, word.as_str(), files),
+        [word, file] => respond_to_two(alloc, word.as_str(), files, file.as_str()),
         [word, schema, constraints] => {
             if word.as_str() != "why" {
                 return usage(alloc);
@@ -38,6 +40,21 @@ pub(crate) fn respond<F: Shelf>(
         }
         _ => usage(alloc),
     }
+}
+
+fn respond_to_two<F: Shelf>(
+    alloc: Global,
+    word: &str,
+    files: &mut F,
+    file: &str,
+) -> Result<Reply, Memory>
+    ensures responds { IfOk result (Responds (asked_of_two word.now file.now) (F.told files.old) (F.told files.new)) }
+    ensures loads { (F.told files.new).calls ≤ (F.told files.old).calls + 2 }
+{
+    if word != "fault" {
+        return usage(alloc);
+    }
+    point(alloc, files, file)
 }
 
 fn respond_to_one<F: Shelf>(alloc: Global, word: &str, files: &mut F) -> Result<Reply, Memory>

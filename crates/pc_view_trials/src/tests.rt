@@ -4,6 +4,7 @@ use std::alloc::Global;
 use std::test::Fail;
 
 mod faults;
+mod refusals;
 mod refused;
 mod tables;
 mod views;

@@ -1,6 +1,6 @@
 -- Search trees that are added to others.
-use Rattle.std.proofs.Common.{◌≡◌, ℕ, ◌+◌, ◌<◌, ◌≤◌, List, [], ◌∷◌, ◌++◌, map, length, get_or, All, refl, ap, sym, ◌∙◌, subst, append_assoc, append-nil, arith}
-use Rattle.std.specs.Prelude.{ℤ, pos, ◌≤ℤ◌}
+use Rattle.std.proofs.Common.{◌≡◌, ◌+◌, List, [], ◌∷◌, ◌++◌, map, length, get_or, All, ap, sym, ◌∙◌, append_assoc, append-nil, arith}
+use Rattle.std.specs.Prelude.{ℤ}
 use Rattle.std.proofs.lemmas.Int.{ints}
 use Rattle.std.proofs.lemmas.List.{length-map}
 use Rattle.std.proofs.lemmas.List.Elements.{All-nil, All-cons, All-append}
@@ -19,10 +19,9 @@ use Rattle.pc_check_rules.specs.declared.extreme.Extreme.{Extreme}
 use Rattle.pc_check_rules.specs.declared.extreme.Extreme.TheVariants.{Low, High}
 use Rattle.pc_check_rules.specs.declared.scene.Scene.{Scene}
 use Rattle.pc_check_rules.specs.Programs.{IsProgramIn, chosen_program, end_program, even_program}
-use Rattle.pc_check_rules.specs.Scene.{IsSceneOf}
 use Rattle.pc_reasons.specs.declared.part.Search.{Search}
 use Rattle.pc_reasons.specs.Parts.{HasDen, IsSought, Sought, sought_of}
-use Rattle.pc_why.specs.Adding.{AddsIn, AddsTrees}
+use Rattle.pc_why.specs.Adding.{AddsIn}
 use Rattle.pc_why.specs.Statements.{sought}
 
 -- ---- as many constraints as there are

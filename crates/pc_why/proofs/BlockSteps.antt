@@ -1,5 +1,5 @@
 -- The blocks of a document, as far as a loop has come: what is left decides.
-use Rattle.std.proofs.Common.{◌≡◌, ℕ, suc, ◌+◌, ◌<◌, ◌≤◌, List, [], ◌∷◌, ◌++◌, length, get_or, drop, All, Option, Some, None, IfSome, SomeIff, refl, ap, sym, subst, ◌∙◌, arith, add-one, drop-cons, append_assoc, append-nil}
+use Rattle.std.proofs.Common.{◌≡◌, ℕ, suc, ◌+◌, ◌<◌, ◌≤◌, List, ◌++◌, length, get_or, drop, All, Option, Some, None, IfSome, SomeIff, ap, sym, subst, ◌∙◌, add-one, drop-cons, append_assoc, append-nil}
 use Rattle.std.proofs.lemmas.List.{drop_all}
 use Rattle.csv.specs.Writing.{default_writer, row_text}
 use Rattle.pc_model.specs.declared.schema.Schema.{Schema}

@@ -1,12 +1,11 @@
 -- The scene of a block without observed rows.
-use Rattle.std.proofs.Common.{◌≡◌, ℕ, ◌≤◌, List, [], map, length, get_or, All, Option, Some, None, IsSome, IfSome, refl, sym, subst, arith}
-use Rattle.std.specs.Prelude.{pos, unwrap_or, option_map, IsSomeAnd, Result, Ok, Err, IfOk, SomeIff}
+use Rattle.std.proofs.Common.{◌≡◌, ℕ, List, map, All, Option, Some, None, IsSome, IfSome, refl, sym, subst, arith}
+use Rattle.std.specs.Prelude.{unwrap_or, option_map, IsSomeAnd, Result, Ok, Err, IfOk, SomeIff}
 use Rattle.pc_model.specs.declared.schema.Schema.{Schema}
 use Rattle.pc_model.specs.declared.constraint.Constraint.{Constraint}
 use Rattle.pc_model.specs.declared.tree.CutNode.{CutNode}
 use Rattle.pc_model.specs.declared.query.Agg.{Agg}
 use Rattle.pc_model.specs.declared.query.Agg.TheVariants.{Count, Sum, Min, Max, Avg}
-use Rattle.pc_model.specs.declared.query.Folded.{Folded}
 use Rattle.pc_model.specs.Accepted.{AreConstraints, IsColumnWhere, IsNumeric, Measures}
 use Rattle.pc_model.specs.Cells.{leaves_in}
 use Rattle.pc_proof.specs.declared.document.Block.{Block}

@@ -1,9 +1,8 @@
 -- Statements that are added to others.
-use Rattle.std.proofs.Common.{◌≡◌, ℕ, List, [], ◌∷◌, ◌++◌, map, length, All, Option, Some, None, refl, ap, sym, ◌∙◌, append_assoc, append-nil}
+use Rattle.std.proofs.Common.{◌≡◌, List, [], ◌∷◌, ◌++◌, map, length, ap, sym, ◌∙◌, append_assoc, append-nil}
 use Rattle.std.proofs.lemmas.List.Elements.{All-nil, All-cons, All-append}
 use Rattle.pc_proof.specs.Setting.{Setting}
 use Rattle.pc_check_rules.specs.declared.scene.Scene.{Scene}
-use Rattle.pc_check_rules.specs.Scene.{IsSceneOf}
 use Rattle.pc_reasons.specs.declared.part.Search.{Search}
 use Rattle.pc_reasons.specs.declared.part.Part.{Part}
 use Rattle.pc_reasons.specs.declared.part.Title.{Title}

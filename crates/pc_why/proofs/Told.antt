@@ -1,5 +1,5 @@
 -- The table of a document, and of the bytes of its text.
-use Rattle.std.proofs.Common.{◌≡◌, ℕ, List, ◌++◌, None, Some}
+use Rattle.std.proofs.Common.{ℕ, List, ◌++◌, None, Some}
 use Rattle.std.specs.Prelude.{Result, Ok, Err, IfOk, IfErr, SomeIff}
 use Rattle.csv.specs.Writing.{default_writer, row_text}
 use Rattle.pc_model.specs.declared.schema.Schema.{Schema}

@@ -1,5 +1,5 @@
 -- The statements of a block that rest on limits, in the order of its text.
-use Rattle.std.specs.Prelude.{◌≡◌, ℕ, pos, neg_ℤ, nat_abs, List, [], ◌∷◌, ◌++◌, Option, Some, None}
+use Rattle.std.specs.Prelude.{pos, neg_ℤ, nat_abs, List, [], ◌∷◌, ◌++◌, Option, Some, None}
 use Rattle.pc_num.specs.declared.Frac.{Frac}
 use Rattle.pc_model.specs.declared.query.Agg.{Agg}
 use Rattle.pc_model.specs.declared.query.Agg.TheVariants.{Count, Sum, Min, Max, Avg}

@@ -1,5 +1,5 @@
 -- The table of the limits that the statements of a document rest on.
-use Rattle.std.specs.Prelude.{◌≡◌, ℕ, pos, ⊤, List, [], ◌∷◌, ◌++◌, map, All, Option, Some, None, slice_get, Result, Ok, Err}
+use Rattle.std.specs.Prelude.{◌≡◌, ℕ, pos, ⊤, List, [], ◌∷◌, ◌++◌, All, Option, Some, None, slice_get}
 use Rattle.csv.specs.Writing.{default_writer, row_text}
 use Rattle.pc_model.specs.declared.schema.Schema.{Schema}
 use Rattle.pc_model.specs.declared.schema.Column.{Column}

@@ -85,15 +85,18 @@ fn the_line_of_what_is_no_report(rt: HostRuntime) -> Result<(), Fail> {
     Ok(())
 }
 
-const USAGE: &str = "usage: pc_view table | chart | svg\n       pc_view why SCHEMA CONSTRAINTS\n";
+const USAGE: &str =
+    "usage: pc_view table | chart | svg\n       pc_view why SCHEMA CONSTRAINTS\n       pc_view fault FILE\n";
 
-static NO_CALLS: [&[&str]; 9] = [
+static NO_CALLS: [&[&str]; 11] = [
     &[],
     &["why"],
     &["why", "schema.csv"],
     &["why", "schema.csv", "constraints.txt", "x"],
     &["table", "schema.csv", "constraints.txt"],
     &["tables"],
+    &["fault"],
+    &["fault", "rows.csv", "rows.csv"],
     &["table", "table"],
     &["-h"],
     &["table", "/dev/stdin"],

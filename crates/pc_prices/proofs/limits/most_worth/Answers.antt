@@ -1,11 +1,10 @@
-use Rattle.std.proofs.Common.{arith, ◌≡◌, ap, ◌∙◌, refl, get_or, pos, to_z, of_z, ◌+ℤ◌}
+use Rattle.std.proofs.Common.{arith, ◌≡◌, ap, ◌∙◌, get_or, pos, to_z, of_z}
 use Rattle.std.specs.Int.{w128}
 use Rattle.std.proofs.lemmas.Int.{ints, clamps}
-use Rattle.pc_program_bound.specs.Sums.{sum_below}
 use Rattle.pc_program_bound.specs.Bound.{IsFit}
 use Rattle.pc_program_bound.proofs.Steps.{passed}
 use Rattle.pc_program_bound.proofs.SumBelow.{sum_below-zero, sum_below-more}
-use Rattle.pc_prices.specs.Prices.{above_zero, capped_of}
+use Rattle.pc_prices.specs.Prices.{capped_of}
 use Rattle.pc_prices.proofs.Found.{front_fits, part_is}
 use Rattle.pc_prices.proofs.limits.most_worth.Goals as goal
 

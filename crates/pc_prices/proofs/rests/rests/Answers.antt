@@ -1,4 +1,4 @@
-use Rattle.std.proofs.Common.{arith, sym, ◌∙◌, ◌<◌, ℕ}
+use Rattle.std.proofs.Common.{arith, sym, ◌∙◌}
 use Rattle.std.proofs.lemmas.Int.{ints}
 use Rattle.pc_program_bound.specs.Bound.{rest_of, IsFitRest}
 use Rattle.pc_prices.proofs.Found.{table-zero, table_made, each_more}

@@ -1,4 +1,4 @@
-use Rattle.std.proofs.Common.{◌∙◌, sym, rules}
+use Rattle.std.proofs.Common.{◌∙◌, rules}
 use Rattle.pc_reasons.specs.Parts.{TreeFits, sought_of, statement_of}
 use Rattle.pc_reasons.specs.Tallies.{is_priced, tallies_of, with_tree}
 use Rattle.pc_reasons.proofs.Along.{mapped_more, mapped_stop}

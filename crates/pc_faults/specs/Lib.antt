@@ -1,0 +1,14 @@
+pub mod Beginnings
+pub mod Clauses
+pub mod Faults
+pub mod Lines
+pub mod Queries
+pub mod Records
+pub mod Refusals
+pub mod Sentences
+pub mod Spots
+pub mod Steps
+pub mod Suspects
+pub mod Tokens
+pub mod Walks
+pub mod Wants
