@@ -1,5 +1,8 @@
 pub mod Begun
+pub mod CsvBegins
 pub mod FieldLines
+pub mod GrammarWants
+pub mod LinesThrough
 pub mod NthLines
 pub mod NthRecords
 pub mod Utf8

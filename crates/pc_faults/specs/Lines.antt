@@ -1,5 +1,5 @@
 -- What is shown of a line, and of a file that has lines.
-use Rattle.std.specs.Prelude.{ℕ, zero, suc, List, [], ◌∷◌, codes, decimal, Option, Some, None, Result, Ok, Err}
+use Rattle.std.specs.Prelude.{ℕ, zero, suc, Bool, is_some, List, [], ◌∷◌, codes, decimal, Option, Some, None, Result, Ok, Err}
 use Rattle.std.specs.List.{concat}
 use Rattle.pc_model.specs.declared.fault.FileKind.{FileKind}
 use Rattle.pc_model.specs.declared.fault.FileKind.TheVariants as files
@@ -36,6 +36,10 @@ want_for files.Script = wants.Script scripts.Command
 want_for files.Schema = wants.Row
 want_for files.Rows = wants.Row
 want_for files.Document = wants.Row
+
+-- is a line of a file halted?
+abbrev pub is_halted : FileKind → List ℕ → Bool
+is_halted file line = is_some (walk_of (want_for file) line).halt
 
 abbrev pub advice : Reason → Stand → List ℕ
 advice reasons.Unexpected stand = expected_text stand.halt stand.want

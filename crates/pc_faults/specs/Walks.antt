@@ -1,5 +1,5 @@
 -- How far a line is gone through, byte by byte.
-use Rattle.std.specs.Prelude.{ℕ, ◌+◌, ◌-◌, ◌||◌, Bool, true, List, [], ◌∷◌, ◌++◌, nat_lt, Option, Some, None, is_some, Result, Ok, Err, if◌then◌else◌}
+use Rattle.std.specs.Prelude.{ℕ, ◌+◌, ◌-◌, ◌||◌, Bool, true, false, List, [], ◌∷◌, ◌++◌, nat_lt, Option, Some, None, is_some, Result, Ok, Err, if◌then◌else◌}
 use Rattle.pc_model.specs.declared.fault.Reason.{Reason}
 use Rattle.pc_lang_tokens.specs.declared.token.Token.{Token}
 use Rattle.pc_lang_tokens.specs.Lexing.{starts_blank, token_at}
@@ -60,3 +60,18 @@ ended stand = if is_some stand.halt || may_end stand.want then stand else halted
 -- a line gone through, of which this is wanted
 unfoldable pub walk_of : Want → List ℕ → Stand
 walk_of want line = ended (stands_from (start want) 1 line)
+
+-- what is wanted after tokens of which each may stand where it does
+abbrev pub next_of : Option Step → Option Want
+next_of (Some found) = Some found.next
+next_of None = None
+
+unfoldable pub want_from : Option Want → List Token → Option Want
+want_from None list = None
+want_from (Some want) [] = Some want
+want_from (Some want) (token ∷ rest) = want_from (next_of (step want token)) rest
+
+-- the line may end there
+abbrev pub may_end_at : Option Want → Bool
+may_end_at (Some want) = may_end want
+may_end_at None = false

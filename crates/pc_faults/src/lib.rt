@@ -5,6 +5,7 @@
 mod begin;
 mod clause;
 mod fault;
+mod laws;
 mod lines;
 mod pieces;
 mod query;
@@ -19,4 +20,5 @@ mod walk;
 mod want;
 
 pub use fault::fault_text;
+pub use laws::{read_lines_are_gone_through, records_begin_there};
 pub use refusal::read_refusal;
