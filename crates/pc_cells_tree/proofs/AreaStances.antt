@@ -1,5 +1,6 @@
 -- How a box stands to the boxes of an area, from the last one to the first.
-use Rattle.std.proofs.Common.{◌≡◌, ℕ, ◌+◌, ◌<◌, ◌≤◌, inl, inr, List, length, get_or, drop, sym, subst, All, Any}
+use Rattle.std.proofs.Common.{◌≡◌, ℕ, ◌+◌, ◌<◌, ◌≤◌, nat_lt, List, length, get_or, drop, sym, subst, All, Any}
+use Rattle.std.proofs.lemmas.Bool.{cond_both}
 use Rattle.std.proofs.lemmas.List.{drop_all, get_or_default}
 use Rattle.std.proofs.lemmas.List.Elements.{All-nil}
 use Rattle.pc_model.specs.declared.region.Region.{Region}
@@ -72,9 +73,10 @@ module _ (part : Region) (boxes : List Region) (place : ℕ) (d : Region) (there
   crossed faces areas.Inside after alike across gives found = subst (IsStanceFrom part boxes place) (sym gives) found
   crossed faces areas.Apart after alike across gives found =
       subst (IsStanceFrom part boxes place) (sym gives) (here faces across (apart_none part (drop (place + 1) boxes) (filled alike) found))
-  crossed faces (areas.Across other few) after alike across (inl e) found =
-      subst (IsStanceFrom part boxes place) (sym e) (found.0, found.1, none_from (IsInside part) boxes place d there across.not_inside found.2)
-  crossed faces (areas.Across other few) after alike across (inr e) found = subst (IsStanceFrom part boxes place) (sym e) (here faces across found.2)
+  crossed faces (areas.Across other few) after alike across gives found =
+      subst (IsStanceFrom part boxes place) (sym gives)
+      (cond_both (nat_lt few faces) (areas.Across other few) (areas.Across place faces) (IsStanceFrom part boxes place)
+      (λ kept. (found.0, found.1, none_from (IsInside part) boxes place d there across.not_inside found.2)) (λ new. here faces across found.2))
 
   pub stance-across : (stance : Stance) (faces : ℕ) (later after : AreaStance) → All (AreAlike part) boxes → IsStance part (get_or boxes place d) stance → stance ≡ Across faces →
       IsWithBox place faces later after → IsStanceFrom part boxes (place + 1) later → IsStanceFrom part boxes place after

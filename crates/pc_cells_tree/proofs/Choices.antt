@@ -1,5 +1,5 @@
 -- Cuts along the open faces of a box: each is of its column, and without one the box is inside.
-use Rattle.std.proofs.Common.{◌≡◌, ℕ, zero, suc, ◌+◌, ◌<◌, ◌≤◌, ◌==◌, nat_lt, int_le, int_lt, Bool, true, false, ℤ, pos, ◌≤ℤ◌, ◌<ℤ◌, ◌-ℤ◌, List, [], ◌∷◌, length, get_or, drop, Option, Some, None, is_some, if◌then◌else◌, MatchOption, ◌⊎◌, inl, inr, refl, sym, ◌∙◌, subst, true≢false, arith, lt-ltb}
+use Rattle.std.proofs.Common.{◌≡◌, ℕ, zero, suc, ◌+◌, ◌<◌, ◌≤◌, ◌==◌, nat_lt, int_le, int_lt, Bool, true, false, ℤ, pos, ◌≤ℤ◌, ◌<ℤ◌, ◌-ℤ◌, List, [], ◌∷◌, length, get_or, drop, Option, Some, None, is_some, if◌then◌else◌, MatchOption, refl, sym, ◌∙◌, subst, true≢false, arith, lt-ltb}
 use Rattle.std.specs.Int.{int_min, int_max}
 use Rattle.std.specs.Int.Bits.{bit_and}
 use Rattle.std.specs.Cmp.Lexicographic.{pointwise}
@@ -133,11 +133,12 @@ module _ (part region : Region) (xs ys : List Side) (is_xs : xs ≡ part.sides) 
   like_at : (place : ℕ) (d e : Side) → place < length xs → are_like (get_or xs place d) (get_or ys place e) ≡ true
   like_at place d e inside = like_in xs ys (rw (is_xs, is_ys) alike) place d e inside
 
-  -- the cut along a side
-  pub along : (place : ℕ) (d e : Side) (found : Option Cut) (cut : Cut) → place < length xs → found ≡ side_cut place (get_or xs place d) (get_or ys place e) → found ≡ Some cut → IsAlong part region cut
-  along place d e found cut inside f some =
+  -- the cut along a side, if there is one
+  pub cut_found : (place : ℕ) (d e : Side) (found other : Option Cut) → place < length xs → found ≡ side_cut place (get_or xs place d) (get_or ys place e) → found ≡ other →
+      side_cut place (side_at part place) (side_at region place) ≡ other
+  cut_found place d e found other inside f is =
       let inside_too : place < length ys = omega (arith, inside, as_long) in
-      (place, rw (sym is_xs) inside, rw (sym is_xs, sym is_ys, get_or_default xs place (Names 0) d inside, get_or_default ys place (Names 0) e inside_too) (sym f ∙ some))
+      rw (sym is_xs, sym is_ys, get_or_default xs place (Names 0) d inside, get_or_default ys place (Names 0) e inside_too) (sym f ∙ is)
 
   -- a side without a cut leaves the question to the sides after it
   pub passed : (place : ℕ) (d e : Side) (found : Option Cut) → place < length xs → found ≡ side_cut place (get_or xs place d) (get_or ys place e) → found ≡ None →
@@ -151,18 +152,13 @@ module _ (part region : Region) (xs ys : List Side) (is_xs : xs ≡ part.sides) 
   unfolding region_within
   all_passed place past e = rw (sym is_xs, sym is_ys, e) (pointwise_end is_within xs ys place past (omega (arith, past, as_long)))
 
-pub ruleset cuts = (as_long, along, passed, all_passed)
+pub ruleset cuts = (as_long, passed, all_passed)
 
 -- ---- the best of the cuts so far
 
 module _ (P : Cut → Type 0) where
   abbrev HasSuch : Option Candidate → Type 0 → Type 0
   HasSuch best A = MatchOption best A (λ (candidate : Candidate). P candidate.cut)
-
-  pub best_more : (before : Option Candidate) (after : Candidate) (cut : Cut) (A : Type 0) → HasSuch before A → P cut → MatchOption before (after.cut ≡ cut) (λ best. (after.cut ≡ best.cut) ⊎ (after.cut ≡ cut)) → P after.cut
-  best_more None after cut A says new e = subst P (sym e) new
-  best_more (Some best) after cut A says new (inl e) = subst P (sym e) says
-  best_more (Some best) after cut A says new (inr e) = subst P (sym e) new
 
   pub best_same : (before : Option Candidate) (A B : Type 0) → HasSuch before A → (A → B) → HasSuch before B
   best_same None A B says more = more says

@@ -2,7 +2,7 @@
 use Rattle.std.proofs.Common.{◌≡◌, ℕ, zero, suc, ◌+◌, ◌*◌, ◌/◌, ◌<◌, ◌≤◌, ◌^◌, cond, Bool, true, false, List, [], ◌∷◌, length, get_or, drop, refl, sym, ◌∙◌, ap, subst, arith, pow-suc, inl, inr, All, Any, length-drop}
 use Rattle.std.specs.Prelude.{⊤, Option, Some, None}
 use Rattle.std.specs.Int.{bit_at}
-use Rattle.std.proofs.lemmas.Bool.{eqb-false}
+use Rattle.std.proofs.lemmas.Bool.{cond_both, eqb-false}
 use Rattle.std.proofs.lemmas.List.{drop_all, drop_more, get_or_default}
 use Rattle.std.proofs.lemmas.Nat.Bits.{bit_at_lowest, bit_at-suc, bit_at-zero, bit_at-lt}
 use Rattle.std.proofs.Math.Pow.{pow_mono}
@@ -28,7 +28,7 @@ use Rattle.pc_cells_tree.specs.declared.standing.Standing.TheVariants.{OfAll, Of
 use Rattle.pc_cells_tree.specs.declared.decision.Finding.{Finding}
 use Rattle.pc_cells_tree.specs.declared.decision.Finding.TheVariants.{Broken, Crossed, Under}
 use Rattle.pc_cells_tree.specs.Stances.{IsAcross, IsAlong, IsCutThrough, IsStance, no_box, box_in, IsAcrossAt, IsCutThroughArea, IsAreaStance}
-use Rattle.pc_cells_tree.specs.Standings.{is_of_values, place_in, IsAcrossWhen, IsCrossedBy, IsCrossing, region_of, HasBoxAt, IsStanding, IsStandingAt}
+use Rattle.pc_cells_tree.specs.Standings.{is_of_values, place_in, is_before, IsAcrossWhen, IsCrossedBy, IsCrossing, region_of, HasBoxAt, IsStanding, IsStandingAt}
 use Rattle.pc_cells_tree.specs.Decisions.{HasBitAt, IsComparable, IsMaskOf, IsRegionOf, HasRegionIn, HasShortMask, IsFound, IsWithCrossing, with_bit, CanBeSettled, IsCutThroughWhen, IsCutFor, IsNeeded}
 use Rattle.pc_cells_tree.proofs.AreaStances.{filled_by, both_ways, both_ways_when, not_beside}
 use Rattle.pc_cells_tree.proofs.Choices.{divided-along}
@@ -103,8 +103,10 @@ module _ (part : Region) (cs : List Constraint) (place : ℕ) (d : Constraint) (
   found_crossing : (crossing : Crossing) (later after : Finding) → All (IsAlikeTo part) cs → IsCrossing cs part crossing → (IsRuledOut cs part this → ⊥) → IsWithCrossing crossing later after →
       IsFound part cs (place + 1) later → IsFound part cs place after
   found_crossing crossing Broken after alike crossed first e found = subst (IsFound part cs place) (sym e) found
-  found_crossing crossing (Crossed other) after alike crossed first (inl e) found = subst (IsFound part cs place) (sym e) (found.0, none_here first found.1)
-  found_crossing crossing (Crossed other) after alike crossed first (inr e) found = subst (IsFound part cs place) (sym e) (crossed, none_here first found.1)
+  found_crossing crossing (Crossed other) after alike crossed first e found =
+      subst (IsFound part cs place) (sym e)
+      (cond_both (is_before other crossing) other crossing (λ kept. IsFound part cs place (Crossed kept))
+      (λ kept. (found.0, none_here first found.1)) (λ new. (crossed, none_here first found.1)))
   found_crossing crossing (Under mask) after alike crossed first e found =
       subst (IsFound part cs place) (sym e) (crossed, none_here first (none_by_mask cs part (drop (place + 1) cs) mask (filled alike) found))
 

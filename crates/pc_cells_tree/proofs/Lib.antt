@@ -1,6 +1,7 @@
 pub mod AreaStances
 pub mod BareTrees
 pub mod Choices
+pub mod Chosen
 pub mod CutOn
 pub mod Decisions
 pub mod Ends

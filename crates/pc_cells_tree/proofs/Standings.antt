@@ -1,5 +1,6 @@
 -- How a box stands to one predicate, and to what is outside every area, from the last constraint to the first.
-use Rattle.std.proofs.Common.{◌≡◌, ℕ, ◌+◌, ◌<◌, ◌≤◌, List, Some, length, get_or, inl, inr, sym, subst, All}
+use Rattle.std.proofs.Common.{◌≡◌, ℕ, ◌+◌, ◌<◌, ◌≤◌, List, Some, length, get_or, sym, subst, All}
+use Rattle.std.proofs.lemmas.Bool.{cond_both}
 use Rattle.std.proofs.lemmas.List.{drop_all, get_or_default}
 use Rattle.std.proofs.lemmas.List.Elements.{All-nil}
 use Rattle.pc_model.specs.declared.region.Region.{Region}
@@ -14,7 +15,7 @@ use Rattle.pc_cells_tree.specs.declared.standing.Crossing.{Crossing}
 use Rattle.pc_cells_tree.specs.declared.standing.Standing.{Standing}
 use Rattle.pc_cells_tree.specs.declared.standing.Standing.TheVariants.{OfAll, OfNone, Open}
 use Rattle.pc_cells_tree.specs.Stances.{IsAcrossAt, IsAreaStance}
-use Rattle.pc_cells_tree.specs.Standings.{IsAcrossWhen, IsCrossing, IsStanding, IsStandingAt, IsBeside, IsNamedIn, IsOutsideFrom, IsWithArea}
+use Rattle.pc_cells_tree.specs.Standings.{is_before, IsAcrossWhen, IsCrossing, IsStanding, IsStandingAt, IsBeside, IsNamedIn, IsOutsideFrom, IsWithArea}
 use Rattle.pc_cells_tree.proofs.AreaStances.{not_beside}
 use Rattle.pc_cells_tree.proofs.Lists.{any_at, all_from}
 
@@ -84,8 +85,10 @@ module _ (part : Region) (cs : List Constraint) (place : ℕ) (d : Constraint) (
           IsOutsideFrom cs part (place + 1) later → IsOutsideFrom cs part place after
       crossed box_place faces OfAll after across gives found = subst (IsOutsideFrom cs part place) (sym gives) (open_here box_place faces across)
       crossed box_place faces OfNone after across gives found = subst (IsOutsideFrom cs part place) (sym gives) found
-      crossed box_place faces (Open other) after across (inl e) found = subst (IsOutsideFrom cs part place) (sym e) found
-      crossed box_place faces (Open other) after across (inr e) found = subst (IsOutsideFrom cs part place) (sym e) (open_here box_place faces across)
+      crossed box_place faces (Open other) after across gives found =
+          let new = crossing_at box_place faces in
+          subst (IsOutsideFrom cs part place) (sym gives)
+          (cond_both (is_before other new) other new (λ kept. IsOutsideFrom cs part place (Open kept)) (λ e. found) (λ e. open_here box_place faces across))
 
       pub outside-across : (box_place faces : ℕ) (later after : Standing) → stance ≡ areas.Across box_place faces → IsWithArea (crossing_at box_place faces) later after →
           IsOutsideFrom cs part (place + 1) later → IsOutsideFrom cs part place after

@@ -12,7 +12,7 @@ use Rattle.pc_model.specs.Cells.{SpeaksOfAll, SpeaksOfNone, IsUnder, IsRuledOut,
 use Rattle.pc_box.specs.Boxes.{IsBox, IsAlikeToArea, IsAlikeTo}
 use Rattle.pc_box.specs.Cuts.{Divides}
 use Rattle.pc_cells_tree.specs.Stances.{column_limit, IsCutThrough, IsCutThroughArea}
-use Rattle.pc_cells_tree.specs.Standings.{IsCrossing, crossed_in, HasRegion}
+use Rattle.pc_cells_tree.specs.Standings.{IsCrossing, crossed_in, HasRegion, is_before}
 use Rattle.pc_cells_tree.specs.declared.standing.Crossing.{Crossing}
 use Rattle.pc_cells_tree.specs.declared.decision.Finding.{Finding}
 use Rattle.pc_cells_tree.specs.declared.decision.Finding.TheVariants.{Broken, Crossed, Under}
@@ -60,10 +60,10 @@ with_bit bit Broken = Broken
 with_bit bit (Crossed crossing) = Crossed crossing
 with_bit bit (Under mask) = Under (2 * mask + cond bit 1 0)
 
--- with one before them that is crossed: which of two crossed ones is kept is left open
+-- with one before them that is crossed: of two the one that comes first is kept, and the new one of equals
 abbrev pub IsWithCrossing : Crossing → Finding → Finding → Type 0
 IsWithCrossing crossing Broken with_it = with_it ≡ Broken
-IsWithCrossing crossing (Crossed other) with_it = (with_it ≡ Crossed other) ⊎ (with_it ≡ Crossed crossing)
+IsWithCrossing crossing (Crossed other) with_it = with_it ≡ Crossed (cond (is_before other crossing) other crossing)
 IsWithCrossing crossing (Under mask) with_it = with_it ≡ Crossed crossing
 
 -- ---- what is done

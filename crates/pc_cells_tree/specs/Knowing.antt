@@ -1,5 +1,5 @@
 -- What is known of a box from one that it is a part of, and what is done with the box.
-use Rattle.std.specs.Prelude.{◌≡◌, ℕ, ◌<◌, Bool, true, false, if◌then◌else◌, Option, Some, None, List, length, slice_index_or}
+use Rattle.std.specs.Prelude.{◌≡◌, ℕ, ◌<◌, Bool, true, false, not, bit_or, if◌then◌else◌, Option, Some, None, List, length, slice_index_or}
 use Rattle.pc_model.specs.declared.region.Region.{Region}
 use Rattle.pc_model.specs.declared.area.Area.{Area}
 use Rattle.pc_model.specs.declared.constraint.Constraint.{Constraint}
@@ -17,6 +17,10 @@ nothing = record { all = 0; none = 0 }
 -- whether a constraint speaks of all rows or of none, where it is known
 abbrev pub told : Known → ℕ → Option Bool
 told known place = if has_bit known.all place then Some true else (if has_bit known.none place then Some false else None)
+
+-- nothing is known of it yet
+abbrev pub is_open : Known → ℕ → Bool
+is_open known place = not (has_bit (bit_or known.all known.none) place)
 
 -- what is known of the constraints holds of the box
 abbrev pub IsKnown : List Constraint → Region → Known → Type 0

@@ -1,3 +1,4 @@
+pub mod Choices
 pub mod Decisions
 pub mod Faces
 pub mod Growing

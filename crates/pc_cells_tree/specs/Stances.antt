@@ -1,5 +1,5 @@
 -- How a box stands to a region and to an area, its open faces, and the cuts along them.
-use Rattle.std.specs.Prelude.{◌≡◌, ℕ, ◌+◌, ◌<◌, ℤ, pos, ◌-ℤ◌, int_lt, ◌==◌, cond, if◌then◌else◌, true, false, List, [], ◌∷◌, length, drop, slice_index_or, All, Any, ◌⊎◌, Option, Some, None, MatchOption}
+use Rattle.std.specs.Prelude.{◌≡◌, ℕ, ◌+◌, ◌<◌, ℤ, pos, ◌-ℤ◌, int_lt, nat_lt, ◌==◌, cond, if◌then◌else◌, true, false, List, [], ◌∷◌, length, drop, slice_index_or, All, Any, Option, Some, None, MatchOption}
 use Rattle.pc_model.specs.declared.region.Side.{Side}
 use Rattle.pc_model.specs.declared.region.Side.TheVariants.{Span, Names}
 use Rattle.pc_model.specs.declared.region.Region.{Region}
@@ -118,8 +118,8 @@ IsStanceFrom part boxes from areas.Inside = Any (IsInside part) boxes
 IsStanceFrom part boxes from areas.Apart = All (IsApart part) (drop from boxes)
 IsStanceFrom part boxes from (areas.Across place faces) = (place < length boxes) × IsAcross part (box_in boxes place) × (Any (IsInside part) (drop from boxes) → ⊥)
 
--- with one before them that is crossed: which of two crossed ones is kept is left open
+-- with one before them that is crossed: of two the one with fewer open faces is kept, and the first of equals
 abbrev pub IsWithBox : ℕ → ℕ → AreaStance → AreaStance → Type 0
 IsWithBox place faces areas.Inside with_it = with_it ≡ areas.Inside
 IsWithBox place faces areas.Apart with_it = with_it ≡ areas.Across place faces
-IsWithBox place faces (areas.Across other few) with_it = (with_it ≡ areas.Across other few) ⊎ (with_it ≡ areas.Across place faces)
+IsWithBox place faces (areas.Across other few) with_it = with_it ≡ cond (nat_lt few faces) (areas.Across other few) (areas.Across place faces)

@@ -1,5 +1,5 @@
 -- How a box stands to a constraint: its predicate is an area, or what is outside all areas of the list.
-use Rattle.std.specs.Prelude.{◌≡◌, ℕ, ◌<◌, ⊤, ◌⊎◌, Bool, true, false, Option, Some, None, cond, List, length, drop, All, Any, slice_index_or}
+use Rattle.std.specs.Prelude.{◌≡◌, ℕ, ◌<◌, ⊤, nat_lt, Bool, true, false, Option, Some, None, cond, List, length, drop, All, Any, slice_index_or}
 use Rattle.pc_model.specs.declared.region.Region.{Region}
 use Rattle.pc_model.specs.declared.constraint.When.{When}
 use Rattle.pc_model.specs.declared.constraint.When.TheVariants.{Boxes, Outside}
@@ -50,6 +50,12 @@ HasBoxAt Outside place = ⊥
 abbrev pub HasRegion : Crossing → Constraint → Type 0
 HasRegion crossing c = cond (is_of_values crossing.box_place) ⊤ (HasBoxAt c.when (place_in crossing.box_place))
 
+-- which of two crossings is cut along: values come before areas, and then the one with fewer open faces does
+unfoldable pub is_before : Crossing → Crossing → Bool
+is_before one other =
+    cond (is_of_values one.box_place) (cond (is_of_values other.box_place) (nat_lt one.faces other.faces) true)
+    (cond (is_of_values other.box_place) false (nat_lt one.faces other.faces))
+
 -- ---- how the box stands
 
 -- the predicate crosses an area of the list, and the constraint does not speak of the whole box
@@ -78,11 +84,11 @@ IsOutsideFrom all part from OfAll = All (IsBeside part) (drop from all)
 IsOutsideFrom all part from OfNone = Any (IsNamedIn part) all
 IsOutsideFrom all part from (Open crossing) = IsCrossing all part crossing × (All (IsBeside part) all → ⊥)
 
--- with an area before them that is crossed: which of two crossed ones is kept is left open
+-- with an area before them that is crossed: of two the one that comes first is kept, and the new one of equals
 abbrev pub IsWithArea : Crossing → Standing → Standing → Type 0
 IsWithArea crossing OfNone with_it = with_it ≡ OfNone
 IsWithArea crossing OfAll with_it = with_it ≡ Open crossing
-IsWithArea crossing (Open other) with_it = (with_it ≡ Open other) ⊎ (with_it ≡ Open crossing)
+IsWithArea crossing (Open other) with_it = with_it ≡ Open (cond (is_before other crossing) other crossing)
 
 -- the predicate is an area of one box
 abbrev pub IsLone : When → Type 0

@@ -1,7 +1,9 @@
-ghost use Rattle.std.specs.Prelude.{◌≡◌, ◌≤◌, ◌<◌, ◌⊎◌, length, All, MatchOption};
+ghost use Rattle.std.specs.Prelude.{◌≡◌, ◌≤◌, ◌<◌, min, length, All, MatchOption, ⊤};
+ghost use Rattle.std.specs.List.{list_any};
 ghost use Rattle.pc_model.specs.Accepted.{constraint_limit};
 ghost use Rattle.pc_model.specs.CutTrees.{IsInside};
 ghost use Rattle.pc_box.specs.Boxes.{AreAlike, IsAlikeTo, IsAlikeToWhen};
+ghost use Rattle.pc_cells_tree.specs.Choices.{passed_by, fewer_of, is_passed_box, is_passed_when, is_split, IsChosen, IsCounted};
 ghost use Rattle.pc_cells_tree.specs.Stances.{column_limit, span_cut, set_cut, side_cut, IsAlong, IsCandidateFor};
 
 use crate::known::Known;
@@ -29,7 +31,8 @@ pub(crate) fn cut_through(
     requires alike { AreAlike part.now region.now }
     requires all_alike { All (IsAlikeTo part.now) constraints.now }
     requires not_inside { IsInside part.now region.now → ⊥ }
-    ensures { IsAlong part.now region.now result }
+    ensures along { IsAlong part.now region.now result }
+    ensures chosen { IsChosen part.now region.now constraints.now known result }
 {
     match cut_along(part, region, constraints, known) {
         Some(candidate) => candidate.cut,
@@ -48,7 +51,8 @@ fn cut_along(
     requires places { length constraints.now ≤ constraint_limit }
     requires alike { AreAlike part.now region.now }
     requires all_alike { All (IsAlikeTo part.now) constraints.now }
-    ensures { IsCandidateFor part.now region.now result }
+    ensures candidate { IsCandidateFor part.now region.now result }
+    ensures chosen { MatchOption result ⊤ (λ one. IsChosen part.now region.now constraints.now known one.cut) }
 {
     let sides = part.sides.as_slice();
     let others = region.sides.as_slice();
@@ -71,7 +75,9 @@ fn fewer(
 ) -> Candidate
     requires places { length constraints.now ≤ constraint_limit }
     requires alike { All (IsAlikeTo part.now) constraints.now }
-    ensures { MatchOption best (result.cut ≡ cut) (λ before. (result.cut ≡ before.cut) ⊎ (result.cut ≡ cut)) }
+    requires counted { MatchOption best ⊤ (IsCounted part.now constraints.now known) }
+    ensures fewer { MatchOption best (result.cut ≡ cut) (λ one. result.cut ≡ fewer_of (passed_by part.now constraints.now known) one.cut cut) }
+    ensures counted { IsCounted part.now constraints.now known result }
 {
     match best {
         None => Candidate { cut, passed: None },
@@ -88,7 +94,9 @@ fn fewer_of(
 ) -> Candidate
     requires places { length constraints.now ≤ constraint_limit }
     requires alike { All (IsAlikeTo part.now) constraints.now }
-    ensures { (result.cut ≡ best.cut) ⊎ (result.cut ≡ cut) }
+    requires counted { IsCounted part.now constraints.now known best }
+    ensures fewer { result.cut ≡ fewer_of (passed_by part.now constraints.now known) best.cut cut }
+    ensures counted { IsCounted part.now constraints.now known result }
 {
     let fewest = passed_by_best(part, constraints, known, &best);
     let passed = passed_by(part, constraints, known, &cut, fewest);
@@ -104,6 +112,7 @@ fn fewer_of(
     }
 }
 
+#[tactic(auto, using(crate::proofs::Chosen::passed_few))]
 fn passed_by_best(
     part: &Region,
     constraints: &[Constraint],
@@ -112,6 +121,8 @@ fn passed_by_best(
 ) -> usize
     requires places { length constraints.now ≤ constraint_limit }
     requires alike { All (IsAlikeTo part.now) constraints.now }
+    requires counted { IsCounted part.now constraints.now known best.now }
+    ensures { result ≡ passed_by part.now constraints.now known best.now.cut }
 {
     match best.passed {
         Some(passed) => passed,
@@ -131,6 +142,7 @@ fn passed_by(
 ) -> usize
     requires places { length constraints.now ≤ constraint_limit }
     requires alike { All (IsAlikeTo part.now) constraints.now }
+    ensures { result ≡ min most (passed_by part.now constraints.now known cut.now) }
 {
     let mut passed = 0;
     for (place, constraint) in constraints.iter().enumerate() {
@@ -148,6 +160,7 @@ fn passed_by(
 #[inline(always)]
 fn passes(part: &Region, when: &When, cut: &Cut) -> bool
     requires { IsAlikeToWhen part.now when.now }
+    ensures { result ≡ is_passed_when part.now cut.now when.now }
 {
     match when {
         When::Boxes(area) => passes_some(part, area.boxes.as_slice(), cut),
@@ -157,9 +170,10 @@ fn passes(part: &Region, when: &When, cut: &Cut) -> bool
 
 fn passes_some(part: &Region, boxes: &[Region], cut: &Cut) -> bool
     requires { All (AreAlike part.now) boxes.now }
+    ensures { result ≡ list_any (is_passed_box part.now cut.now) boxes.now }
 {
     for region in boxes {
-        if is_split(part, region, cut) && !apart(part, region) {
+        if passes_box(part, region, cut) {
             return true;
         }
     }
@@ -167,7 +181,19 @@ fn passes_some(part: &Region, boxes: &[Region], cut: &Cut) -> bool
 }
 
 #[inline(always)]
-fn is_split(part: &Region, region: &Region, cut: &Cut) -> bool {
+#[tactic(auto, using(crate::proofs::Chosen::not_met))]
+fn passes_box(part: &Region, region: &Region, cut: &Cut) -> bool
+    requires { AreAlike part.now region.now }
+    ensures { result ≡ is_passed_box part.now cut.now region.now }
+{
+    is_split(part, region, cut) && !apart(part, region)
+}
+
+#[inline(always)]
+#[tactic(auto, unfolding(crate::specs::Choices::is_split, crate::specs::Choices::is_shared_parted, pc_box::specs::Cuts::divides_side))]
+fn is_split(part: &Region, region: &Region, cut: &Cut) -> bool
+    ensures { result ≡ is_split part.now region.now cut.now }
+{
     match *cut {
         Cut::At { column, at } => match region.sides.as_slice().get(column as usize) {
             Some(Side::Span { low, high }) => *low <= at && at < *high,

@@ -1,6 +1,6 @@
 ghost use Rattle.std.specs.Prelude.{◌≡◌, ◌<◌, ◌⊎◌, ℕ, Some};
 ghost use Rattle.pc_model.specs.Places.{has_bit};
-ghost use Rattle.pc_cells_tree.specs.Knowing.{told, nothing};
+ghost use Rattle.pc_cells_tree.specs.Knowing.{told, nothing, is_open};
 
 /// What is known of a box from one that it is a part of, bit j for constraint j: that the constraint speaks of all of
 /// its rows and has them in its values, or that it speaks of none.
@@ -36,6 +36,7 @@ impl Known {
     #[inline(always)]
     pub(crate) fn is_open(self, place: usize) -> bool
         requires { place < 32 }
+        ensures { result ≡ is_open self place }
     {
         !has_bit(self.all | self.none, place)
     }

@@ -1,8 +1,8 @@
-ghost use Rattle.std.specs.Prelude.{◌↔◌, ◌+◌, ◌≤◌, ◌<◌, length, slice_index_or, All, IsTrue};
+ghost use Rattle.std.specs.Prelude.{◌≡◌, ◌↔◌, ◌+◌, ◌≤◌, ◌<◌, length, slice_index_or, All, IsTrue};
 ghost use Rattle.pc_model.specs.declared.constraint.Constraint.{Constraint};
 ghost use Rattle.pc_box.specs.Boxes.{IsAlikeTo};
 ghost use Rattle.pc_cells_tree.specs.Stances.{column_limit};
-ghost use Rattle.pc_cells_tree.specs.Standings.{IsLone, IsStandingAt, IsOutsideFrom, IsWithArea};
+ghost use Rattle.pc_cells_tree.specs.Standings.{is_before, IsLone, IsStandingAt, IsOutsideFrom, IsWithArea};
 
 use crate::area_stance::{AreaStance, compare_area, compare_lone};
 use pc_model::{Constraint, Region, When};
@@ -42,7 +42,10 @@ impl Standing {
 /// Which of two crossings is cut along. Values come before areas, since their outer part is settled at once; then the
 /// one with fewer open faces.
 #[inline(always)]
-pub(crate) fn is_before(one: Crossing, other: Crossing) -> bool {
+#[tactic(auto, unfolding(crate::specs::Standings::is_before))]
+pub(crate) fn is_before(one: Crossing, other: Crossing) -> bool
+    ensures { result ≡ is_before one other }
+{
     match (one.box_place, other.box_place) {
         (None, Some(_)) => true,
         (Some(_), None) => false,

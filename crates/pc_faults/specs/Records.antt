@@ -22,14 +22,14 @@ abbrev pub label_text : List ℕ → List ℕ
 label_text label = if length label == 0 then [] else 32 ∷ label
 
 -- a field's mark, its number and name, and its text
-unfoldable pub field_text : Fault → ℕ → List ℕ → List ℕ → List ℕ
-field_text fault place label text =
-    concat (mark_of (is_suspect fault place text) ∷ number_text place ∷ label_text label ∷ codes ": " ∷ text ∷ line_break ∷ [])
+unfoldable pub field_text : Bool → ℕ → List ℕ → List ℕ → List ℕ
+field_text is_marked place label text =
+    concat (mark_of is_marked ∷ number_text place ∷ label_text label ∷ codes ": " ∷ text ∷ line_break ∷ [])
 
--- .. of the fields from a place on
-unfoldable pub fields_from : Fault → List (List ℕ) → ℕ → List (List ℕ) → List ℕ
-fields_from fault labels place [] = []
-fields_from fault labels place (text ∷ rest) = field_text fault place (field labels place) text ++ fields_from fault labels (place + 1) rest
+-- .. of the fields from a place on, the second of which is the kind
+unfoldable pub fields_from : Fault → List ℕ → List (List ℕ) → ℕ → List (List ℕ) → List ℕ
+fields_from fault kind labels place [] = []
+fields_from fault kind labels place (text ∷ rest) = field_text (is_suspect fault kind place text) place (field labels place) text ++ fields_from fault kind labels (place + 1) rest
 
 abbrev pub lined : ℕ → ℕ → List ℕ
 lined place line = concat (codes "record " ∷ decimal place ∷ codes ", line " ∷ decimal line ∷ line_break ∷ [])
@@ -63,7 +63,7 @@ labels_of fault text = labels_for fault.file fault.place text
 
 unfoldable pub of_record : Fault → List ℕ → List (List ℕ) → List ℕ
 of_record fault text fields =
-    concat (head_of fault.place (line_of (begin_of (fault.place - 1) text) text) ∷ fields_from fault (labels_of fault text) 0 fields ∷ sentence_text fault.reason ∷ [])
+    concat (head_of fault.place (line_of (begin_of (fault.place - 1) text) text) ∷ fields_from fault (field fields 1) (labels_of fault text) 0 fields ∷ sentence_text fault.reason ∷ [])
 
 abbrev pub no_record : ℕ → List ℕ
 no_record place = concat (codes "The file has no record " ∷ decimal place ∷ codes "." ∷ line_break ∷ [])

@@ -1,5 +1,8 @@
 -- Which fields of a record may be its fault.
-use Rattle.std.specs.Prelude.{ℕ, ℤ, ◌-◌, ◌==◌, ◌||◌, not, Bool, true, false, List, length, get_or, nat_le, Result, Err, if◌then◌else◌}
+use Rattle.std.specs.Prelude.{ℕ, ℤ, pos, ◌-◌, ◌==◌, ◌&&◌, ◌||◌, not, Bool, true, false, List, length, get_or, codes, nat_le, int_lt, Result, Ok, Err}
+use Rattle.std.specs.List.{list_all}
+use Rattle.std.specs.Str.{bytes_eq}
+use Rattle.std.specs.Char.{is_ascii_digit}
 use Rattle.pc_model.specs.declared.fault.FileKind.{FileKind}
 use Rattle.pc_model.specs.declared.fault.FileKind.TheVariants as files
 use Rattle.pc_model.specs.declared.fault.Fault.{Fault}
@@ -49,20 +52,36 @@ may_fail_as_number reasons.OutsideDomain text = is_padded text || not (is_no_num
 may_fail_as_number reasons.EmptySpan text = is_padded text || not (is_no_number text)
 may_fail_as_number other text = false
 
+-- what no scale is, and what is a greater number than one
+abbrev pub exceeds_scales : Result ℤ Reason → Bool
+exceeds_scales (Ok number) = int_lt (pos 6) number
+exceeds_scales (Err reason) = false
+
+abbrev pub may_fail_as_scale : Reason → List ℕ → Bool
+may_fail_as_scale reasons.BadNumber text = not (list_all is_ascii_digit text)
+may_fail_as_scale reasons.PastLimit text = exceeds_scales (number_of 0 text)
+may_fail_as_scale other text = false
+
+-- the third field of a column of decimals
+abbrev pub holds_scale : FileKind → List ℕ → ℕ → Bool
+holds_scale files.Schema kind place = bytes_eq kind (codes "dec") && (place == 2)
+holds_scale other kind place = false
+
 -- the first two fields of a record of a schema hold a name and a kind
 abbrev pub holds_number : FileKind → ℕ → Bool
 holds_number files.Schema place = nat_le 2 place
 holds_number other place = true
 
-abbrev pub may_fail : Fault → ℕ → List ℕ → Bool
-may_fail fault place text = if holds_number fault.file place then may_fail_as_number fault.reason text else false
+abbrev pub may_fail : Fault → List ℕ → ℕ → List ℕ → Bool
+may_fail fault kind place text =
+    (holds_number fault.file place && may_fail_as_number fault.reason text) || (holds_scale fault.file kind place && may_fail_as_scale fault.reason text)
 
-abbrev pub is_suspect_for : Reason → Fault → ℕ → List ℕ → Bool
-is_suspect_for reasons.BadName fault place text = not (is_name text)
-is_suspect_for reasons.BadKind fault place text = place == 1
-is_suspect_for reasons.UnknownName fault place text = true
-is_suspect_for other fault place text = may_fail fault place text
+abbrev pub is_suspect_for : Reason → Fault → List ℕ → ℕ → List ℕ → Bool
+is_suspect_for reasons.BadName fault kind place text = not (is_name text)
+is_suspect_for reasons.BadKind fault kind place text = place == 1
+is_suspect_for reasons.UnknownName fault kind place text = true
+is_suspect_for other fault kind place text = may_fail fault kind place text
 
--- may the field at a place be the one at which a record fails?
-abbrev pub is_suspect : Fault → ℕ → List ℕ → Bool
-is_suspect fault place text = is_suspect_for fault.reason fault place text
+-- may the field at a place be the one at which a record fails, where the second one is that?
+abbrev pub is_suspect : Fault → List ℕ → ℕ → List ℕ → Bool
+is_suspect fault kind place text = is_suspect_for fault.reason fault kind place text

@@ -1,6 +1,7 @@
 ghost use Rattle.std.specs.Prelude.{◌≡◌, ◌-◌, IfOk, option_map};
 ghost use Rattle.csv.specs.Reading.{default_config, records, strip_bom};
 ghost use Rattle.csv.specs.Records.{fields_of};
+ghost use Rattle.pc_records.specs.Fields.{field};
 ghost use Rattle.pc_faults.specs.Beginnings.{begin_of};
 ghost use Rattle.pc_faults.specs.Lines.{nth};
 ghost use Rattle.pc_faults.specs.Records.{field_text, fields_from, head_of, label_text, labels_at, labels_of, line_of, lined, mark_of, no_record, number_text, of_record, record_text, unlined};
@@ -131,11 +132,18 @@ fn fields_text(
     labels: &ByteRecord,
     row: &ByteRecord,
 ) -> Result<Vec<u8>, Memory>
-    ensures { IfOk result (λ text. text.items ≡ fields_from fault (fields_of labels.now) 0 (fields_of row.now)) }
+    ensures { IfOk result (λ text. text.items ≡ fields_from fault (field (fields_of row.now) 1) (fields_of labels.now) 0 (fields_of row.now)) }
 {
     let mut text = Vec::new(alloc);
     for place in 0..row.len() {
-        let more = field_text(alloc, fault, place, field(labels, place), field(row, place))?;
+        let is_marked = is_suspect(fault, field(row, 1), place, field(row, place));
+        let more = field_text(
+            alloc,
+            is_marked,
+            place,
+            field(labels, place),
+            field(row, place),
+        )?;
         text.extend_from_slice(more.as_slice())?;
     }
     Ok(text)
@@ -145,14 +153,14 @@ fn fields_text(
 #[tactic(auto, unfolding(crate::specs::Records::field_text))]
 fn field_text(
     alloc: Global,
-    fault: Fault,
+    is_marked: bool,
     place: usize,
     label: &[u8],
     text: &[u8],
 ) -> Result<Vec<u8>, Memory>
-    ensures { IfOk result (λ out. out.items ≡ field_text fault place label.now text.now) }
+    ensures { IfOk result (λ out. out.items ≡ field_text is_marked place label.now text.now) }
 {
-    let mut out = Vec::from_slice(alloc, mark_of(is_suspect(fault, place, text)))?;
+    let mut out = Vec::from_slice(alloc, mark_of(is_marked))?;
     let number = number_text(alloc, place)?;
     out.extend_from_slice(number.as_slice())?;
     let name = label_text(alloc, label)?;
@@ -163,10 +171,10 @@ fn field_text(
     Ok(out)
 }
 
-fn mark_of<'x>(is_suspect: bool) -> &'x [u8]
-    ensures { result.now ≡ mark_of is_suspect }
+fn mark_of<'x>(is_marked: bool) -> &'x [u8]
+    ensures { result.now ≡ mark_of is_marked }
 {
-    if is_suspect {
+    if is_marked {
         return b"> field ".as_slice();
     }
     b"  field ".as_slice()

@@ -1,8 +1,8 @@
 -- What the phases over short rows leave as it is: the places of a mask, the ends of the columns, and that all of it is a setting.
-use Rattle.std.proofs.Common.{◌≡◌, ℕ, zero, suc, ◌+◌, ◌-◌, ◌<◌, ◌≤◌, ◌^◌, ◌&&◌, nat_abs, nat_lt, nat_le, Bool, true, false, cond, List, [], ◌∷◌, ◌++◌, All, length, Option, Some, None, refl, ap, sym, ◌∙◌, arith, add-one}
+use Rattle.std.proofs.Common.{◌≡◌, ℕ, zero, suc, ◌+◌, ◌-◌, ◌<◌, ◌≤◌, ◌^◌, ◌&&◌, nat_abs, nat_lt, nat_le, Bool, true, false, cond, List, [], ◌∷◌, ◌++◌, All, Any, ◌⊎◌, inl, inr, length, Option, Some, None, refl, ap, sym, subst, ◌∙◌, arith, add-one}
 use Rattle.std.specs.Prelude.{ℤ, pos, negsuc, take}
 use Rattle.std.proofs.lemmas.Bool.{cond-true, cond-false, cond_both, and_left, ltb-true, ltb-false, leb-false, lt-ltb, le-ltb, lt-leb}
-use Rattle.std.proofs.lemmas.List.{length_push, append-nil, take_more, take_all}
+use Rattle.std.proofs.lemmas.List.{length_push, append-nil, take_more, take_all, get_or_default}
 use Rattle.std.proofs.lemmas.List.Elements.{All-nil, All-cons, All-push}
 use Rattle.pc_model.specs.Places.{has_bit}
 use Rattle.pc_program_bound.specs.declared.program.Program.{Program}
@@ -222,6 +222,15 @@ none_exceeds_more top next gains items i e lt before more own =
     let size : nat_abs (int_at gains i) ≤ next = rw e at own in
     rw (take_more gains i (pos 0) within)
     (All-push (λ g. nat_abs g ≤ next) (take i gains) (int_at gains i) (λ k d below. (let old = before k d below in omega (arith, old, more))) size)
+
+-- the size of one of them, or of the greatest before, is that of some
+pub some_reaches : (top next : ℕ) (gains items : List ℤ) (i : ℕ) → items ≡ gains → i < length items
+    → ((top ≡ 1) ⊎ Any (λ g. nat_abs g ≡ top) gains) → (next ≡ top) ⊎ (next ≡ nat_abs (int_at items i)) → (next ≡ 1) ⊎ Any (λ g. nat_abs g ≡ next) gains
+some_reaches top next gains items i e lt before (inl same) = subst (λ t. (t ≡ 1) ⊎ Any (λ g. nat_abs g ≡ t) gains) (sym same) before
+some_reaches top next gains items i e lt before (inr own) =
+    let within : i < length gains = rw e at lt in
+    let size : nat_abs (int_at gains i) ≡ next = rw e at (sym own) in
+    inr (i, int_at gains i, within, get_or_default gains i (int_at gains i) (pos 0) within, size)
 
 pub none_exceeds_all : (top : ℕ) (gains items : List ℤ) (i : ℕ) → items ≡ gains → length items ≤ i → All (λ g. nat_abs g ≤ top) (take i gains)
     → All (λ g. nat_abs g ≤ top) gains

@@ -1,5 +1,5 @@
 -- A program in short form: what its phases leave as it is, and where the first one starts.
-use Rattle.std.specs.Prelude.{◌≡◌, ◌<◌, ◌^◌, ℕ, zero, suc, ◌+◌, ◌-◌, ◌==◌, ◌&&◌, not, nat_lt, int_lt, ℤ, pos, ◌-ℤ◌, Bool, true, cond, List, [], ◌∷◌, ◌++◌, length, Some}
+use Rattle.std.specs.Prelude.{◌≡◌, ◌<◌, ◌≤◌, ◌^◌, ◌⊎◌, nat_abs, ℕ, zero, suc, ◌+◌, ◌-◌, ◌==◌, ◌&&◌, not, nat_lt, int_lt, ℤ, pos, ◌-ℤ◌, Bool, true, cond, List, [], ◌∷◌, ◌++◌, length, All, Any, Some}
 use Rattle.std.specs.List.{list_all}
 use Rattle.pc_model.specs.Places.{has_bit}
 use Rattle.pc_program_bound.specs.declared.program.Program.{Program}
@@ -40,6 +40,12 @@ setting_of p columns gains top = record {
   top = top;
   constraints = constraints_of p;
 }
+
+-- the greatest size of a gain, and at least 1
+pub record IsGreatestSize (gains : List ℤ) (top : ℕ) : Type 0 where
+  pub some : 1 ≤ top
+  pub most : All (λ g. nat_abs g ≤ top) gains
+  pub reached : (top ≡ 1) ⊎ Any (λ g. nat_abs g ≡ top) gains
 
 -- ---- the first rows: each is its own constraint once
 

@@ -1,4 +1,4 @@
-ghost use Rattle.std.specs.Prelude.{◌≡◌, ◌<◌, ◌≤◌, ◌^◌, ◌-◌, nat_abs, cond, nat_lt, [], ◌∷◌, Some, length, All, IfOk};
+ghost use Rattle.std.specs.Prelude.{◌≡◌, ◌<◌, ◌≤◌, ◌^◌, ◌-◌, ◌⊎◌, cond, nat_lt, [], ◌∷◌, Some, length, All, IfOk};
 ghost use Rattle.pc_model.specs.Places.{has_bit};
 ghost use Rattle.pc_program_bound.specs.Sums.{nat_at};
 ghost use Rattle.pc_program_bound.specs.Allocation.{IsProgram, cells_of, constraints_of};
@@ -8,7 +8,7 @@ ghost use Rattle.pc_simplex_tableau.specs.Relaxation.{columns_of};
 ghost use Rattle.pc_simplex_tableau.specs.Standing.{gain_one, gain_two};
 ghost use Rattle.pc_simplex_short.specs.Kept.{IsSetting};
 ghost use Rattle.pc_simplex.specs.Floors.{AreFloors};
-ghost use Rattle.pc_simplex.specs.Shorts.{AreColumns, places_below, column_places, setting_of};
+ghost use Rattle.pc_simplex.specs.Shorts.{AreColumns, IsGreatestSize, places_below, column_places, setting_of};
 
 use crate::columns::columns_of;
 use crate::first::first_aim;
@@ -55,6 +55,7 @@ pub(crate) fn second_setting(
     requires columns { AreColumns p.now setting.columns }
     requires setting { setting ≡ setting_of p.now setting.columns setting.gains setting.top }
     ensures value { IfOk result (λ f. f ≡ setting_of p.now (record setting.columns { helper = Some 0 }) (table (columns_of p.now) (gain_two p.now)) f.top) }
+    ensures top { IfOk result (λ f. IsGreatestSize p.now.gain f.top) }
     ensures setting { IfOk result IsSetting }
 {
     let gains = all_gains(alloc, p)?;
@@ -76,10 +77,9 @@ pub(crate) fn second_setting(
     })
 }
 
-/// A number of at least 1 that no gain exceeds in size.
+/// The greatest size of a gain, and at least 1.
 fn greatest_gain(p: &Program) -> u128
-    ensures some { 1 ≤ result }
-    ensures most { All (λ g. nat_abs g ≤ result) p.now.gain }
+    ensures { IsGreatestSize p.now.gain result }
 {
     let mut top = 1;
     for gain in p.gain.as_slice() {
@@ -91,6 +91,7 @@ fn greatest_gain(p: &Program) -> u128
 fn greater(a: u128, b: u128) -> u128
     ensures first { a ≤ result }
     ensures second { b ≤ result }
+    ensures one { (result ≡ a) ⊎ (result ≡ b) }
 {
     if a < b { b } else { a }
 }

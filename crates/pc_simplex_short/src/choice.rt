@@ -1,4 +1,4 @@
-ghost use Rattle.std.specs.Prelude.{◌≡◌, ◌<◌, ◌≤◌, ◌*◌, ◌^◌, nat_abs, pos, int_lt, length, IsTrue, IfSome};
+ghost use Rattle.std.specs.Prelude.{◌≡◌, ◌↔◌, ◌<◌, ◌≤◌, ◌*◌, ◌^◌, nat_abs, pos, int_lt, length, IsTrue, IfSome};
 ghost use Rattle.pc_program_bound.specs.Sums.{int_at};
 ghost use Rattle.pc_simplex_tableau.specs.Tableau.{is_basic, entering, deciding};
 ghost use Rattle.pc_simplex_tableau.specs.Limits.{IsSoundLimit};
@@ -38,7 +38,7 @@ fn entering_columns(setting: &ShortSetting) -> usize
 }
 
 fn is_narrow(tableau: &ShortTableau, setting: &ShortSetting) -> bool
-    ensures { IsTrue result → IsNarrow setting.now.top tableau.now.weight tableau.now.aim }
+    ensures { IsTrue result ↔ IsNarrow setting.now.top tableau.now.weight tableau.now.aim }
 {
     narrow::is_narrow(tableau.aim.as_slice(), tableau.weight, setting.top)
 }

@@ -1,4 +1,4 @@
-ghost use Rattle.std.specs.Prelude.{◌≡◌, ◌<◌, ◌≤◌, ◌*◌, ◌^◌, nat_abs, ◌+ℤ◌, ◌*ℤ◌, length, All, IsTrue};
+ghost use Rattle.std.specs.Prelude.{◌≡◌, ◌↔◌, ◌<◌, ◌≤◌, ◌*◌, ◌^◌, nat_abs, ◌+ℤ◌, ◌*ℤ◌, length, All, IsTrue};
 ghost use Rattle.pc_program_bound.specs.Sums.{int_at};
 ghost use Rattle.pc_simplex_short.specs.Short.{mix, signed, aim_entry, places_of};
 ghost use Rattle.pc_simplex_short.specs.Kept.{IsWithin, IsSetting, IsNarrow};
@@ -7,7 +7,7 @@ use crate::setting::ShortSetting;
 
 /// Whether all that is added up of an objective row fits 64 bits, in which a search for a column is fast.
 pub(crate) fn is_narrow(aim: &[i128], weight: i128, top: u128) -> bool
-    ensures { IsTrue result → IsNarrow top weight aim.now }
+    ensures { IsTrue result ↔ IsNarrow top weight aim.now }
 {
     if !is_narrow_weight(weight, top) {
         return false;
@@ -16,7 +16,7 @@ pub(crate) fn is_narrow(aim: &[i128], weight: i128, top: u128) -> bool
 }
 
 fn are_narrow(aim: &[i128]) -> bool
-    ensures { IsTrue result → All (IsWithin 55) aim.now }
+    ensures { IsTrue result ↔ All (IsWithin 55) aim.now }
 {
     for number in aim {
         if number.unsigned_abs() > 1 << 55 {
@@ -27,8 +27,7 @@ fn are_narrow(aim: &[i128]) -> bool
 }
 
 fn is_narrow_weight(weight: i128, top: u128) -> bool
-    ensures top { IsTrue result → top ≤ 2 ^ 60 }
-    ensures weight { IsTrue result → nat_abs weight * top ≤ 2 ^ 60 }
+    ensures { IsTrue result ↔ (top ≤ 2 ^ 60) × (nat_abs weight * top ≤ 2 ^ 60) }
 {
     if top > 1 << 60 {
         return false;

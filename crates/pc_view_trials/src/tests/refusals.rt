@@ -9,6 +9,9 @@ const NUMBER: &str =
 
 const ROWS: &str = "branch,day,price\nChicago,3,100.00\n\"New\nYork\",5,50,00\n\nTrenton,1, 7 \n";
 
+const LIMIT: &str =
+    "A number is at most 1,000,000,000,000,000, its point left out at the scale of its column. A scale is at most 6, a number of rows at most 10,000,000, and those of a quantile are from 1 to 1,000.\n";
+
 const SPAN: &str =
     "The first number is at most the second, and something is to be left of what the column may hold.\n";
 
@@ -117,7 +120,7 @@ static TOKENS: [Shown; 15] = [
     ),
 ];
 
-static RECORDS: [Shown; 9] = [
+static RECORDS: [Shown; 12] = [
     (
         "malformed rows at 3: reason 13 FieldCount\n",
         ROWS,
@@ -159,6 +162,24 @@ static RECORDS: [Shown; 9] = [
         "day,int,1,31\nprice,decimal,2,0,9\n",
         "record 2, line 2\n  field 1: price\n> field 2: decimal\n  field 3: 2\n  field 4: 0\n  field 5: 9\n",
         "The second field is to be `int`, `dec` or `cat`.\n",
+    ),
+    (
+        "malformed schema at 1: reason 8 BadNumber\n",
+        "v,dec,1.0,0,9\n",
+        "record 1, line 1\n  field 1: v\n  field 2: dec\n> field 3: 1.0\n  field 4: 0\n  field 5: 9\n",
+        NUMBER,
+    ),
+    (
+        "malformed schema at 1: reason 8 BadNumber\n",
+        "n,int,-5,x\n",
+        "record 1, line 1\n  field 1: n\n  field 2: int\n  field 3: -5\n> field 4: x\n",
+        NUMBER,
+    ),
+    (
+        "malformed schema at 2: reason 9 PastLimit\n",
+        "n,int,7,9\nv,dec,7,0,9\n",
+        "record 2, line 2\n  field 1: v\n  field 2: dec\n> field 3: 7\n  field 4: 0\n  field 5: 9\n",
+        LIMIT,
     ),
     (
         "malformed schema at 1: reason 10 TooManyDecimals\n",

@@ -12,6 +12,6 @@ cut_through-at-requires-clause-not_inside c =
 pub returns-in-Crossed : goal.returns-in-Crossed
 returns-in-Crossed c = (
   crossed-needed c.args.part.now c.args.constraints.now c.args.chosen.now c.requires.comparable c.find-finding.result.finding c.find-finding.ensures.finding c.in-Crossed.crossing c.crossed_region-region.result.now c.cut_through-at.result c.in-Crossed.is
-      c.crossed_region-region.ensures c.cut_through-at.ensures,
+      c.crossed_region-region.ensures c.cut_through-at.ensures.along,
   c.find-finding.ensures.known,
 )
