@@ -1,4 +1,4 @@
-use Rattle.std.proofs.Common.{◌≡◌, to_z, of_z, get_or, pos, arith}
+use Rattle.std.proofs.Common.{◌≡◌, to_z, of_z, get_or, pos, sym, arith}
 use Rattle.std.specs.Int.{w128}
 use Rattle.std.proofs.lemmas.Int.{ints}
 use Rattle.pc_simplex.proofs.Settings.{none_exceeds_more, none_exceeds_all, some_reaches}
