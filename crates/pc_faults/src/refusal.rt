@@ -106,7 +106,7 @@ fn digits_of(text: &[u8]) -> Option<u64>
     }
 }
 
-fn are_digits(text: &[u8]) -> bool
+pub(crate) fn are_digits(text: &[u8]) -> bool
     ensures { result ≡ list_all is_ascii_digit text.now }
 {
     text.iter().all(|byte| byte.is_ascii_digit())

@@ -2,6 +2,7 @@ ghost use Rattle.std.specs.Prelude.{◌≡◌};
 ghost use Rattle.pc_model.specs.Numbers.{number_of};
 ghost use Rattle.pc_faults.specs.Suspects.{begins_padded, ends_padded, exceeds_scales, has_decimals, holds_number, holds_scale, is_no_number, is_padded, is_past_limit, is_suspect, may_fail, may_fail_as_number, may_fail_as_scale};
 
+use crate::refusal::are_digits;
 use pc_model::{Fault, FileKind, Reason, is_name, read_number};
 
 /// Whether a field may be the one at which a record fails, where the second one, which is the kind in a schema, is that.
@@ -38,7 +39,7 @@ fn may_fail_as_scale(reason: Reason, text: &[u8]) -> bool
     ensures { result ≡ may_fail_as_scale reason text.now }
 {
     match reason {
-        Reason::BadNumber => !text.iter().all(|byte| byte.is_ascii_digit()),
+        Reason::BadNumber => !are_digits(text),
         Reason::PastLimit => exceeds_scales(text),
         _ => false,
     }
