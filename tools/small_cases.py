@@ -5,7 +5,8 @@ by going over every list of lost rows that is possible.
     tools/small_cases.py table 1          the file small.rt of pc_agg_trials: the first 30 counts and sums
     tools/small_cases.py table 2          its file small_more.rt: the others
     tools/small_cases.py table 3          its file small_extremes.rt: the least and greatest numbers
-    tools/small_cases.py table 4          the file small_averages.rt of pc_trials: the averages
+    tools/small_cases.py averages         the averages: files and query of each, and the lines of its report but for runs, as the
+                                          trials averages/small-domains-1.txt to 4 have them
     tools/small_cases.py files FOLDER     each count and sum as files, for a program: NUMBER.schema, .rows, .constraints,
                                           .query, and .range, which has the two ends or `none`
 
@@ -464,17 +465,16 @@ def truth_text(found):
     return f"Truth::{'Sometimes' if None in found else 'Never'}({min(numbers)}, {max(numbers)})"
 
 
-def average_text(case, found):
+def average_lines(case, found):
     """Lines of the report: of the relation or the lack, and of both ends where they are there."""
     if not found:
-        return '("relation impossible\\n", "", "")'
+        return ["relation impossible"]
     ratios = {Fraction(*value) for value in found if value[1]}
     if not ratios:
-        return '("none always\\n", "", "")'
+        return ["none always"]
     scale = 10 ** case.columns[case.asked].scale
     lack = "sometimes" if (0, 0) in found else "never"
-    lines = (f"none {lack}\n", f"low {min(ratios) / scale} exact\n", f"high {max(ratios) / scale} exact\n")
-    return f"({', '.join(quoted(line) for line in lines)})"
+    return [f"none {lack}", f"low {min(ratios) / scale} exact", f"high {max(ratios) / scale} exact"]
 
 
 def table(first, name, kind, cases):
@@ -501,22 +501,7 @@ TRUTHS = [
 ]
 
 
-AVERAGE_LINES = [
-    "use super::averages::{Lines, Texts};",
-    "",
-    "// Texts, and lines of the report: of the relation or the lack, and of both ends. A table is a part, since a check reads it",
-    "// in one step.",
-]
-AVERAGE_PARTS = ["FIRST_AVERAGES", "SECOND_AVERAGES", "THIRD_AVERAGES", "FOURTH_AVERAGES"]
-
-
 def put_table(number):
-    if number == "4":
-        cases = [(case, average_text(case, found)) for case, found in made_averages()]
-        for part, place in zip(AVERAGE_PARTS, range(0, AVERAGES, AVERAGES // len(AVERAGE_PARTS))):
-            first = FIRST + AVERAGE_LINES if place == 0 else [""]
-            print(table(first, part, "Lines<'static>", cases[place : place + AVERAGES // len(AVERAGE_PARTS)]))
-        return
     if number == "3":
         cases = [(case, truth_text(found)) for case, found in made_extremes()]
         print(table(FIRST + TRUTHS, "SMALL_EXTREMES", "Truth", cases))
@@ -525,6 +510,14 @@ def put_table(number):
     second = number == "2"
     half = cases[CASES // 2 :] if second else cases[: CASES // 2]
     print(table(FIRST + RANGES, "SMALL_MORE" if second else "SMALL", "Option<(i128, i128)>", half))
+
+
+def put_averages():
+    for case, found in made_averages():
+        for name, text in zip(("schema", "rows", "constraints"), case.texts()):
+            print(f"file {name}", *(f"| {line}" for line in text.splitlines()), sep="\n")
+        print(f"$ pc bound schema rows constraints '{case.texts()[3]}'")
+        print(*(f"| {line}" for line in average_lines(case, found)), "", sep="\n")
 
 
 def put_files(folder):
@@ -536,8 +529,10 @@ def put_files(folder):
 
 def main():
     words = sys.argv[1:]
-    if words[:1] == ["table"] and words[1:] in (["1"], ["2"], ["3"], ["4"]):
+    if words[:1] == ["table"] and words[1:] in (["1"], ["2"], ["3"]):
         put_table(words[1])
+    elif words == ["averages"]:
+        put_averages()
     elif words[:1] == ["files"] and len(words) == 2:
         put_files(Path(words[1]))
     else:

@@ -52,7 +52,7 @@ fn read_cells(words: &mut SplitAsciiWhitespace<'_>, p: &mut Program) -> Result<(
     Ok(())
 }
 
-fn skip(words: &mut SplitAsciiWhitespace<'_>, wanted: &str) -> Result<(), Trouble> {
+pub(crate) fn skip(words: &mut SplitAsciiWhitespace<'_>, wanted: &str) -> Result<(), Trouble> {
     match words.next() {
         Some(word) if word == wanted => Ok(()),
         _ => Err(Trouble::Text),
@@ -70,7 +70,7 @@ where
     Ok(())
 }
 
-fn number<T: FromStr>(words: &mut SplitAsciiWhitespace<'_>) -> Result<T, Trouble>
+pub(crate) fn number<T: FromStr>(words: &mut SplitAsciiWhitespace<'_>) -> Result<T, Trouble>
 where
     T::Err: Drop,
 {

@@ -46,7 +46,8 @@ fn tell_outcome(rt: &impl Print, program: &Program, outcome: &Outcome) -> Result
     Ok(())
 }
 
-fn search(alloc: Global, p: &Program, nodes: u32) -> Result<Outcome, Trouble> {
+/// Searches for the greatest worth of a program by a tree of so many nodes.
+pub(crate) fn search(alloc: Global, p: &Program, nodes: u32) -> Result<Outcome, Trouble> {
     if nodes == 0 || nodes > GREATEST {
         return Err(Trouble::Usage);
     }
@@ -60,7 +61,7 @@ fn search(alloc: Global, p: &Program, nodes: u32) -> Result<Outcome, Trouble> {
 }
 
 /// What counts are worth.
-fn worth(p: &Program, counts: &[u64]) -> Result<i128, Trouble> {
+pub(crate) fn worth(p: &Program, counts: &[u64]) -> Result<i128, Trouble> {
     let mut sum = 0i128;
     for (gain, count) in p.gain.as_slice().iter().zip(counts) {
         let part = gain.checked_mul(i128::from(*count)).ok_or(Trouble::Gains)?;

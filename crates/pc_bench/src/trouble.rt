@@ -7,7 +7,7 @@ use thiserror::Error;
 /// Why a run ends without its line.
 #[derive(Clone, Copy, Debug, PartialEq, Eq, Error)]
 pub(crate) enum Trouble {
-    #[error("usage: pc_bench cells FAMILY CONSTRAINTS TIMES | search FILE NODES [then ..], with 1 to 100000 nodes")]
+    #[error("usage: pc_bench cells FAMILY CONSTRAINTS TIMES | search FILE NODES | trials [then ..], with 1 to 100000 nodes")]
     Usage,
     #[error("a generated file is refused")]
     Refused,
@@ -17,6 +17,12 @@ pub(crate) enum Trouble {
     Program,
     #[error("the gains are too great")]
     Gains,
+    #[error("no such question")]
+    Question,
+    #[error("no ground of questions")]
+    Ground,
+    #[error("the leaves are not one more than the cuts")]
+    Cuts,
     #[error("out of memory")]
     Memory,
     #[error("input or output failed")]
@@ -29,6 +35,7 @@ impl Trouble {
         match self {
             Trouble::Usage => 2,
             Trouble::Refused | Trouble::Text | Trouble::Program | Trouble::Gains => 3,
+            Trouble::Question | Trouble::Ground | Trouble::Cuts => 3,
             Trouble::Host => 5,
             Trouble::Memory => 6,
         }

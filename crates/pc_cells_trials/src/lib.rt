@@ -1,15 +1,7 @@
-//! Tests of boxes, trees of cuts, cells and runs.
+//! Tests of cells against plain programs, and of runs. Boxes, trees and cells that are known stand in the trials of pc_bench.
 #![tactic(auto)]
 
 #[cfg(test)]
-mod boxes;
-#[cfg(test)]
 mod cells;
 #[cfg(test)]
-mod first_cuts;
-#[cfg(test)]
 mod runs;
-#[cfg(test)]
-mod sessions;
-#[cfg(test)]
-mod trees;

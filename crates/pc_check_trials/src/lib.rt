@@ -1,4 +1,4 @@
-//! Tests of the checker, on files and documents that are read.
+//! Tests of documents that no file of trials shows: what a line is read as, and what is read and written again.
 #![tactic(auto)]
 
 #[cfg(test)]

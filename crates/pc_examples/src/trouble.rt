@@ -3,13 +3,16 @@ use std::alloc::AllocError;
 use std::io;
 use thiserror::Error;
 
-/// Why the examples are not all run.
+/// Why something is not tried to its end.
 #[derive(Clone, Copy, Debug, PartialEq, Eq, Error)]
 pub(crate) enum Trouble {
     #[error("out of memory")]
     Memory,
     #[error("input or output failed")]
     Host,
+    /// What is wrong with a line of a trial.
+    #[error("{0}")]
+    Line(&'static str),
 }
 
 impl From<AllocError> for Trouble {

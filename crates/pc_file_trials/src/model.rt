@@ -1,7 +1,6 @@
 use pc_list::{Seq, Text};
 use pc_model::{
-    Column, Fault, FileKind, Kind, ReadStop, Reason, Refusal, Region, Row, Schema, Side, is_name,
-    read_number, text_of,
+    Column, Fault, FileKind, Kind, ReadStop, Reason, Refusal, Region, Row, Schema, Side,
 };
 use pc_num::Memory;
 use std::alloc::{AllocError, Global};
@@ -103,85 +102,12 @@ fn rows_of_a_domain(rt: HostRuntime) -> Result<(), Fail> {
     Ok(())
 }
 
+// The names of the other reasons and files are among the trials.
 #[test]
 fn printed_names(rt: HostRuntime) {
-    let reasons = [
-        (Reason::NotUtf8, 1, "NotUtf8"),
-        (Reason::TooLong, 20, "TooLong"),
-    ];
-    for (reason, number, name) in reasons {
-        assert_eq!(rt; reason.number(), number);
-        assert!(rt; reason.name() == name, "the name of reason {number}");
-    }
-    let files = [
-        (FileKind::Schema, "schema"),
-        (FileKind::Rows, "rows"),
-        (FileKind::Constraints, "constraints"),
-        (FileKind::Query, "query"),
-        (FileKind::Document, "document"),
-        (FileKind::Script, "script"),
-    ];
-    for (file, name) in files {
-        assert!(rt; file.name() == name, "the file {name}");
-    }
-}
-
-#[test]
-fn texts_of_files(rt: HostRuntime) {
-    let cases: [(&[u8], Result<&[u8], Reason>); 9] = [
-        (b"", Ok(b"")),
-        (b"a\n", Ok(b"a\n")),
-        (b"\xef\xbb\xbfa", Ok(b"a")),
-        (b"\xef\xbb\xbf", Ok(b"")),
-        (b"\xef\xbb\xbf\xef\xbb\xbf", Ok(b"\xef\xbb\xbf")),
-        (b"a\xef\xbb\xbf", Ok(b"a\xef\xbb\xbf")),
-        (b"\xef\xbb", Err(Reason::NotUtf8)),
-        (b"a\xff", Err(Reason::NotUtf8)),
-        (b"\xc0\x80", Err(Reason::NotUtf8)),
-    ];
-    for (number, (bytes, want)) in cases.into_iter().enumerate() {
-        assert!(rt; text_of(bytes) == want, "case {number}");
-    }
-}
-
-#[test]
-fn names(rt: HostRuntime) {
-    let cases: [(&[u8], bool); 12] = [
-        (b"a", true),
-        (b" ", true),
-        (b"New York", true),
-        ("größe".as_bytes(), true),
-        (b"\"a,b\"", true),
-        (&[b'n'; 64], true),
-        (&[b'n'; 65], false),
-        (b"", false),
-        (b"a\x1f", false),
-        (b"\x7f", false),
-        (b"a\nb", false),
-        (b"\xff", false),
-    ];
-    for (number, (text, want)) in cases.into_iter().enumerate() {
-        assert!(rt; is_name(text) == want, "case {number}");
-    }
-}
-
-#[test]
-fn numbers_of_files(rt: HostRuntime) {
-    let cases: [(&str, u8, Result<i64, Reason>); 6] = [
-        ("-7.5", 2, Ok(-750)),
-        ("1000000000000000", 0, Ok(1_000_000_000_000_000)),
-        ("", 0, Err(Reason::BadNumber)),
-        ("7,5", 1, Err(Reason::BadNumber)),
-        ("7.55", 1, Err(Reason::TooManyDecimals)),
-        ("1000000000000001", 0, Err(Reason::PastLimit)),
-    ];
-    for (text, scale, want) in cases {
-        assert_eq!(rt;
-            read_number(text.as_bytes(), scale),
-            want,
-            "{text} at {scale}"
-        );
-    }
+    assert_eq!(rt; Reason::TooLong.number(), 20);
+    assert!(rt; Reason::TooLong.name() == "TooLong");
+    assert!(rt; FileKind::Document.name() == "document");
 }
 
 #[test]
@@ -202,23 +128,11 @@ fn stops(rt: HostRuntime) {
     assert_eq!(rt; Refusal::from(Memory), Refusal::Memory);
 }
 
-// Touching and separate spans, sets with and without a place in common, and sides of two kinds.
+// Sides of two kinds, which no column has. Sides of one kind are among the trials of lines.
 #[test]
 fn sides_in_common(rt: HostRuntime) {
-    let span = |low: i64, high: i64| Side::Span { low, high };
-    let set = |bits: u128| Side::Names { bits };
-    let cases = [
-        (span(1, 5), span(3, 9), Some(span(3, 5))),
-        (span(1, 5), span(5, 9), Some(span(5, 5))),
-        (span(1, 5), span(6, 9), None),
-        (span(-9, 9), span(-2, 3), Some(span(-2, 3))),
-        (set(0b0110), set(0b0011), Some(set(0b0010))),
-        (set(0b0110), set(0b1001), None),
-        (set(u128::MAX), set(1 << 127), Some(set(1 << 127))),
-        (set(1), span(0, 0), None),
-        (span(0, 0), set(1), None),
-    ];
-    for (side, other, want) in cases {
-        assert!(rt; side.meet(other) == want, "{side:?}");
-    }
+    let span = Side::Span { low: 0, high: 0 };
+    let set = Side::Names { bits: 1 };
+    assert!(rt; set.meet(span).is_none());
+    assert!(rt; span.meet(set).is_none());
 }

@@ -1,10 +1,10 @@
 ghost use Rattle.std.specs.Prelude.{◌≡◌, ◌<◌, length, IfOk, All};
-ghost use Rattle.pc_model.specs.WellFormed.{HasFewNames, HaveFewNames};
+ghost use Rattle.pc_model.specs.WellFormed.{HaveFewNames};
 ghost use Rattle.pc_rows.specs.Stored.{row_limit};
 
 use crate::rows::column;
 use crate::rows::folds::{ANY, Fold, folds_to};
-use pc_list::{Seq, Text};
+use pc_list::Seq;
 use pc_model::{Kind, Schema};
 use pc_rows::{Rows, read_rows};
 use std::alloc::{AllocError, Global};
@@ -14,8 +14,6 @@ use std::test::Fail;
 pub(crate) const LEAST: i64 = -2_147_483_648;
 
 pub(crate) const GREATEST: i64 = 2_147_483_647;
-
-const LIMIT: i64 = 1_000_000_000_000_000;
 
 // Two columns, the second with its numbers in hundredths.
 fn schema(alloc: Global, low: i64, high: i64) -> Result<Schema, AllocError>
@@ -54,88 +52,6 @@ pub(crate) fn rows_within(alloc: Global, low: i64, high: i64, text: &str) -> Res
 {
     let schema = schema(alloc, low, high)?;
     Ok(read_rows(alloc, &schema, text.as_bytes())?)
-}
-
-// The least and the greatest number of both columns, a text, and its numbers. Four bytes serve the numbers of a column
-// where they serve both ends.
-static READ: [(i64, i64, &str, &[i64]); 7] = [
-    (0, 9, "a,b\n0,0.09\n9,0\n", &[0, 9, 9, 0]),
-    (
-        LEAST,
-        GREATEST,
-        "a,b\n-2147483648,-21474836.48\n2147483647,21474836.47\n7,-0.08\n",
-        &[LEAST, LEAST, GREATEST, GREATEST, 7, -8],
-    ),
-    (
-        LEAST - 1,
-        GREATEST,
-        "a,b\n7,-0.08\n-2147483649,-21474836.49\n2147483647,21474836.47\n",
-        &[7, -8, LEAST - 1, LEAST - 1, GREATEST, GREATEST],
-    ),
-    (
-        LEAST,
-        GREATEST + 1,
-        "a,b\n7,-0.08\n-2147483648,-21474836.48\n2147483648,21474836.48\n",
-        &[7, -8, LEAST, LEAST, GREATEST + 1, GREATEST + 1],
-    ),
-    (
-        GREATEST + 1,
-        LIMIT,
-        "a,b\n2147483648,21474836.48\n1000000000000000,10000000000000\n",
-        &[GREATEST + 1, GREATEST + 1, LIMIT, LIMIT],
-    ),
-    (
-        -LIMIT,
-        LEAST - 1,
-        "a,b\n-1000000000000000,-10000000000000\n-2147483649,-21474836.49\n",
-        &[-LIMIT, -LIMIT, LEAST - 1, LEAST - 1],
-    ),
-    (
-        -LIMIT,
-        LIMIT,
-        "a,b\n7,-0.08\n-1000000000000000,10000000000000\n4294967297,3\n",
-        &[7, -8, -LIMIT, LIMIT, 4_294_967_297, 300],
-    ),
-];
-
-#[test]
-fn numbers_of_four_and_of_eight_bytes_are_read(rt: HostRuntime) -> Result<(), Fail> {
-    let alloc = rt.alloc();
-    for (low, high, text, wanted) in READ.iter() {
-        let rows = rows_within(alloc, *low, *high, text)?;
-        assert!(rt; numbers(alloc, &rows)?.as_slice() == *wanted, "{text}");
-    }
-    Ok(())
-}
-
-// Two columns of the names `north` and `south`.
-fn schema_of_names(alloc: Global) -> Result<Schema, AllocError>
-    ensures few { IfOk result (λ schema. HaveFewNames schema.columns) }
-    ensures two { IfOk result (λ schema. length schema.columns ≡ 2) }
-{
-    let mut columns = Seq::new(alloc);
-    columns.push(column(alloc, "a", two_names(alloc)?)?)?;
-    columns.push(column(alloc, "b", two_names(alloc)?)?)?;
-    Ok(Schema { columns })
-}
-
-fn two_names(alloc: Global) -> Result<Kind, AllocError>
-    ensures { IfOk result HasFewNames }
-{
-    let mut names = Seq::new(alloc);
-    names.push(Text::from_text(alloc, "north")?)?;
-    names.push(Text::from_text(alloc, "south")?)?;
-    Ok(Kind::Cat { names })
-}
-
-// Four bytes serve the place of a name.
-#[test]
-fn columns_of_names_are_read(rt: HostRuntime) -> Result<(), Fail> {
-    let alloc = rt.alloc();
-    let schema = schema_of_names(alloc)?;
-    let rows = read_rows(alloc, &schema, b"a,b\nnorth,south\nsouth,south\n")?;
-    assert!(rt; numbers(alloc, &rows)?.as_slice() == [0, 1, 1, 1].as_slice());
-    Ok(())
 }
 
 // Adds a row of two numbers.

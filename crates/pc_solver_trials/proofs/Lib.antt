@@ -1,4 +1,3 @@
 pub mod FrontierSamples
 pub mod ShortSamples
-pub mod ShownWalks
 pub mod Starting

@@ -1,8 +1,7 @@
-//! Tests of programs and their bounds, of relaxations, frontiers and searches.
+//! Tests of programs and their relaxations, frontiers and searches against plain ones. Programs whose answers are known stand in
+//! the trials of pc_bench.
 #![tactic(auto)]
 
-#[cfg(test)]
-mod bounds;
 #[cfg(test)]
 mod branch;
 #[cfg(test)]
@@ -12,11 +11,7 @@ mod greedy;
 #[cfg(test)]
 mod lists;
 #[cfg(test)]
-mod nested;
-#[cfg(test)]
 mod plain;
-#[cfg(test)]
-mod programs;
 #[cfg(test)]
 mod ready;
 #[cfg(test)]
@@ -26,5 +21,3 @@ mod samples;
 mod short;
 #[cfg(test)]
 mod tableau;
-#[cfg(test)]
-mod walks;

@@ -5,9 +5,8 @@ mod whole;
 
 use self::beside::is_end;
 use self::whole::{steps_of, whole};
-use crate::lists::{Lists, round_pairs};
-use pc_list::Seq;
-use pc_num::{Frac, are_fit};
+use crate::lists::Lists;
+use pc_num::are_fit;
 use pc_program_bound::{Program, is_box, is_program};
 use pc_simplex::{Relaxed, Step, relax};
 use std::alloc::Global;
@@ -32,29 +31,11 @@ fn is_as_whole(alloc: Global, p: &Program, found: &Relaxed) -> Result<bool, Fail
     Ok(is_end(p, floor, cap, found, &end))
 }
 
-fn is_vertex(relaxed: &Relaxed, wanted: &[Frac], by: &[i128], den: i128) -> bool {
-    match relaxed {
-        Relaxed::Vertex { point, mult } => {
-            point.as_slice() == wanted && mult.by.as_slice() == by && mult.den == den
-        }
-        _ => false,
-    }
-}
-
-fn is_void(relaxed: &Relaxed, by: &[i128]) -> bool {
-    match relaxed {
-        Relaxed::Void { mult } => mult.by.as_slice() == by && mult.den == 1,
-        _ => false,
-    }
-}
-
-// The gains of three cells that are each in two of three constraints, which allow one row each: half a row of each is best.
+// The gains of three cells that are each in two of three constraints, which allow one row each.
 static GAINS: [[i128; 3]; 2] = [[1, 1, 1], [GREAT, GREAT, GREAT]];
 
 // A gain with which rows in short form are given up.
 const GREAT: i128 = (1 << 86) + 1;
-
-const HALF: Frac = Frac { num: 1, den: 2 };
 
 fn triangle(alloc: Global, gain: &[i128]) -> Result<Program, Fail> {
     let lists = Lists {
@@ -66,13 +47,6 @@ fn triangle(alloc: Global, gain: &[i128]) -> Result<Program, Fail> {
         gain,
     };
     Ok(lists.program(alloc)?)
-}
-
-/// Whether half a row of each cell is best, by multipliers that are half of the gains.
-fn is_half_of_each(alloc: Global, p: &Program) -> Result<bool, Fail> {
-    let found = relaxed(alloc, p, p.floor.as_slice(), p.cap.as_slice())?;
-    let by = p.gain.as_slice();
-    Ok(is_vertex(&found, &[HALF, HALF, HALF], by, 2) && is_as_whole(alloc, p, &found)?)
 }
 
 static STEPS: [Step; 4] = [
@@ -100,56 +74,13 @@ fn takes_steps(alloc: Global, p: &Program, steps: &[Step]) -> Result<bool, Fail>
 }
 
 #[test]
-fn half_a_row_of_each(rt: HostRuntime) -> Result<(), Fail> {
+fn steps_of_a_triangle(rt: HostRuntime) -> Result<(), Fail> {
     let alloc = rt.alloc();
     for (place, gain) in GAINS.iter().enumerate() {
         let p = triangle(alloc, gain)?;
-        let is_found = is_half_of_each(alloc, &p)? && takes_steps(alloc, &p, &STEPS)?;
+        let is_found = ends_alike(alloc, &p)? && takes_steps(alloc, &p, &STEPS)?;
         assert!(rt; is_found, "program {place}");
     }
-    Ok(())
-}
-
-// A constraint that wants a row of a cell that can have none.
-fn wanting(alloc: Global) -> Result<Program, Fail> {
-    let lists = Lists {
-        masks: &[1],
-        least: &[1],
-        most: &[1],
-        floor: &[0],
-        cap: &[1],
-        gain: &[1],
-    };
-    Ok(lists.program(alloc)?)
-}
-
-#[test]
-fn a_row_that_cannot_be(rt: HostRuntime) -> Result<(), Fail> {
-    let alloc = rt.alloc();
-    let p = wanting(alloc)?;
-    let found = relaxed(alloc, &p, &[0], &[0])?;
-    assert!(rt; is_void(&found, &[-1]));
-    Ok(())
-}
-
-fn stalled_after(relaxed: &Relaxed) -> Option<usize> {
-    match relaxed {
-        Relaxed::Stalled { steps } => Some(steps.len()),
-        _ => None,
-    }
-}
-
-/// How many steps are taken before they are found to go round.
-fn steps_until_stalled(alloc: Global, p: &Program) -> Result<Option<usize>, Fail> {
-    let found = relaxed(alloc, p, p.floor.as_slice(), p.cap.as_slice())?;
-    Ok(stalled_after(&found))
-}
-
-#[test]
-fn steps_that_go_round(rt: HostRuntime) -> Result<(), Fail> {
-    let alloc = rt.alloc();
-    let p = round_pairs(alloc)?;
-    assert_eq!(rt; steps_until_stalled(alloc, &p)?, Some(20_000));
     Ok(())
 }
 

@@ -1,4 +1,5 @@
-//! Tests of `run`: the worked cases, refusals and words, from the bytes of files to the bytes that are written.
+//! Tests of `run` that no file of trials shows: loads and puts that fail, how many files each command loads, which
+//! constraints contradict each other whatever lost rows are shown, and the trees of several blocks.
 #![tactic(auto)]
 
 #[cfg(test)]

@@ -1,4 +1,4 @@
-//! Tests of `view`: from reports and documents to tables and statuses, lines that may not stand, and faults.
+//! Tests of what no file of trials shows of `view` and `draft`: loads and puts that fail, statuses, and numbers behind charts.
 #![tactic(auto)]
 
 #[cfg(test)]

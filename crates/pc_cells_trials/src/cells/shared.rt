@@ -2,7 +2,7 @@ ghost use Rattle.std.specs.Prelude.{OnOk};
 ghost use Rattle.pc_model.specs.WellFormed.{IsWellFormed};
 ghost use Rattle.pc_cells_tree.specs.Linked.{CanBeDivided, IsTree};
 
-use super::{SHOP, place_of};
+use super::SHOP;
 use pc_cells::{Cells, Shared, decompose};
 use pc_lang::{read_constraints, read_query};
 use pc_model::{Area, Constraint, Schema};
@@ -10,87 +10,6 @@ use pc_num::Memory;
 use pc_schema::read_schema;
 use std::alloc::Global;
 use std::test::Fail;
-
-// Constraints, a query, and how many cuts the tree of one leaf wants for them.
-static CUTS: [(&str, &str, u64); 9] = [
-    (
-        "c: price >= 500.00 => price in 0.00..100.00, 1..2\n",
-        "count",
-        1,
-    ),
-    (
-        "c1: branch = Chicago => price in 0.00..149.99, 0..5\nc2: true => price in 0.00..100.00, 0..3\n",
-        "count",
-        2,
-    ),
-    ("", "count where day <= 5", 0),
-    ("a: day in 1..10 => true, 0..1\n", "count", 1),
-    ("a: day in 1..10 => true, 0..1\n", "count where day <= 5", 2),
-    (
-        "a: day in 10..20 => price <= 100, 0..1\n",
-        "count where branch in {Chicago, Trenton}",
-        4,
-    ),
-    ("a: day in 1..5 or day in 3..9 => true, 0..1\n", "count", 2),
-    (
-        "a: day in 1..10 => true, 0..1\noutside => day <= 20, 0..1\n",
-        "count",
-        2,
-    ),
-    (
-        "c: true => true, 0..3\noutside => true, 1..1\n",
-        "count where day <= 5 or day <= 9",
-        2,
-    ),
-];
-
-/// Whether the first refinement makes so many cuts, and the second none.
-fn is_refined_once(
-    alloc: Global,
-    schema: &Schema,
-    constraints: &[Constraint],
-    chosen: &Area,
-    cuts: u64,
-) -> Result<bool, Memory>
-    requires asked { CanBeDivided schema.now constraints.now chosen.now }
-{
-    let mut shared = Shared::new(alloc, schema)?;
-    let first = shared.refine(schema, constraints, chosen)?;
-    let nodes = shared.nodes.clone()?;
-    let second = shared.refine(schema, constraints, chosen)?;
-    Ok(first == cuts && second == 0 && shared.nodes == nodes)
-}
-
-fn is_cut_once(
-    alloc: Global,
-    schema: &Schema,
-    text: &str,
-    question: &str,
-    cuts: u64,
-) -> Result<bool, Memory>
-    requires well_formed { IsWellFormed schema.now }
-{
-    let Ok(constraints) = read_constraints(alloc, schema, text.as_bytes()) else {
-        return Ok(false);
-    };
-    let Ok(query) = read_query(alloc, schema, question, 1) else {
-        return Ok(false);
-    };
-    is_refined_once(alloc, schema, constraints.as_slice(), &query.chosen, cuts)
-}
-
-#[test]
-fn a_second_refinement_makes_no_cut(rt: HostRuntime) -> Result<(), Fail> {
-    let alloc = rt.alloc();
-    let Ok(schema) = read_schema(alloc, SHOP) else {
-        return Err(Fail::new("no schema"));
-    };
-    for (number, (text, question, cuts)) in CUTS.into_iter().enumerate() {
-        let once = is_cut_once(alloc, &schema, text, question, cuts)?;
-        assert!(rt; once, "case {number}");
-    }
-    Ok(())
-}
 
 // Constraints that are taken in one after the other, and a query.
 static IN_TURN: [(&str, &str); 12] = [
@@ -170,7 +89,15 @@ fn has_classes_of(found: &Cells, other: &Cells) -> bool {
         .cells
         .as_slice()
         .iter()
-        .all(|cell| place_of(found, cell.mask, cell.chosen).is_some())
+        .all(|cell| has_class(found, cell.mask, cell.chosen))
+}
+
+fn has_class(found: &Cells, mask: u32, chosen: bool) -> bool {
+    found
+        .cells
+        .as_slice()
+        .iter()
+        .any(|cell| cell.mask == mask && cell.chosen == chosen)
 }
 
 /// Whether the constraints give the same cells one after the other as at once.

@@ -57,44 +57,6 @@ fn reads_lines_of_nodes(rt: HostRuntime) -> Result<(), Fail> {
     Ok(())
 }
 
-static NO_SPLITS: [&str; 8] = [
-    "",
-    "split 1",
-    "split 1 2 3",
-    "split 1  2",
-    "split 01 2",
-    "split -1 2",
-    "split 4294967296 0",
-    "split 0 1000000000000000001",
-];
-
-#[test]
-fn refuses_other_lines_of_splits(rt: HostRuntime) -> Result<(), Fail> {
-    for line in NO_SPLITS.iter() {
-        assert!(rt; !is_node_line(rt.alloc(), line)?, "{line}");
-    }
-    Ok(())
-}
-
-static NO_LEAVES: [&str; 8] = [
-    "bound",
-    "bound 0 1",
-    "bound -1 1",
-    "bound 1 +1",
-    "void 1 ",
-    "void -0",
-    "node 1",
-    "void 170141183460469231731687303715884105728",
-];
-
-#[test]
-fn refuses_other_lines_of_leaves(rt: HostRuntime) -> Result<(), Fail> {
-    for line in NO_LEAVES.iter() {
-        assert!(rt; !is_node_line(rt.alloc(), line)?, "{line}");
-    }
-    Ok(())
-}
-
 fn low_end(
     alloc: Global,
     schema: &Schema,

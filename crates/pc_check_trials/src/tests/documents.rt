@@ -2,7 +2,6 @@
 ghost use Rattle.pc_model.specs.WellFormed.{IsWellFormed};
 
 use pc_document::{NoDocument, put_document, read_document};
-use pc_document_format::line_of;
 use pc_model::Schema;
 use pc_schema::read_schema;
 use std::alloc::Global;
@@ -116,70 +115,6 @@ by tree\n\
 void\n\
 end\n";
 
-static FAULTS: [(&str, u64); 25] = [
-    ("", 1),
-    ("pc 1", 1),
-    ("pc 1\n", 2),
-    ("pc 1\nend\n\n", 3),
-    ("pc 2\nend\n", 1),
-    ("\u{feff}pc 1\nend\n", 1),
-    ("pc 1\r\nend\n", 1),
-    ("pc 1\nquery count where true\n", 2),
-    ("pc 1\nquery sum(branch)\n", 2),
-    (
-        "pc 1\nquery count group by branch\ngroup branch = Boston\n",
-        3,
-    ),
-    ("pc 1\nquery count\ntree own\nleaf 01 in\n", 4),
-    ("pc 1\nquery count\ntree own\nleaf 4294967296 in\n", 4),
-    (
-        "pc 1\nquery count\ntree own\ncut branch {Trenton, Chicago}\n",
-        4,
-    ),
-    ("pc 1\nquery count\ntree own\ncut branch {}\n", 4),
-    ("pc 1\nquery count\ntree own\ncut price 7\n", 4),
-    (
-        "pc 1\nquery count\ntree own\ncut day 3\nleaf barren\nleaf barren\nleaf barren\n",
-        7,
-    ),
-    (
-        "pc 1\nquery count\ntree same\nrelation possible\nrun 1000000000000000001: Chicago, 1, 0.00\n",
-        5,
-    ),
-    (
-        "pc 1\nquery count\ntree same\nrelation possible\nrun 1: Chicago, 1, 0.0\n",
-        5,
-    ),
-    (
-        "pc 1\nquery count\ntree same\nrelation undecided\nlow 0 outer\nby tree\nbound 0 1\n",
-        7,
-    ),
-    (
-        "pc 1\nquery count\ntree same\nrelation undecided\nlow 0 outer\nby tree\nvoid -0\n",
-        7,
-    ),
-    (
-        "pc 1\nquery count\ntree same\nrelation undecided\nlow 0 outer\nby tree\nsplit 4294967296 0\n",
-        7,
-    ),
-    (
-        "pc 1\nquery count\ntree same\nrelation undecided\nlow 10000000000000000000000000000001 outer\n",
-        5,
-    ),
-    (
-        "pc 1\nquery avg(day)\ntree same\nrelation possible\nnone undecided\nlow 2/4 outer\n",
-        6,
-    ),
-    (
-        "pc 1\nquery count\ntree same\nrelation possible\nlow 1 exact\nrun 1: Chicago, 1, 0.00\nlow 1 exact\n",
-        7,
-    ),
-    (
-        "pc 1\nquery min(day)\ntree same\nrelation possible\nlow 1 exact\n",
-        5,
-    ),
-];
-
 /// Whether bytes are read, and written again as they were.
 fn is_written_again(alloc: Global, schema: &Schema, text: &str) -> Result<bool, NoDocument>
     requires { IsWellFormed schema.now }
@@ -198,41 +133,6 @@ fn documents_are_read_and_written_again(rt: HostRuntime) -> Result<(), Fail> {
     for text in ["pc 1\nend\n", ONE_CELL, ALL_KINDS] {
         let told = is_written_again(rt.alloc(), &schema, text);
         assert!(rt; told == Ok(true), "{text}");
-    }
-    Ok(())
-}
-
-#[test]
-fn faults_have_their_line(rt: HostRuntime) -> Result<(), Fail> {
-    let schema = read_schema(rt.alloc(), SCHEMA.as_bytes())?;
-    for (text, line) in FAULTS.iter() {
-        let told = is_written_again(rt.alloc(), &schema, text);
-        assert!(rt; told == Err(NoDocument::Fault { line: *line }), "{text}");
-    }
-    Ok(())
-}
-
-/// Whether the fault of a text that is no document is in this line.
-fn is_fault(alloc: Global, schema: &Schema, bytes: &[u8], wanted: u64) -> bool
-    requires { IsWellFormed schema.now }
-{
-    match read_document(alloc, schema, bytes) {
-        Err(NoDocument::Fault { line }) => line == wanted,
-        _ => false,
-    }
-}
-
-/// A document that is cut off has its fault in the line after its last whole one.
-#[test]
-fn documents_cut_off(rt: HostRuntime) -> Result<(), Fail> {
-    let schema = read_schema(rt.alloc(), SCHEMA.as_bytes())?;
-    let bytes = ONE_CELL.as_bytes();
-    for place in 0..bytes.len() {
-        let line = line_of(bytes, place);
-        assert!(rt;
-            is_fault(rt.alloc(), &schema, &bytes[..place], line),
-            "{place}"
-        );
     }
     Ok(())
 }

@@ -1,29 +1,11 @@
 use super::drawn::{Verdict, gain, said_of, with_ends};
-use super::{Wanted, are_found, solved};
-use crate::lists::Lists;
+use super::solved;
 use crate::plain::{Draws, Small, greatest};
 use pc_branch::Outcome;
 use pc_nested::is_nested;
 use pc_program_bound::is_program;
 use std::alloc::Global;
 use std::test::Fail;
-
-// Two constraints inside a third.
-const INSIDE: Lists<'static> = Lists {
-    masks: &[1, 3, 5],
-    least: &[3, 2, 1],
-    most: &[10, 4, 3],
-    floor: &[0, 0, 0],
-    cap: &[10, 4, 3],
-    gain: &[10_000, 1_000, 5_000],
-};
-
-#[test]
-fn one_node_is_enough_for_nested_constraints(rt: HostRuntime) -> Result<(), Fail> {
-    let searches = [(1, Wanted::Best(77_000)), (100, Wanted::Best(77_000))];
-    assert!(rt; are_found(rt.alloc(), &INSIDE, &searches)?);
-    Ok(())
-}
 
 /// The masks of cells of constraints each inside the one before, of two inside a third, of one inside another and one
 /// apart, of two that are equal, of three that are, and of three apart.

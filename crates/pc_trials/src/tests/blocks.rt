@@ -92,3 +92,25 @@ fn trees_of_two_blocks(rt: HostRuntime) -> Result<(), Fail> {
     assert!(rt; has_trees_of_one(&other));
     Ok(())
 }
+
+/// The document that `prove` writes for these words.
+fn proof_for(alloc: Global, words: &[&str]) -> Result<Seq<u8>, Fail> {
+    let mut shelf = shelf_failing(alloc, None)?;
+    let mut sink = MemSink::new(alloc, 0);
+    run_words(alloc, words, &mut shelf, &mut sink)?;
+    Ok(sink.kept)
+}
+
+#[test]
+fn one_tree_for_two_questions(rt: HostRuntime) -> Result<(), Fail> {
+    let words = ["prove", "s", "r", "c", "count", "sum(price)"];
+    let proof = proof_for(rt.alloc(), &words)?;
+    let mut same = 0;
+    for line in proof.as_slice().split(|byte| *byte == b'\n') {
+        if line == b"tree same".as_slice() && same < 9 {
+            same += 1;
+        }
+    }
+    assert_eq!(rt; same, 1);
+    Ok(())
+}

@@ -1,6 +1,6 @@
-//! Which constraints contradict each other.
+//! Which constraints contradict each other, but for the lost rows that are shown.
 use super::*;
-use groups::without_runs;
+use std::alloc::AllocError;
 use std::str::from_utf8;
 
 const PAIRS: &str = "k,cat,ab,bc,ca\n";
@@ -8,7 +8,7 @@ const PAIRS: &str = "k,cat,ab,bc,ca\n";
 /// The texts of a schema and constraints, the words, and what is written but the lines of runs.
 type Conflicts<'a> = (&'a str, &'a str, &'a [&'a str], &'a str);
 
-static TRIALS: [Conflicts<'static>; 11] = [
+static TRIALS: [Conflicts<'static>; 8] = [
     (
         PAIRS,
         "A: k in {ab, ca} => true, 1..1\nB: k in {ab, bc} => true, 1..1\nC: k in {bc, ca} => true, 1..1\n",
@@ -29,12 +29,6 @@ static TRIALS: [Conflicts<'static>; 11] = [
     ),
     (
         SHOP,
-        "c: price in 500.00..1000.00 => price in 0.00..100.00, 1..2\n",
-        &["conflict", "s", "c"],
-        "conflict c\nwithout c\n",
-    ),
-    (
-        SHOP,
         "c1: branch = Chicago => price in 0.00..149.99, 0..5\nc2: true => price in 0.00..100.00, 0..3\n",
         &["conflict", "s", "c"],
         "conflict none\n",
@@ -45,7 +39,6 @@ static TRIALS: [Conflicts<'static>; 11] = [
         &["conflict", "s", "c"],
         "conflict a, b, c\nwithout a\nwithout b\nwithout c\n",
     ),
-    (SHOP, "", &["conflict", "s", "c"], "conflict none\n"),
     (
         SHOP,
         "a: day in 1..20 => price in 5.00..10.00, 0..2\noutside => day in 1..5, 1..2\n",
@@ -64,19 +57,26 @@ static TRIALS: [Conflicts<'static>; 11] = [
         &["conflict", "s", "c"],
         "conflict a, b\nwithout a\nwithout b\n",
     ),
-    // In one node neither is seen of all six, at most 3 rows and at least 3.
-    (
-        "k,cat,ab,bc,ac,de,ef,df\n",
-        overlaps::TRIANGLES,
-        &["conflict", "--nodes", "1", "s", "c"],
-        "conflict undecided\ntested a, b, c, d, e, f\n",
-    ),
 ];
+
+/// The lines of a text but those of runs.
+fn without_runs(alloc: Global, text: &str) -> Result<String, AllocError> {
+    let mut kept = String::new(alloc);
+    for line in text.lines() {
+        if !line.starts_with("run ") {
+            kept.push_str(line)?;
+            kept.push('\n')?;
+        }
+    }
+    Ok(kept)
+}
 
 /// Whether the words are answered by two loads and one put with this text, but for the lines of runs.
 fn is_answered(alloc: Global, trial: &Conflicts<'_>) -> Result<bool, Fail> {
     let (schema, constraints, words, want) = *trial;
-    let mut shelf = shelf_of(alloc, schema, "", constraints)?;
+    let mut shelf = MemShelf::new(alloc);
+    shelf.add("s", schema.as_bytes())?;
+    shelf.add("c", constraints.as_bytes())?;
     let mut sink = MemSink::new(alloc, 0);
     let ended = run_words(alloc, words, &mut shelf, &mut sink)?;
     if ended != Status::Done || (shelf.calls, sink.calls) != (2, 1) {

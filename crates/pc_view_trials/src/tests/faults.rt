@@ -1,58 +1,161 @@
-//! Loads and puts that fail, and the numbers of the statuses.
-use super::*;
+//! Inputs that are not there, loads and puts that fail, and the numbers of the statuses.
+use pc_base::{MemShelf, MemSink};
+use pc_draft_run::draft;
+use pc_view_run::{Ended, view};
+use std::alloc::Global;
+use std::test::Fail;
 
-const COUNT: &[u8] = b"query count\nrelation possible\nlow 3 exact\nhigh 7 exact\n";
+/// The files of each run, by name.
+static FILES: [(&str, &str); 4] = [
+    (
+        "schema",
+        "branch,cat,Chicago,NewYork,Trenton\nday,int,1,31\nprice,dec,2,0.00,1000.00\n",
+    ),
+    ("constraints", "a: true => day = 2, 0..1\n"),
+    (
+        "rows",
+        "branch,day,price,note\nChicago,3,99.5,\nNewYork,12,50.25,late\n",
+    ),
+    ("empty", ""),
+];
 
-#[test]
-fn an_input_that_is_not_there(rt: HostRuntime) -> Result<(), Fail> {
-    let alloc = rt.alloc();
-    let ending = ("read fault: report\n", Ended::ReadFault);
-    let sink = MemSink::new(alloc, 0);
-    assert!(rt;
-        ends_in(alloc, &CALL, MemShelf::new(alloc), sink, ending)?,
-        "no input"
-    );
-    Ok(())
+const COUNT: &str = "query count\nrelation possible\nlow 3 exact\nhigh 7 exact\n";
+
+/// What fails in a run.
+#[derive(Clone, Copy)]
+enum Failure {
+    Nothing,
+    /// The load of this number, counted from 0.
+    Load(u64),
+    /// The put, which keeps so many bytes.
+    Put(u64),
 }
 
-#[test]
-fn a_load_that_fails(rt: HostRuntime) -> Result<(), Fail> {
-    let alloc = rt.alloc();
-    let mut shelf = shelf_of(alloc, COUNT)?;
-    shelf.fail(0)?;
-    let ending = ("read fault: report\n", Ended::ReadFault);
-    assert!(rt;
-        ends_in(alloc, &CALL, shelf, MemSink::new(alloc, 0), ending)?,
-        "the fault"
-    );
-    Ok(())
+/// The text of a run, and its status.
+type Ending = (&'static str, u8);
+
+/// The words of a run of pc_view, its input, what fails in it, and how it is to end.
+static VIEWS: [(&[&str], Option<&str>, Failure, Ending); 6] = [
+    (
+        &["table"],
+        None,
+        Failure::Nothing,
+        ("read fault: report\n", 4),
+    ),
+    (
+        &["why", "schema", "constraints"],
+        None,
+        Failure::Nothing,
+        ("read fault: document\n", 4),
+    ),
+    (
+        &["table"],
+        Some(COUNT),
+        Failure::Load(0),
+        ("read fault: report\n", 4),
+    ),
+    (&["table"], Some(COUNT), Failure::Put(6), ("query,", 5)),
+    (&["table"], Some("x\n"), Failure::Put(9), ("malformed", 3)),
+    (&[], Some(COUNT), Failure::Put(0), ("", 3)),
+];
+
+/// The words of a run of pc_draft, what fails in it, and how it is to end.
+static DRAFTS: [(&[&str], Failure, Ending); 8] = [
+    (
+        &["sql", "schema", "constraints", "sales"],
+        Failure::Load(0),
+        ("read fault: schema\n", 4),
+    ),
+    (
+        &["sql", "schema", "constraints", "sales"],
+        Failure::Load(1),
+        ("read fault: constraints\n", 4),
+    ),
+    (
+        &["sql", "schema", "constraints", "sales"],
+        Failure::Put(6),
+        ("SELECT", 5),
+    ),
+    (
+        &["sql", "empty", "constraints", "sales"],
+        Failure::Put(9),
+        ("malformed", 3),
+    ),
+    (
+        &["schema", "rows", "day"],
+        Failure::Load(0),
+        ("read fault: rows\n", 4),
+    ),
+    (&["schema", "rows", "day"], Failure::Put(7), ("day,int", 5)),
+    (&["schema", "rows", "hour"], Failure::Put(6), ("column", 5)),
+    (&["schema", "empty"], Failure::Put(9), ("malformed", 3)),
+];
+
+/// A shelf with the files, and an input, if there is one.
+fn shelf_of(alloc: Global, input: Option<&str>, failure: Failure) -> Result<MemShelf, Fail> {
+    let mut shelf = MemShelf::new(alloc);
+    for (name, text) in &FILES {
+        shelf.add(name, text.as_bytes())?;
+    }
+    if let Some(text) = input {
+        shelf.add("/dev/stdin", text.as_bytes())?;
+    }
+    if let Failure::Load(number) = failure {
+        shelf.fail(number)?;
+    }
+    Ok(shelf)
 }
 
-/// Whether a run ends so where its put keeps so many bytes and fails.
-fn ends_short(
-    alloc: Global,
-    words: &[&str],
-    input: &[u8],
-    short: u64,
-    ending: Ending<'_>,
-) -> Result<bool, Fail> {
-    let mut sink = MemSink::new(alloc, short);
+fn sink_of(alloc: Global, failure: Failure) -> Result<MemSink, Fail> {
+    let Failure::Put(kept) = failure else {
+        return Ok(MemSink::new(alloc, 0));
+    };
+    let mut sink = MemSink::new(alloc, kept);
     sink.fail(0)?;
-    ends_in(alloc, words, shelf_of(alloc, input)?, sink, ending)
+    Ok(sink)
+}
+
+fn owned(alloc: Global, words: &[&str]) -> Result<Vec<String>, Fail> {
+    let mut texts = Vec::new(alloc);
+    for word in words {
+        texts.push(String::from_str(alloc, word)?)?;
+    }
+    Ok(texts)
 }
 
 #[test]
-fn puts_that_fail(rt: HostRuntime) -> Result<(), Fail> {
+fn views_with_failures(rt: HostRuntime) -> Result<(), Fail> {
     let alloc = rt.alloc();
-    let cut = ("query,", Ended::WriteFault);
-    assert!(rt; ends_short(alloc, &CALL, COUNT, 6, cut)?, "a table");
-    let cut = ("malformed", Ended::Refused);
-    assert!(rt;
-        ends_short(alloc, &CALL, b"x\n".as_slice(), 9, cut)?,
-        "a refusal"
-    );
-    let cut = ("", Ended::Refused);
-    assert!(rt; ends_short(alloc, &[], COUNT, 0, cut)?, "the usage");
+    for (words, input, failure, (text, status)) in &VIEWS {
+        let mut shelf = shelf_of(alloc, *input, *failure)?;
+        let mut sink = sink_of(alloc, *failure)?;
+        let ended = view(
+            alloc,
+            owned(alloc, words)?.as_slice(),
+            &mut shelf,
+            &mut sink,
+        );
+        assert!(rt; ended.code() == *status, "the status of {text}");
+        assert!(rt; sink.kept.as_slice() == text.as_bytes(), "want {text}");
+    }
+    Ok(())
+}
+
+#[test]
+fn drafts_with_failures(rt: HostRuntime) -> Result<(), Fail> {
+    let alloc = rt.alloc();
+    for (words, failure, (text, status)) in &DRAFTS {
+        let mut shelf = shelf_of(alloc, None, *failure)?;
+        let mut sink = sink_of(alloc, *failure)?;
+        let ended = draft(
+            alloc,
+            owned(alloc, words)?.as_slice(),
+            &mut shelf,
+            &mut sink,
+        );
+        assert!(rt; ended.code() == *status, "the status of {text}");
+        assert!(rt; sink.kept.as_slice() == text.as_bytes(), "want {text}");
+    }
     Ok(())
 }
 

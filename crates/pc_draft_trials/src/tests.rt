@@ -1,4 +1,0 @@
-mod calls;
-mod drafts;
-mod sketches;
-mod statements;

@@ -1,0 +1,123 @@
+//! A case: words over files, and what they write.
+use crate::command::Command;
+use crate::trouble::Trouble;
+use pc_base::{MemShelf, MemSink};
+use pc_draft_run::draft;
+use pc_list::Seq;
+use pc_run::run;
+use pc_view_run::view;
+use std::alloc::Global;
+
+/// A file of a trial.
+#[derive(Debug, Drop)]
+pub(crate) struct NamedFile {
+    pub(crate) name: String,
+    pub(crate) bytes: Vec<u8>,
+}
+
+/// Bytes that a file has in one case.
+pub(crate) type Instead<'a> = Option<(&'a str, &'a [u8])>;
+
+/// What came of a case.
+#[derive(Debug, Drop)]
+pub(crate) struct Ended {
+    pub(crate) text: Seq<u8>,
+    pub(crate) status: u8,
+    /// Whether it was written by one put, and nothing was loaded where the words are no command.
+    pub(crate) is_in_order: bool,
+}
+
+/// The name under which `pc_view` loads the standard input.
+const INPUT: &str = "/dev/stdin";
+
+pub(crate) fn bytes_of<'a>(files: &'a [NamedFile], name: &str) -> Result<&'a [u8], Trouble> {
+    for file in files {
+        if file.name.as_str() == name {
+            return Ok(file.bytes.as_slice());
+        }
+    }
+    Err(Trouble::Line("the trial has no file of this name"))
+}
+
+/// Runs the command over the files, of which one may have other bytes.
+pub(crate) fn outcome_of(
+    alloc: Global,
+    command: &Command,
+    files: &[NamedFile],
+    instead: Instead<'_>,
+) -> Result<Ended, Trouble> {
+    let mut shelf = shelf_of(alloc, files, instead)?;
+    if let Some(name) = &command.given {
+        shelf.add(INPUT, bytes_in(files, instead, name.as_str())?)?;
+    }
+    let [name, words @ ..] = command.words.as_slice() else {
+        return Err(NO_PROGRAM);
+    };
+    let program = Program::named(name.as_str())?;
+    let mut sink = MemSink::new(alloc, 0);
+    let status = program.run(alloc, words, &mut shelf, &mut sink);
+    let is_in_order = sink.calls == 1 && (!program.is_usage(status) || shelf.calls == 0);
+    Ok(Ended {
+        text: sink.kept,
+        status,
+        is_in_order,
+    })
+}
+
+fn bytes_in<'a>(
+    files: &'a [NamedFile],
+    instead: Instead<'a>,
+    name: &str,
+) -> Result<&'a [u8], Trouble> {
+    match instead {
+        Some((other, bytes)) if other == name => Ok(bytes),
+        _ => bytes_of(files, name),
+    }
+}
+
+fn shelf_of(alloc: Global, files: &[NamedFile], instead: Instead<'_>) -> Result<MemShelf, Trouble> {
+    let mut shelf = MemShelf::new(alloc);
+    for file in files {
+        let name = file.name.as_str();
+        shelf.add(name, bytes_in(files, instead, name)?)?;
+    }
+    Ok(shelf)
+}
+
+/// A program that a trial runs.
+#[derive(Clone, Copy, Debug, PartialEq, Eq)]
+enum Program {
+    Pc,
+    View,
+    Draft,
+}
+
+impl Program {
+    fn named(name: &str) -> Result<Program, Trouble> {
+        if name == "pc" {
+            Ok(Program::Pc)
+        } else if name == "pc_view" {
+            Ok(Program::View)
+        } else if name == "pc_draft" {
+            Ok(Program::Draft)
+        } else {
+            Err(NO_PROGRAM)
+        }
+    }
+
+    /// Has the program do what the words ask, and gives its status.
+    fn run(self, alloc: Global, words: &[String], shelf: &mut MemShelf, sink: &mut MemSink) -> u8 {
+        match self {
+            Program::Pc => run(alloc, words, shelf, sink).code(),
+            Program::View => view(alloc, words, shelf, sink).code(),
+            Program::Draft => draft(alloc, words, shelf, sink).code(),
+        }
+    }
+
+    /// Whether the status says that the words are no command, of which `pc_view` has none.
+    fn is_usage(self, status: u8) -> bool {
+        status == 2 && self != Program::View
+    }
+}
+
+const NO_PROGRAM: Trouble = Trouble::Line("a run is one of pc, pc_view or pc_draft");
