@@ -2,6 +2,7 @@ pub mod Codes
 pub mod Counts
 pub mod Files
 pub mod Loads
+pub mod Logs
 pub mod MemoryLoads
 pub mod MemoryPuts
 pub mod Puts

@@ -1,6 +1,12 @@
 //! The files and the standard output of the system, as the outside that a command runs over.
 #![tactic(auto)]
 
-mod host;
+mod reading;
+mod shelf;
+mod sink;
+mod system;
+mod writing;
 
-pub use host::{HostShelf, HostSink};
+pub use shelf::{HostShelf, Opens};
+pub use sink::{HostSink, Steady};
+pub use system::SystemFiles;

@@ -2,7 +2,7 @@
 #![tactic(auto)]
 
 use pc_base::Status;
-use pc_cli_host::{HostShelf, HostSink};
+use pc_cli_host::{HostShelf, HostSink, SystemFiles};
 use pc_draft_run::draft;
 use std::alloc::AllocError;
 use std::process::ExitCode;
@@ -14,8 +14,8 @@ fn main(rt: HostRuntime) -> ExitCode {
         Ok(words) => draft(
             rt.alloc(),
             words.as_slice(),
-            &mut HostShelf::new(&rt),
-            &mut HostSink::new(&rt),
+            &mut HostShelf::new(SystemFiles::new(&rt)),
+            &mut HostSink::new(io::writer(&rt)),
         ),
         Err(_) => Status::Memory,
     };

@@ -1,7 +1,7 @@
 //! The program `pc_view`: it reads what `pc` printed from the standard input, and writes a table of it.
 #![tactic(auto)]
 
-use pc_cli_host::{HostShelf, HostSink};
+use pc_cli_host::{HostShelf, HostSink, SystemFiles};
 use pc_view_run::{Ended, view};
 use std::alloc::AllocError;
 use std::process::ExitCode;
@@ -13,8 +13,8 @@ fn main(rt: HostRuntime) -> ExitCode {
         Ok(words) => view(
             rt.alloc(),
             words.as_slice(),
-            &mut HostShelf::new(&rt),
-            &mut HostSink::new(&rt),
+            &mut HostShelf::new(SystemFiles::new(&rt)),
+            &mut HostSink::new(io::writer(&rt)),
         ),
         Err(_) => Ended::Memory,
     };
