@@ -35,7 +35,7 @@ use Rattle.pc_agg_search.proofs.Empty.{void_tree}
 use Rattle.pc_agg.proofs.Flat.{flat_none}
 use Rattle.pc_agg.proofs.Lacks.{unlisted_grown, lacking_grown, surely_grown}
 use Rattle.pc_agg_search.proofs.PosedPrograms.{own_classes}
-use Rattle.pc_agg_search.proofs.Shorts.{shows_no_gain, shows_some_row, short_empty, fit_short}
+use Rattle.pc_agg_search.proofs.Shorts.{shows_no_gain, shows_some_row, short_empty, small_short}
 
 any_map : {X Y : Type 0} (P : Y → Type 0) (f : X → Y) (xs : List X) → Any (λ x. P (f x)) xs → Any P (map f xs)
 any_map P f xs some = (some.0, f some.1, omega (arith, some.2, length-map xs f), get_or-map f xs some.0 some.1 (f some.1) some.2 ∙ ap f some.3, some.4)
@@ -61,7 +61,7 @@ module _ (u : Setting) (gain : Class → ℤ) (want : Want) (budget : ℕ) (foun
   pub probed_some : 0 < length found → 0 < length probed.found
   probed_some some = subst (λ l. 0 < length l) (sym is.grown) (omega (arith, some, length-append found is.more))
 
-  pub probed_empty : (tree : Tree) → probed.verdict ≡ verdicts.Empty tree → IsVoidTree u tree
+  pub probed_empty : (tree : Tree) → probed.verdict ≡ verdicts.Empty tree → IsVoidTree u budget tree
   probed_empty tree same = void_tree u (map gain (cells u)) budget tree (subst (IsVerdict (program_for u gain) want budget probed.found) same is.verdict)
 
   pub probed_short : (tree : Tree) → probed.verdict ≡ verdicts.Short tree → FallsShort (program_for u gain) want budget tree
@@ -85,7 +85,7 @@ module _ (u : Setting) (budget : ℕ) (found : List (List ℕ)) (probed : Probed
   pub fewest_short : (tree : Tree) → probed.verdict ≡ verdicts.Short tree → IsLacking u false budget probed.found (lackings.Never (nevers.Tree tree))
   fewest_short tree same =
       let short = probed_short u (on_chosen minus_one) wants.Without budget found probed is tree same in
-      (refl, shows_some_row (fewest_chosen u) budget tree short, fit_short (fewest_chosen u) wants.Without budget tree short)
+      (refl, shows_some_row (fewest_chosen u) budget tree short, small_short (fewest_chosen u) wants.Without budget tree short)
 
   pub fewest_open : probed.verdict ≡ verdicts.Open → IsLacking u false budget probed.found lackings.Open
   fewest_open same = (refl, probed_open u (on_chosen minus_one) wants.Without budget found probed is same)
@@ -103,7 +103,7 @@ most_sure u observed probed p want same wanted is = subst (λ q. IsSure q (want_
 module _ (u : Setting) (observed : Bool) (budget : ℕ) (found : List (List ℕ)) (lawful : All (AreLawful u) found) (totals : IsUnlistedIfNone u budget found) (probed : Probed)
     (is : IsProbed (most_chosen u) (want_for observed) budget found probed) where
   -- where rows were observed, any list would do
-  pub most_none : (tree : Tree) → probed.verdict ≡ verdicts.Short tree → observed ≡ true → IsVoidTree u tree
+  pub most_none : (tree : Tree) → probed.verdict ≡ verdicts.Short tree → observed ≡ true → IsVoidTree u budget tree
   most_none tree same seen =
       let short = probed_short u (on_chosen one) (want_for observed) budget found probed is tree same in
       void_tree u (most_chosen u).gain budget tree (short_empty (most_chosen u) budget tree (subst (λ o. FallsShort (most_chosen u) (want_for o) budget tree) seen short))
@@ -116,7 +116,7 @@ module _ (u : Setting) (observed : Bool) (budget : ℕ) (found : List (List ℕ)
         lawful = probed_lawful u (on_chosen one) (want_for observed) budget found probed is lawful;
         totals = probed_totals u (on_chosen one) (want_for observed) budget found probed is totals;
         shows = shows_no_gain (most_chosen u) budget tree (subst (λ o. FallsShort (most_chosen u) (want_for o) budget tree) unseen short);
-        fits = fit_short (most_chosen u) (want_for observed) budget tree short;
+        small = small_short (most_chosen u) (want_for observed) budget tree short;
       }
 
   pub most_open : (lack : Lacking) → probed.verdict ≡ verdicts.Open → HasValues u observed → IsLacking u observed budget found lack → AreGrounds u observed budget (record { lacking = lack; found = probed.found })
@@ -155,7 +155,7 @@ module _ (problem : Problem) (posed : IsPosed problem) where
     lawful = lawful;
     totals = totals;
     shows = shows_no_gain (most_chosen u) budget (flat_tree (length problem.constraints.now)) flat;
-    fits = fit_short (most_chosen u) wants.Gaining budget (flat_tree (length problem.constraints.now)) flat;
+    small = small_short (most_chosen u) wants.Gaining budget (flat_tree (length problem.constraints.now)) flat;
   }
     where
       flat : FallsShort (most_chosen u) wants.Gaining budget (flat_tree (length problem.constraints.now))

@@ -78,7 +78,7 @@ module _ (s : Setting) where
     met = allowed.met;
   }
 
-  none_by : (extreme : Extreme) (key : ℤ) (budget : ℕ) (tree : Tree) → IsEmpty (reaches s extreme key) budget tree → IsVoidTree s tree
+  none_by : (extreme : Extreme) (key : ℤ) (budget : ℕ) (tree : Tree) → IsEmpty (reaches s extreme key) budget tree → IsVoidTree s budget tree
   none_by extreme key budget tree empty = void_tree s (map (counting (λ class. int_le key (key_of s extreme class))) (cells s)) budget tree empty
 
   module _ (budget : ℕ) (ladder : Ladder) (want : Want) where

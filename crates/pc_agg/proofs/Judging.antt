@@ -90,7 +90,7 @@ module _ (schema : Schema) (constraints : List Constraint) (query : Query) (seen
   owes_none observed by_tree found picks answer lacks observing rows always sure is =
       subst (Owes s budget) (sym is)
       (owes_always schema constraints query seen nodes formed limited tree budget asking found (relation_from picks found) (alwayses.Tree by_tree) always.lawful (relation_may picks found)
-      (relation_is u budget picks found rows always.totals) lacks (observing.none always.unseen, always.shows) tt (λ seen_rows. always.fits) (λ nested. relation_decided picks found (sure nested)))
+      (relation_is u budget picks found rows always.totals) lacks (observing.none always.unseen, always.shows) always.small.few (λ seen_rows. always.small.fits) (λ nested. relation_decided picks found (sure nested)))
 
   -- ---- both ends
 

@@ -129,7 +129,7 @@ module _ (schema : Schema) (constraints : List Constraint) (query : Query) (seen
 
     never_done : (by' : NeverBy) → IsLacking u observed budget found (lackings.Never by') → IsLackDone s budget found (lacks.Never by')
     never_done nevers.Rows is = record { holds = observing.some is; silent = sym lacks_value; given = refl; from = All-nil IsThere; licensed = λ answer from. tt; searched = tt; fits = tt }
-    never_done (nevers.Tree t) is = record { holds = is.1; silent = sym lacks_value; given = refl; from = All-nil IsThere; licensed = λ answer from. tt; searched = tt; fits = is.2 }
+    never_done (nevers.Tree t) is = record { holds = is.1; silent = sym lacks_value; given = refl; from = All-nil IsThere; licensed = λ answer from. tt; searched = is.2.few; fits = is.2.fits }
 
     undecided_by : (answer : Answer) → ShownFrom s found answer → seen_count s.question ≡ pos 0 → IsDoubt (fewest_chosen u) wants.Without budget found → IsDoubt (most_chosen u) wants.Gaining budget found →
         All (λ counts. IsFound (fewest_chosen u) wants.Without counts → ⊥) found ⊎ All (λ counts. IsFound (most_chosen u) wants.Gaining counts → ⊥) found → LicensedLack s budget answer lacks.Undecided

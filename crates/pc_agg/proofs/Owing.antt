@@ -135,14 +135,14 @@ module _ (schema : Schema) (constraints : List Constraint) (query : Query) (seen
   relation_licensed found (relations.Impossible why) answer is from = tt
   relation_licensed found relations.Undecided answer is from = both_totals found answer is from
 
-  pub impossible_here : (why : Why) → ShowsImpossible u why → IsOfCells why → ShowsImpossible s why
+  pub impossible_here : (why : Why) → ShowsImpossible u why → IsOfCells budget why → ShowsImpossible s why
   impossible_here (whys.Void t) shows of = shows
   impossible_here (whys.Cross t v) shows of = shows
   impossible_here (whys.Ends low high) shows of = absurd of
 
-  pub why_searched : (why : Why) → IsOfCells why → WhySearched s budget why
-  why_searched (whys.Void t) of = tt
-  why_searched (whys.Cross t v) of = tt
+  pub why_searched : (why : Why) → IsOfCells budget why → WhySearched s budget why
+  why_searched (whys.Void t) of = of.few
+  why_searched (whys.Cross t v) of = (of.0.few, of.1.few)
   why_searched (whys.Ends low high) of = absurd of
 
   relation_holds : (found : List (List ℕ)) (relation : Relation) → All (AreLawful u) found → IsRelation u budget found relation → HoldsRelation s relation
@@ -168,9 +168,9 @@ module _ (schema : Schema) (constraints : List Constraint) (query : Query) (seen
   relation_searched found (relations.Impossible why) is = why_searched why is.1
   relation_searched found relations.Undecided is = tt
 
-  pub fit_of_cells : (why : Why) → IsOfCells why → IsFitWhy query.agg why
-  fit_of_cells (whys.Void t) of = of
-  fit_of_cells (whys.Cross t v) of = of
+  pub fit_of_cells : (why : Why) → IsOfCells budget why → IsFitWhy query.agg why
+  fit_of_cells (whys.Void t) of = of.fits
+  fit_of_cells (whys.Cross t v) of = (of.0.fits, of.1.fits)
   fit_of_cells (whys.Ends low high) of = absurd of
 
   relation_fits : (found : List (List ℕ)) (relation : Relation) → IsRelation u budget found relation → IsFitRelation query.agg relation
@@ -227,7 +227,7 @@ module _ (schema : Schema) (constraints : List Constraint) (query : Query) (seen
       subst (λ lack. OwesSettled s budget settled.relation lack settled.found) (sym is.lack) (settled_as settled.found settled.relation always is.lawful is.relation decided)
 
   -- nothing is possible, whatever the aggregate
-  pub settled_impossible : (why : Why) → ShowsImpossible u why → IsOfCells why → OwesSettled s budget (relations.Impossible why) lacks.Silent []
+  pub settled_impossible : (why : Why) → ShowsImpossible u why → IsOfCells budget why → OwesSettled s budget (relations.Impossible why) lacks.Silent []
   settled_impossible why shows of =
       settled_with [] (relations.Impossible why) lacks.Silent (All-nil (AreLawful u)) (shows, of) (sym (or_true (always_has_value query.agg))) tt tt tt (All-nil (IsThere [])) (λ answer from. tt) (λ nested. (tt, tt))
       (λ no ends. absurd (true≢false ends.0)) (silent_left []) (λ nested no ends. absurd (true≢false ends.0))

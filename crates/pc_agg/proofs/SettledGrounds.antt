@@ -114,7 +114,7 @@ module _ (schema : Schema) (constraints : List Constraint) (query : Query) (seen
       subst (λ (x : Settled). OwesSettled s budget x.relation x.lack x.found) (sym from)
       (settled_impossible schema constraints query seen nodes formed limited tree budget asking why is.0 is.1)
   owes_grounded observed observing (grounded.Always by_tree found) settled is sure from =
-      settled_over found settled (lacks.Always (alwayses.Tree by_tree)) from.0 from.1 is.lawful is.totals refl (observing.none is.unseen, is.shows) tt is.fits (All-nil (IsThere found)) (λ answer shown. tt)
+      settled_over found settled (lacks.Always (alwayses.Tree by_tree)) from.0 from.1 is.lawful is.totals refl (observing.none is.unseen, is.shows) is.small.few is.small.fits (All-nil (IsThere found)) (λ answer shown. tt)
       (λ nested. (sure nested, tt)) (λ may. absurd (true≢false may)) (settled_lack_left (lacks.Always (alwayses.Tree by_tree)) found refl) (λ nested may. absurd (true≢false may))
   owes_grounded observed observing (grounded.Open grounds) settled is sure from =
       let done =

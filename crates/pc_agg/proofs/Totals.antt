@@ -28,7 +28,7 @@ use Rattle.pc_agg_search.specs.Limits.{IsLimit, IsReached, IsCutShort, IsEmpty}
 use Rattle.pc_agg.specs.Settling.{AreRowsOfCells, AreOpenTotals, IsLimitOfGain, IsSettled, IsLeftOpen, IsTotal, IsTotalOf, left_open, settled_after}
 use Rattle.pc_agg.specs.ShownRows.{AreShownLow}
 use Rattle.pc_agg_search.proofs.Empty.{void_tree}
-use Rattle.pc_agg_search.proofs.Shorts.{fit_limit}
+use Rattle.pc_agg_search.proofs.Shorts.{small_limit}
 use Rattle.pc_agg.proofs.Ending.{within_limit}
 
 -- what holds of a good result by two clauses, one of which has a premise
@@ -71,7 +71,7 @@ module _ (u : Setting) where
   pub settled_void : (budget : ℕ) (gains : List ℤ) (tree : Tree) (settled : Settled) → IsEmpty (program_with u.question.constraints (cells u) gains) budget tree →
       settled ≡ record { relation = relations.Impossible (whys.Void tree); lack = lacks.Silent; found = [] } → IsSettled u budget settled
   settled_void budget gains tree settled empty is =
-      subst (IsSettled u budget) (sym is) (record { relation = let void = void_tree u gains budget tree empty in (void.shows, void.fits); lack = refl; lawful = All-nil (AreLawful u); shown = tt })
+      subst (IsSettled u budget) (sym is) (record { relation = let void = void_tree u gains budget tree empty in (void.shows, void.small); lack = refl; lawful = All-nil (AreLawful u); shown = tt })
 
   -- ---- totals
 
@@ -113,7 +113,7 @@ module _ (u : Setting) where
             sound_within (program_for u minus_one) budget fewest is_fewest.limit_is,
             crosses (bound_for (program_for u one) most.tree) (bound_for (program_for u minus_one) fewest.tree) most.most fewest.most is_most.limit_is.within is_fewest.limit_is.within is_most.limit_is.small is_fewest.limit_is.small (omega (arith, ints, e)),
           ),
-          (fit_limit (program_for u one) budget most is_most.limit_is, fit_limit (program_for u minus_one) budget fewest is_fewest.limit_is),
+          (small_limit (program_for u one) budget most is_most.limit_is, small_limit (program_for u minus_one) budget fewest is_fewest.limit_is),
         );
         lack = refl;
         lawful = All-nil (AreLawful u);

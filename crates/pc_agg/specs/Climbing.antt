@@ -36,7 +36,7 @@ IsSureSpan s ladder want span = suc span.to < length ladder.rungs → Any (IsFou
 abbrev pub IsHalved : Setting → ℕ → Ladder → Want → List (List ℕ) → Span → Halved → Type 0
 IsHalved s budget ladder want found old (halves.Within span) =
     IsSpan s budget ladder want found span × (span.to - span.from < old.to - old.from) × (2 * (span.to - span.from) ≤ old.to - old.from)
-IsHalved s budget ladder want found old (halves.Empty tree) = IsVoidTree s tree
+IsHalved s budget ladder want found old (halves.Empty tree) = IsVoidTree s budget tree
 
 abbrev pub IsSureHalf : Setting → Ladder → Want → Halved → Type 0
 IsSureHalf s ladder want (halves.Within span) = IsSureSpan s ladder want span

@@ -71,7 +71,7 @@ pub record AreStands (s : Setting) (budget : ℕ) (far : Extreme) (number : Opti
 
 abbrev pub IsPair : Setting → ℕ → Extreme → Option ℤ → List (List ℕ) → Pair → Type 0
 IsPair s budget far number before (pairs.At low high found) = AreStands s budget far number before low high found
-IsPair s budget far number before (pairs.Empty tree) = IsVoidTree s tree
+IsPair s budget far number before (pairs.Empty tree) = IsVoidTree s budget tree
 
 -- the low end, with what the search of the high one came to
 abbrev pub pair_at : Stand → Stood → Pair

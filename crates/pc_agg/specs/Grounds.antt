@@ -13,7 +13,7 @@ use Rattle.pc_agg.specs.declared.grounds.Grounded.{Grounded}
 use Rattle.pc_agg.specs.declared.grounds.Grounded.TheVariants as grounds
 use Rattle.pc_agg_search.specs.declared.want.Want.TheVariants as wants
 use Rattle.pc_agg.specs.Settling.{IsUnlisted, IsOfCells}
-use Rattle.pc_agg_search.specs.Fitting.{IsFitTree}
+use Rattle.pc_agg_search.specs.Fitting.{IsSmallTree}
 use Rattle.pc_agg_search.specs.Wants.{want_for, most_chosen, fewest_chosen, IsDoubt, IsFound}
 
 -- where nothing was found, both totals were cut short and do not cross
@@ -28,7 +28,7 @@ HasValues s false = Any (λ (class : Class). class.chosen ≡ true) (cells s)
 -- no list lacks a value, or one that does was found or may be there
 abbrev pub IsLacking : Setting → Bool → ℕ → List (List ℕ) → Lacking → Type 0
 IsLacking s observed budget found (lackings.Never nevers.Rows) = observed ≡ true
-IsLacking s observed budget found (lackings.Never (nevers.Tree t)) = (observed ≡ false) × Shows (fewest_chosen s) t (λ k. k ≤ℤ neg_ℤ (pos 1)) × IsFitTree t
+IsLacking s observed budget found (lackings.Never (nevers.Tree t)) = (observed ≡ false) × Shows (fewest_chosen s) t (λ k. k ≤ℤ neg_ℤ (pos 1)) × IsSmallTree budget t
 IsLacking s observed budget found lackings.Open = (observed ≡ false) × IsDoubt (fewest_chosen s) wants.Without budget found
 
 pub record AreGrounds (s : Setting) (observed : Bool) (budget : ℕ) (grounds : Grounds) : Type 0 where
@@ -44,10 +44,10 @@ pub record AreAlways (s : Setting) (observed : Bool) (budget : ℕ) (tree : Tree
   pub lawful : All (AreLawful s) found
   pub totals : IsUnlistedIfNone s budget found
   pub shows : Shows (most_chosen s) tree (λ k. k ≤ℤ pos 0)
-  pub fits : IsFitTree tree
+  pub small : IsSmallTree budget tree
 
 abbrev pub IsGrounded : Setting → Bool → ℕ → Grounded → Type 0
-IsGrounded s observed budget (grounds.Impossible why) = ShowsImpossible s why × IsOfCells why
+IsGrounded s observed budget (grounds.Impossible why) = ShowsImpossible s why × IsOfCells budget why
 IsGrounded s observed budget (grounds.Always tree found) = AreAlways s observed budget tree found
 IsGrounded s observed budget (grounds.Open left) = AreGrounds s observed budget left
 

@@ -57,7 +57,7 @@ IsAmong found limit = IfSome limit.found (Contains found)
 -- an aim, or a tree that shows that there is no list
 abbrev pub IsAimed : Setting → Agg → ℕ → Extreme → Aimed → Type 0
 IsAimed s agg budget extreme (At aim) = IsAim s agg budget extreme aim
-IsAimed s agg budget extreme (Nothing tree) = IsVoidTree s tree
+IsAimed s agg budget extreme (Nothing tree) = IsVoidTree s budget tree
 
 -- the search was not cut short
 abbrev pub IsAimReached : Setting → Agg → Extreme → Aimed → Type 0
@@ -71,7 +71,7 @@ pub record AreAims (s : Setting) (agg : Agg) (budget : ℕ) (aims : Aims) : Type
 
 abbrev pub AreAimed : Setting → Agg → ℕ → BothAimed → Type 0
 AreAimed s agg budget (both.At aims) = AreAims s agg budget aims
-AreAimed s agg budget (both.Nothing tree) = IsVoidTree s tree
+AreAimed s agg budget (both.Nothing tree) = IsVoidTree s budget tree
 
 -- neither search was cut short
 pub record AreAimsReached (s : Setting) (agg : Agg) (aims : Aims) : Type 0 where

@@ -105,7 +105,7 @@ pub record IsStanding (s : Setting) (budget : ℕ) (ladder : Ladder) (want : Wan
 -- where an end stands, or that there is no list
 abbrev pub IsClimbed : Setting → ℕ → Ladder → Want → List (List ℕ) → Climbed → Type 0
 IsClimbed s budget ladder want found (climbs.At standing) = IsStanding s budget ladder want found standing
-IsClimbed s budget ladder want found (climbs.Empty tree) = IsVoidTree s tree
+IsClimbed s budget ladder want found (climbs.Empty tree) = IsVoidTree s budget tree
 
 -- no search was cut short
 abbrev pub IsClimbedSurely : Setting → Ladder → Want → Climbed → Type 0

@@ -21,7 +21,7 @@ use Rattle.pc_agg.specs.declared.settling.Settled.{Settled}
 use Rattle.pc_agg.specs.declared.settling.Total.{Total}
 use Rattle.pc_agg.specs.declared.settling.Total.TheVariants as totals
 use Rattle.pc_agg_search.specs.declared.limit.Limit.{Limit}
-use Rattle.pc_agg_search.specs.Fitting.{IsFitTree}
+use Rattle.pc_agg_search.specs.Fitting.{IsSmallTree}
 use Rattle.pc_agg_search.specs.Limits.{found_of, IsLimit}
 use Rattle.pc_agg.specs.ShownRows.{RelationShown}
 
@@ -46,15 +46,15 @@ pub record IsUnlisted (s : Setting) (budget : ℕ) (found : List (List ℕ)) : T
   pub by_fewest : LeavesOpen (program_for s minus_one) budget fewest any
   pub meet : most <ℤ neg_ℤ fewest → ⊥
 
--- what shows that nothing is possible looks at no observed rows, and its trees fit
-abbrev pub IsOfCells : Why → Type 0
-IsOfCells (whys.Void t) = IsFitTree t
-IsOfCells (whys.Cross t u) = IsFitTree t × IsFitTree u
-IsOfCells (whys.Ends low high) = ⊥
+-- what shows that nothing is possible looks at no observed rows, and its trees fit and are within the budget
+abbrev pub IsOfCells : ℕ → Why → Type 0
+IsOfCells budget (whys.Void t) = IsSmallTree budget t
+IsOfCells budget (whys.Cross t u) = IsSmallTree budget t × IsSmallTree budget u
+IsOfCells budget (whys.Ends low high) = ⊥
 
 abbrev pub IsRelation : Setting → ℕ → List (List ℕ) → Relation → Type 0
 IsRelation s budget found (relations.Possible runs) = IsListed s found runs
-IsRelation s budget found (relations.Impossible why) = ShowsImpossible s why × IsOfCells why
+IsRelation s budget found (relations.Impossible why) = ShowsImpossible s why × IsOfCells budget why
 IsRelation s budget found relations.Undecided = IsUnlisted s budget found
 
 pub record IsSettled (s : Setting) (budget : ℕ) (settled : Settled) : Type 0 where

@@ -105,7 +105,7 @@ pub record IsStoodAt (s : Setting) (budget : ℕ) (extreme : Extreme) (test : Te
 
 abbrev pub IsStood : Setting → ℕ → Extreme → Test → Option ℤ → List (List ℕ) → Stood → Type 0
 IsStood s budget extreme test seen before (stoods.At on) = IsStoodAt s budget extreme test seen before on.stand on.found
-IsStood s budget extreme test seen before (stoods.Empty tree) = IsVoidTree s tree
+IsStood s budget extreme test seen before (stoods.Empty tree) = IsVoidTree s budget tree
 
 -- no search was cut short, and some list was found
 abbrev pub IsStoodSurely : Stood → Type 0

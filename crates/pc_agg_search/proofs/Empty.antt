@@ -8,6 +8,7 @@ use Rattle.pc_program_bound.specs.declared.program.Program.{Program}
 use Rattle.pc_program_bound.specs.CellPrograms.{program_with}
 use Rattle.pc_program_bound.specs.SplitTrees.{SplitTree, bound, void, split, less_caps, more_floors, greater, bound_by, Proves, tree_of}
 use Rattle.pc_program_bound.specs.Bound.{bound_of}
+use Rattle.pc_branch_licences.proofs.NodeCounts.{few_nodes}
 use Rattle.pc_proof.specs.Setting.{Setting, cells, program_for}
 use Rattle.pc_proof.specs.Table.{none, ShowsNone}
 use Rattle.pc_agg_search.specs.Fitting.{IsVoidTree}
@@ -40,5 +41,11 @@ shows_none s gains budget tree empty =
     let shown = other_gains s.question.constraints (cells s) gains (map none (cells s)) p.floor p.cap (tree_of tree.nodes) empty.proves empty.none in
     record { sound = record { proves = shown.0; small = rw shown.1 tt }; none = rw shown.1 refl }
 
-pub void_tree : (s : Setting) (gains : List ℤ) (budget : ℕ) (tree : Tree) → IsEmpty (program_with s.question.constraints (cells s) gains) budget tree → IsVoidTree s tree
-void_tree s gains budget tree empty = record { shows = shows_none s gains budget tree empty; fits = record { preorder = empty.preorder; leaves = empty.fits } }
+pub void_tree : (s : Setting) (gains : List ℤ) (budget : ℕ) (tree : Tree) → IsEmpty (program_with s.question.constraints (cells s) gains) budget tree → IsVoidTree s budget tree
+void_tree s gains budget tree empty = record {
+  shows = shows_none s gains budget tree empty;
+  small = record {
+    fits = record { preorder = empty.preorder; leaves = empty.fits };
+    few = few_nodes (program_with s.question.constraints (cells s) gains) budget None tree empty.preorder empty.search;
+  };
+}

@@ -5,12 +5,13 @@ use Rattle.std.specs.Int.{int_max}
 use Rattle.std.proofs.lemmas.Int.{ints, clamps}
 use Rattle.pc_model.specs.declared.tree.Tree.{Tree}
 use Rattle.pc_program_bound.specs.declared.program.Program.{Program}
+use Rattle.pc_branch_licences.proofs.NodeCounts.{few_nodes}
 use Rattle.pc_proof.specs.Setting.{Setting, seen_count}
 use Rattle.pc_proof.specs.Table.{limit as bound_limit, bound_for, IsSound, Shows, ShowsForced}
 use Rattle.pc_agg_search.specs.declared.want.Want.{Want}
 use Rattle.pc_agg_search.specs.declared.want.Want.TheVariants as wants
 use Rattle.pc_agg_search.specs.declared.limit.Limit.{Limit}
-use Rattle.pc_agg_search.specs.Fitting.{IsFitTree}
+use Rattle.pc_agg_search.specs.Fitting.{IsFitTree, IsSmallTree}
 use Rattle.pc_agg_search.specs.Limits.{IsLimit, IsEmpty}
 use Rattle.pc_agg_search.specs.Wants.{IsUnder, FallsShort}
 
@@ -77,8 +78,11 @@ pub short_empty : (p : Program) (budget : ℕ) (tree : Tree) → FallsShort p wa
 short_empty p budget tree short = record { preorder = short.preorder; proves = short.proves; none = no_bound (bound_for p tree) short.under; search = short.search; fits = short.fits }
 
 -- its numbers fit
-pub fit_short : (p : Program) (want : Want) (budget : ℕ) (tree : Tree) → FallsShort p want budget tree → IsFitTree tree
-fit_short p want budget tree short = record { preorder = short.preorder; leaves = short.fits }
+pub small_short : (p : Program) (want : Want) (budget : ℕ) (tree : Tree) → FallsShort p want budget tree → IsSmallTree budget tree
+small_short p want budget tree short = record { fits = record { preorder = short.preorder; leaves = short.fits }; few = few_nodes p budget None tree short.preorder short.search }
 
 pub fit_limit : (p : Program) (budget : ℕ) (limit : Limit) → IsLimit p budget limit → IsFitTree limit.tree
 fit_limit p budget limit is = record { preorder = is.preorder; leaves = is.fits }
+
+pub small_limit : (p : Program) (budget : ℕ) (limit : Limit) → IsLimit p budget limit → IsSmallTree budget limit.tree
+small_limit p budget limit is = record { fits = fit_limit p budget limit is; few = few_nodes p budget None limit.tree is.preorder is.search }

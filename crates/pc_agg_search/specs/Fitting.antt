@@ -1,11 +1,12 @@
 -- Which parts of an answer fit: values of their size, and trees whose multipliers fit. What the parts show says the rest of their form.
-use Rattle.std.specs.Prelude.{⊤, IfSome}
+use Rattle.std.specs.Prelude.{ℕ, ⊤, IfSome}
 use Rattle.std.specs.List.{AllPass}
 use Rattle.pc_model.specs.declared.query.Agg.{Agg}
 use Rattle.pc_model.specs.declared.tree.Tree.{Tree}
 use Rattle.pc_model.specs.Membership.{in_domain}
 use Rattle.pc_program_bound.specs.SplitTrees.{IsInPreorder, tree_of}
 use Rattle.pc_branch.specs.Outcome.{AreFitLeaves}
+use Rattle.pc_branch_licences.specs.Searched.{HasFewNodes}
 use Rattle.pc_proof.specs.declared.answer.Proof.{Proof}
 use Rattle.pc_proof.specs.declared.answer.Proof.TheVariants as proofs
 use Rattle.pc_proof.specs.declared.answer.Bounded.{Bounded}
@@ -34,10 +35,15 @@ pub record IsFitTree (t : Tree) : Type 0 where
   pub preorder : IsInPreorder t.nodes
   pub leaves : AreFitLeaves (tree_of t.nodes)
 
--- such a tree that shows that there is no list
-pub record IsVoidTree (s : Setting) (t : Tree) : Type 0 where
-  pub shows : ShowsNone (program_for s none) t
+-- such a tree with no more nodes than the budget
+pub record IsSmallTree (budget : ℕ) (t : Tree) : Type 0 where
   pub fits : IsFitTree t
+  pub few : HasFewNodes budget t
+
+-- one that shows that there is no list
+pub record IsVoidTree (s : Setting) (budget : ℕ) (t : Tree) : Type 0 where
+  pub shows : ShowsNone (program_for s none) t
+  pub small : IsSmallTree budget t
 
 abbrev pub IsFitProof : Proof → Type 0
 IsFitProof proofs.Rows = ⊤

@@ -2,6 +2,7 @@ pub mod Attained
 pub mod Attaining
 pub mod Exact
 pub mod Found
+pub mod NodeCounts
 pub mod Picks
 pub mod Reached
 pub mod RunCounts

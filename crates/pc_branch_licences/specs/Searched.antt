@@ -1,5 +1,5 @@
--- That the trees of an answer's ends are ones that a search could have made within the budget.
-use Rattle.std.specs.Prelude.{ℕ, ⊤, None, IfSome}
+-- That the trees of an answer are ones that a search could have made within the budget.
+use Rattle.std.specs.Prelude.{ℕ, ◌≤◌, ⊤, None, IfSome, length}
 use Rattle.pc_model.specs.declared.tree.Tree.{Tree}
 use Rattle.pc_model.specs.declared.query.Agg.{Agg}
 use Rattle.pc_model.specs.Aggregate.{Ratio}
@@ -11,6 +11,8 @@ use Rattle.pc_proof.specs.declared.answer.Proof.{Proof}
 use Rattle.pc_proof.specs.declared.answer.Proof.TheVariants as proofs
 use Rattle.pc_proof.specs.declared.answer.Why.{Why}
 use Rattle.pc_proof.specs.declared.answer.Why.TheVariants as whys
+use Rattle.pc_proof.specs.declared.answer.NeverBy.{NeverBy}
+use Rattle.pc_proof.specs.declared.answer.NeverBy.TheVariants as nevers
 use Rattle.pc_proof.specs.declared.answer.AlwaysBy.{AlwaysBy}
 use Rattle.pc_proof.specs.declared.answer.AlwaysBy.TheVariants as alwayses
 use Rattle.pc_proof.specs.declared.answer.Relation.{Relation}
@@ -39,15 +41,23 @@ LowSearched s budget agg v (proofs.At r t) = IsSearched (low_program s agg (rati
 LowSearched s budget agg v proofs.Rows = ⊤
 LowSearched s budget agg v proofs.Values = ⊤
 
--- the ends by which nothing is possible, and those by which no list gives a value
+-- the tree has no more nodes than the budget
+abbrev pub HasFewNodes : ℕ → Tree → Type 0
+HasFewNodes budget t = length t.nodes ≤ budget
+
+-- the trees by which nothing is possible, by which no list is without a value, and by which none has one
 abbrev pub WhySearched : Setting → ℕ → Why → Type 0
-WhySearched s budget (whys.Void t) = ⊤
-WhySearched s budget (whys.Cross t u) = ⊤
+WhySearched s budget (whys.Void t) = HasFewNodes budget t
+WhySearched s budget (whys.Cross t u) = HasFewNodes budget t × HasFewNodes budget u
 WhySearched s budget (whys.Ends low high) =
     LowSearched s budget s.question.query.agg (ratio_of low.value) low.proof × HighSearched s budget s.question.query.agg (ratio_of high.value) high.proof
 
+abbrev pub NeverSearched : ℕ → NeverBy → Type 0
+NeverSearched budget nevers.Rows = ⊤
+NeverSearched budget (nevers.Tree t) = HasFewNodes budget t
+
 abbrev pub AlwaysSearched : Setting → ℕ → AlwaysBy → Type 0
-AlwaysSearched s budget (alwayses.Tree t) = ⊤
+AlwaysSearched s budget (alwayses.Tree t) = HasFewNodes budget t
 AlwaysSearched s budget (alwayses.Ends low high) =
     LowSearched s budget s.question.query.agg (ratio_of low.value) low.proof × HighSearched s budget s.question.query.agg (ratio_of high.value) high.proof
 
@@ -58,12 +68,12 @@ RelationSearched s budget relations.Undecided = ⊤
 
 abbrev pub LackSearched : Setting → ℕ → Lack → Type 0
 LackSearched s budget lacks.Silent = ⊤
-LackSearched s budget (lacks.Never why) = ⊤
+LackSearched s budget (lacks.Never why) = NeverSearched budget why
 LackSearched s budget (lacks.Sometimes none given) = ⊤
 LackSearched s budget (lacks.Always why) = AlwaysSearched s budget why
 LackSearched s budget lacks.Undecided = ⊤
 
--- each tree in the proof of an end is a search tree
+-- each tree that an answer names is of a search within the budget
 pub record AreSearched (s : Setting) (budget : ℕ) (answer : Answer) : Type 0 where
   pub relation : RelationSearched s budget answer.relation
   pub lack : LackSearched s budget answer.lack

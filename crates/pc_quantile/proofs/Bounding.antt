@@ -109,7 +109,7 @@ module _ (m : Measure) (measured : IsMeasured m) (observed : List Row) where
 
     -- ---- no list
 
-    pub owes_impossible : (why : Why) → ShowsImpossible (cells_for m) why → IsOfCells why → IsOwed here asked budget impossible
+    pub owes_impossible : (why : Why) → ShowsImpossible (cells_for m) why → IsOfCells budget why → IsOwed here asked budget impossible
     owes_impossible why shows of =
         owed_impossible schema observed constraints asked nodes measured.posed.formed measured.posed.limited well tree budget
         (λ lost possible.

@@ -60,6 +60,6 @@ returns-in-Nothing c =
     record {
       owes = λ asking.
           subst (Owes (setting_for c.args.problem.now.schema.now c.args.problem.now.constraints.now c.args.problem.now.query.now c.args.seen.now nodes asking) c.args.problem.now.nodes) (sym c.impossible_by.ensures)
-          (owes_impossible c.args.problem.now.schema.now c.args.problem.now.constraints.now c.args.problem.now.query.now c.args.seen.now nodes asked.posed.formed asked.posed.limited asked.posed.found.tree c.args.problem.now.nodes asking (Void c.in-Nothing.tree) void.shows tt (λ seen_rows. void.fits));
+          (owes_impossible c.args.problem.now.schema.now c.args.problem.now.constraints.now c.args.problem.now.query.now c.args.seen.now nodes asked.posed.formed asked.posed.limited asked.posed.found.tree c.args.problem.now.nodes asking (Void c.in-Nothing.tree) void.shows void.small.few (λ seen_rows. void.small.fits));
       rows = subst (HasShownRows u) (sym c.impossible_by.ensures) (impossible_shown u (Void c.in-Nothing.tree));
     }

@@ -19,7 +19,7 @@ returns-in-Empty-clause-grounded c =
     let probed =
     most_probed u c.args.observed c.args.problem.now.nodes c.args.found c.in_ok-verdict.field-0 c.in_ok-most.most c.want_for-want.result c.in_ok-most.ensures.program c.want_for-want.ensures c.in_ok-verdict.ensures.probed in
     let void = probed_empty u (on_chosen one) (want_for c.args.observed) c.args.problem.now.nodes c.args.found c.in_ok-verdict.field-0 probed c.in-Empty.tree c.in-Empty.is in
-    (void.shows, void.fits)
+    (void.shows, void.small)
 
 pub returns-in-Short-clause-grounded : goal.returns-in-Short-clause-grounded
 returns-in-Short-clause-grounded c =
@@ -27,7 +27,7 @@ returns-in-Short-clause-grounded c =
     let probed =
     most_probed u c.args.observed c.args.problem.now.nodes c.args.found c.in_ok-verdict.field-0 c.in_ok-most.most c.want_for-want.result c.in_ok-most.ensures.program c.want_for-want.ensures c.in_ok-verdict.ensures.probed in
     let void = most_none u c.args.observed c.args.problem.now.nodes c.args.found c.requires.lawful c.requires.totals c.in_ok-verdict.field-0 probed c.in-Short.tree c.in-Short.is c.if-observed.true in
-    (void.shows, void.fits)
+    (void.shows, void.small)
 
 pub returns-in-Short-2-clause-grounded : goal.returns-in-Short-2-clause-grounded
 returns-in-Short-2-clause-grounded c =

@@ -29,7 +29,7 @@ returns-in-Empty-clause-grounded c =
     let u = setting_of c.args.problem.now in
     let probed = subst (λ p. IsProbed p wants.Without c.args.problem.now.nodes c.args.found c.in_ok-verdict.field-0) c.in_ok-fewest.ensures.program c.in_ok-verdict.ensures.probed in
     let void = probed_empty u (on_chosen minus_one) wants.Without c.args.problem.now.nodes c.args.found c.in_ok-verdict.field-0 probed c.in-Empty.tree c.in-Empty.is in
-    (void.shows, void.fits)
+    (void.shows, void.small)
 
 pub ground_most-requires-clause-some : goal.ground_most-requires-clause-some
 ground_most-requires-clause-some c =
