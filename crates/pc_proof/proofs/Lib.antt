@@ -1,3 +1,4 @@
+pub mod Agreeing
 pub mod Allocations
 pub mod Averages
 pub mod BlockLines

@@ -1,3 +1,4 @@
+pub mod Agreement
 pub mod Counts
 pub mod Demands
 pub mod Documents

@@ -1,6 +1,7 @@
 //! Answers with what shows them, the rules that such answers keep, and the law that an answer that breaks none is right.
 #![tactic(auto)]
 
+mod agreement;
 mod answer;
 mod counting;
 mod document;
@@ -11,6 +12,7 @@ mod programs;
 mod samples;
 mod verdicts;
 
+pub use agreement::right_answers_agree;
 pub use answer::{
     AlwaysBy, Answer, Bounded, End, Lack, Mark, NeverBy, Proof, Relation, Why, always_has_value,
 };

@@ -1,4 +1,5 @@
 pub mod Added
+pub mod Agreeing
 pub mod Attained
 pub mod Bounding
 pub mod ChosenKeys

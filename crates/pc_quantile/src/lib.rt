@@ -2,6 +2,7 @@
 //! with laws on which side of a number a quantile lies, over lists of numbers and over possible rows.
 #![tactic(auto)]
 
+mod agreement;
 mod answer;
 mod bounds;
 mod climb;
@@ -14,6 +15,7 @@ mod rungs;
 mod samples;
 mod stand;
 
+pub use agreement::right_quantiles_agree;
 pub use answer::{QuantileAnswer, QuantileEnd, QuantileLack, QuantileRelation};
 pub use bounds::bound_quantile;
 pub use laws::{
