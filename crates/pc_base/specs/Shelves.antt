@@ -35,5 +35,5 @@ pub record IsLoad (before : ShelfState) (name : List ℕ) (limit : ℕ) (loaded 
 pub record IsPut (before : SinkState) (piece : List ℕ) (put : Put) (after : SinkState) : Type 0 where
   pub leaves : Leaves before.kept after.kept piece put
   pub cause : HasPutCause before.faults after.faults put
-  pub faults_stay : before.faults ≤ after.faults
+  pub one_fault : RoseWithin 1 before.faults after.faults
   pub one_put : RoseWithin 1 before.calls after.calls

@@ -4,7 +4,7 @@ use Rattle.pc_model.specs.declared.fault.FileKind.{FileKind}
 use Rattle.pc_model.specs.declared.fault.Fault.{Fault}
 use Rattle.pc_base.specs.declared.status.Status.{Status}
 use Rattle.pc_base.specs.declared.status.Status.TheVariants as ended
-use Rattle.pc_base.specs.Counts.{Rose}
+use Rattle.pc_base.specs.Counts.{Rose, RoseWithin}
 use Rattle.pc_base.specs.Shelves.{SinkState}
 use Rattle.pc_run_words.specs.Words.{Asked, CheckNames, check, command_of}
 use Rattle.pc_rows.specs.declared.case.Case.{Case}
@@ -93,9 +93,10 @@ pub record HasReadFault (call : Call) : Type 0 where
   pub unread : IsUnread call.reading (files_of asked) file
   pub told : IsTold call (fault_line file)
 
--- nothing was written
+-- nothing was written, and one put at most failed
 pub record HasNoMemory (call : Call) : Type 0 where
   pub nothing_put : call.writing.after.kept ≡ call.writing.before.kept
+  pub one_fault : RoseWithin 1 call.writing.before.faults call.writing.after.faults
   pub in_order : AreInOrder call.reading (command_of call.words)
 
 abbrev pub Means : Call → Status → Type 0
