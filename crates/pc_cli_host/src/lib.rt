@@ -5,8 +5,10 @@ mod reading;
 mod shelf;
 mod sink;
 mod system;
+mod words;
 mod writing;
 
 pub use shelf::{HostShelf, Opens};
 pub use sink::{HostSink, Steady};
 pub use system::SystemFiles;
+pub use words::words;

@@ -2,12 +2,10 @@
 #![tactic(auto)]
 
 use pc_base::Status;
-use pc_cli_host::{HostShelf, HostSink, SystemFiles};
+use pc_cli_host::{HostShelf, HostSink, SystemFiles, words};
 use pc_draft_run::draft;
-use std::alloc::AllocError;
+use std::io;
 use std::process::ExitCode;
-use std::rt::Env;
-use std::{env, io};
 
 fn main(rt: HostRuntime) -> ExitCode {
     let status = match words(&rt) {
@@ -20,13 +18,4 @@ fn main(rt: HostRuntime) -> ExitCode {
         Err(_) => Status::Memory,
     };
     ExitCode::from(status.code())
-}
-
-/// The words after the program's name, or none where one of them is no text.
-fn words<R: Env + AllocGlobal>(rt: &R) -> Result<Vec<String>, AllocError> {
-    match env::args(rt) {
-        Ok(args) => args.skip(1).collect(rt.alloc()),
-        Err(error) if error.kind() == io::ErrorKind::OutOfMemory => Err(AllocError),
-        Err(_) => Ok(Vec::new(rt.alloc())),
-    }
 }

@@ -1,15 +1,11 @@
 -- What a call of `pc_draft` comes to: its words, what the loads of its files gave, and what was put.
 use Rattle.std.specs.Prelude.{◌≡◌, ◌⊎◌, ℕ, List, [], ◌∷◌, codes, bytes_eq, cond, Option, Some, None, Result, Ok, Err}
 use Rattle.pc_model.specs.declared.schema.Schema.{Schema}
-use Rattle.pc_model.specs.declared.constraint.Constraint.{Constraint}
 use Rattle.pc_model.specs.declared.fault.FileKind.{FileKind}
 use Rattle.pc_model.specs.declared.fault.FileKind.TheVariants as kinds
 use Rattle.pc_model.specs.declared.fault.Fault.{Fault}
-use Rattle.pc_base.specs.declared.outside.Put.{Put}
-use Rattle.pc_base.specs.declared.outside.Put.TheVariants as puts
 use Rattle.pc_base.specs.declared.status.Status.{Status}
 use Rattle.pc_base.specs.declared.status.Status.TheVariants as ended
-use Rattle.pc_base.specs.Shelves.{IsPut, ShelfState, SinkState}
 use Rattle.pc_sql.specs.Statement.{sql_text}
 use Rattle.pc_schema.specs.Plain.{plain_text}
 use Rattle.pc_infer.specs.declared.draft.Drafted.{Drafted}
@@ -17,10 +13,13 @@ use Rattle.pc_infer.specs.declared.draft.Drafted.TheVariants as drafts
 use Rattle.pc_infer.specs.declared.why.Misfit.{Misfit}
 use Rattle.pc_infer.specs.Draft.{drafted_of}
 use Rattle.pc_infer.specs.Texts.{misfit_lines}
-use Rattle.pc_loads.specs.declared.stop.Stop.{Stop}
-use Rattle.pc_loads.specs.declared.stop.Stop.TheVariants as stops
-use Rattle.pc_loads.specs.Loading.{Reads, ReadsConstraints, ReadsSchema}
-use Rattle.pc_loads.specs.Texts.{fault_line, malformed_line}
+use Rattle.pc_files.specs.declared.reading.Listing.{Listing}
+use Rattle.pc_files.specs.declared.stop.Stop.{Stop}
+use Rattle.pc_files.specs.declared.stop.Stop.TheVariants as stops
+use Rattle.pc_files.specs.Loading.{IsLoaded, Reading}
+use Rattle.pc_files.specs.Reads.{ReadsListing}
+use Rattle.pc_files.specs.Texts.{fault_line, malformed_line}
+use Rattle.pc_files.specs.Writing.{IsCutOff, IsTold, IsUntouched, IsWritten, Writing}
 use Rattle.pc_draft_run.specs.Texts.{usage_line}
 
 -- the names of the two files, and that of the table
@@ -53,90 +52,82 @@ asked (command ∷ words) =
     cond (bytes_eq command (codes "sql")) (asked_statement words) (cond (bytes_eq command (codes "schema")) (asked_drafting words) None)
 asked [] = None
 
--- ---- both files
+-- ---- a statement
 
--- both are accepted, and the text is the statement for them
-pub record IsStatement (before after : ShelfState) (names : Names) (text : List ℕ) : Type 0 where
-  pub middle : ShelfState
-  pub schema : Schema
-  pub constraints : List Constraint
-  pub first : ReadsSchema before middle names.schema (Ok schema)
-  pub second : ReadsConstraints middle after names.constraints schema (Ok constraints)
-  pub said : text ≡ sql_text schema constraints names.table
+-- both files are accepted, and the text is the statement for them
+pub record IsStatement (reading : Reading) (names : Names) (text : List ℕ) : Type 0 where
+  pub listing : Listing
+  pub read : ReadsListing reading names.schema names.constraints (Ok listing)
+  pub said : text ≡ sql_text listing.schema listing.constraints names.table
 
--- the schema is accepted, and the constraints are not
-pub record StopsLater (before after : ShelfState) (names : Names) (stop : Stop) : Type 0 where
-  pub middle : ShelfState
-  pub schema : Schema
-  pub first : ReadsSchema before middle names.schema (Ok schema)
-  pub second : ReadsConstraints middle after names.constraints schema (Err stop)
-
-abbrev pub Drafts : ShelfState → ShelfState → Names → Result (List ℕ) Stop → Type 0
-Drafts before after names (Ok text) = IsStatement before after names text
-Drafts before after names (Err stop) = ReadsSchema before after names.schema (Err stop) ⊎ StopsLater before after names stop
+-- one of them gives nothing, for this cause
+abbrev pub StopsAtFiles : Reading → Names → Stop → Type 0
+StopsAtFiles reading names stop = ReadsListing reading names.schema names.constraints (Err stop)
 
 -- ---- a draft of a schema
 
 abbrev pub drafted_for : Drafting → List ℕ → Result Drafted Fault
 drafted_for asked bytes = drafted_of bytes asked.columns
 
-abbrev pub ReadsRows : ShelfState → ShelfState → Drafting → Result Drafted Stop → Type 0
-ReadsRows before after asked result = Reads before after kinds.Rows asked.file (drafted_for asked) result
+abbrev pub ReadsRows : Reading → Drafting → Result Drafted Stop → Type 0
+ReadsRows reading asked result = IsLoaded reading kinds.Rows asked.file (drafted_for asked) result
 
 -- what is told of a draft: the text of the schema, or the lines of the columns that fit no kind
 abbrev pub Tells : Drafted → Status → List ℕ → Type 0
 Tells (drafts.Schema schema) status text = (status ≡ ended.Done) × (text ≡ plain_text schema.columns)
 Tells (drafts.Misfits misfits) status text = (status ≡ ended.SaidNo) × (text ≡ misfit_lines misfits)
 
-abbrev pub Sketches : ShelfState → ShelfState → Drafting → Status → List ℕ → Type 0
-Sketches before after asked ended.Done text = (schema : Schema) × ReadsRows before after asked (Ok (drafts.Schema schema)) × (text ≡ plain_text schema.columns)
-Sketches before after asked ended.SaidNo text = (misfits : List Misfit) × ReadsRows before after asked (Ok (drafts.Misfits misfits)) × (text ≡ misfit_lines misfits)
-Sketches before after asked ended.Usage text = ⊥
-Sketches before after asked ended.Malformed text = (fault : Fault) × ReadsRows before after asked (Err (stops.Refused fault)) × (text ≡ malformed_line fault)
-Sketches before after asked ended.ReadFault text = (file : FileKind) × ReadsRows before after asked (Err (stops.Unread file)) × (text ≡ fault_line file)
-Sketches before after asked ended.WriteFault text = ⊥
-Sketches before after asked ended.Memory text = ⊥
+abbrev pub Sketches : Reading → Drafting → Status → List ℕ → Type 0
+Sketches reading asked ended.Done text = (schema : Schema) × ReadsRows reading asked (Ok (drafts.Schema schema)) × (text ≡ plain_text schema.columns)
+Sketches reading asked ended.SaidNo text = (misfits : List Misfit) × ReadsRows reading asked (Ok (drafts.Misfits misfits)) × (text ≡ misfit_lines misfits)
+Sketches reading asked ended.Usage text = ⊥
+Sketches reading asked ended.Malformed text = (fault : Fault) × ReadsRows reading asked (Err (stops.Refused fault)) × (text ≡ malformed_line fault)
+Sketches reading asked ended.ReadFault text = (file : FileKind) × ReadsRows reading asked (Err (stops.Unread file)) × (text ≡ fault_line file)
+Sketches reading asked ended.WriteFault text = ⊥
+Sketches reading asked ended.Memory text = ⊥
 
 -- ---- the reply
 
-abbrev pub Replies : ShelfState → ShelfState → Names → Status → List ℕ → Type 0
-Replies before after names ended.Done text = Drafts before after names (Ok text)
-Replies before after names ended.SaidNo text = ⊥
-Replies before after names ended.Usage text = ⊥
-Replies before after names ended.Malformed text = (fault : Fault) × Drafts before after names (Err (stops.Refused fault)) × (text ≡ malformed_line fault)
-Replies before after names ended.ReadFault text = (file : FileKind) × Drafts before after names (Err (stops.Unread file)) × (text ≡ fault_line file)
-Replies before after names ended.WriteFault text = ⊥
-Replies before after names ended.Memory text = ⊥
+abbrev pub Replies : Reading → Names → Status → List ℕ → Type 0
+Replies reading names ended.Done text = IsStatement reading names text
+Replies reading names ended.SaidNo text = ⊥
+Replies reading names ended.Usage text = ⊥
+Replies reading names ended.Malformed text = (fault : Fault) × StopsAtFiles reading names (stops.Refused fault) × (text ≡ malformed_line fault)
+Replies reading names ended.ReadFault text = (file : FileKind) × StopsAtFiles reading names (stops.Unread file) × (text ≡ fault_line file)
+Replies reading names ended.WriteFault text = ⊥
+Replies reading names ended.Memory text = ⊥
 
 -- words that are no command load nothing
-abbrev pub Responds : ShelfState → ShelfState → Option Asked → Status → List ℕ → Type 0
-Responds before after None status text = (status ≡ ended.Usage) × (text ≡ usage_line) × (after ≡ before)
-Responds before after (Some (statement names)) status text = Replies before after names status text
-Responds before after (Some (drafting asked)) status text = Sketches before after asked status text
+abbrev pub Responds : Reading → Option Asked → Status → List ℕ → Type 0
+Responds reading None status text = (status ≡ ended.Usage) × (text ≡ usage_line) × reading.did []
+Responds reading (Some (statement names)) status text = Replies reading names status text
+Responds reading (Some (drafting asked)) status text = Sketches reading asked status text
 
 -- ---- the call
 
-pub record Call : Type 0 where
+-- the words, which loads there were, and what was written
+pub record Call : Type 1 where
   pub words : List (List ℕ)
-  pub before : ShelfState
-  pub after : ShelfState
-  pub sink : SinkState
-  pub left : SinkState
+  pub reading : Reading
+  pub writing : Writing
 
--- this is replied, and one put of it did this
-abbrev pub Says : Call → Status → List ℕ → Put → Type 0
-Says call status text put = Responds call.before call.after (asked call.words) status text × IsPut call.sink text put call.left
+abbrev pub call_of : List (List ℕ) → Reading → Writing → Call
+call_of words reading writing = record { words = words; reading = reading; writing = writing }
+
+-- this is replied
+abbrev pub Says : Call → Status → List ℕ → Type 0
+Says call status text = Responds call.reading (asked call.words) status text
 
 -- A statement, a schema and the lines of columns that fit no kind are a write fault where not the whole is put; a line of a
 -- refusal stays what it says.
 abbrev pub Means : Call → Status → Type 0
-Means call ended.Done = (text : List ℕ) × Says call ended.Done text puts.All
-Means call ended.SaidNo = (text : List ℕ) × Says call ended.SaidNo text puts.All
-Means call ended.Usage = (text : List ℕ) × (put : Put) × Says call ended.Usage text put
-Means call ended.Malformed = (text : List ℕ) × (put : Put) × Says call ended.Malformed text put
-Means call ended.ReadFault = (text : List ℕ) × (put : Put) × Says call ended.ReadFault text put
-Means call ended.WriteFault = (text : List ℕ) × (Says call ended.Done text puts.Failed ⊎ Says call ended.SaidNo text puts.Failed)
-Means call ended.Memory = (call.left ≡ call.sink) ⊎ ((text : List ℕ) × IsPut call.sink text puts.Memory call.left)
+Means call ended.Done = (text : List ℕ) × Says call ended.Done text × IsWritten call.writing text
+Means call ended.SaidNo = (text : List ℕ) × Says call ended.SaidNo text × IsWritten call.writing text
+Means call ended.Usage = (text : List ℕ) × Says call ended.Usage text × IsTold call.writing text
+Means call ended.Malformed = (text : List ℕ) × Says call ended.Malformed text × IsTold call.writing text
+Means call ended.ReadFault = (text : List ℕ) × Says call ended.ReadFault text × IsTold call.writing text
+Means call ended.WriteFault = (text : List ℕ) × (Says call ended.Done text ⊎ Says call ended.SaidNo text) × IsCutOff call.writing text
+Means call ended.Memory = IsUntouched call.writing
 
 -- the status where a put failed
 abbrev pub after_failed_put : Status → Status

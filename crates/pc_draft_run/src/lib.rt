@@ -6,8 +6,10 @@ ghost use Rattle.std.specs.Prelude.{◌≡◌, IfOk, map, string_bytes};
 ghost use Rattle.pc_model.specs.WellFormed.{IsWellFormed};
 ghost use Rattle.pc_sql.specs.Statement.{sql_text};
 ghost use Rattle.pc_base.specs.declared.status.Status.TheVariants as ended;
+ghost use Rattle.pc_files.specs.Loading.{reading_of};
+ghost use Rattle.pc_files.specs.Writing.{writing_of};
 ghost use Rattle.pc_draft_run.specs.Texts.{usage_line};
-ghost use Rattle.pc_draft_run.specs.Draft.{Drafts, Means, Replies, Responds, after_failed_put, asked, asked_drafting, asked_statement};
+ghost use Rattle.pc_draft_run.specs.Draft.{Means, Replies, Responds, after_failed_put, asked, asked_drafting, asked_statement, call_of};
 
 mod line;
 mod loading;
@@ -16,9 +18,8 @@ mod sketch;
 use crate::line::usage_line;
 use crate::sketch::sketch;
 use pc_base::{Put, Shelf, Sink, Status};
+use pc_files::{Listing, Stop, fault_line, malformed_line, put_text, read_listing};
 use pc_list::Seq;
-use pc_loads::{Stop, fault_line, load_constraints, load_schema, malformed_line};
-use pc_model::{Constraint, Schema};
 use pc_num::Memory;
 use pc_sql::put_sql;
 use std::alloc::Global;
@@ -38,12 +39,12 @@ pub fn draft<F: Shelf, K: Sink>(
     files: &mut F,
     out: &mut K,
 ) -> Status
-    ensures { Means (record { words = map string_bytes words.now; before = F.told files.old; after = F.told files.new; sink = K.told out.old; left = K.told out.new }) result }
+    ensures { Means (call_of (map string_bytes words.now) (reading_of F.told F.leads files.old files.new) (writing_of K.told out.old out.new)) result }
 {
     let Ok(reply) = respond(alloc, words, files) else {
         return Status::Memory;
     };
-    match out.put(reply.text.as_slice()) {
+    match put_text(out, reply.text.as_slice()) {
         Put::All => reply.status,
         Put::Failed => after_failed_put(reply.status),
         Put::Memory => Status::Memory,
@@ -62,7 +63,7 @@ fn after_failed_put(status: Status) -> Status
 
 /// The reply to any words.
 fn respond<F: Shelf>(alloc: Global, words: &[String], files: &mut F) -> Result<Reply, Memory>
-    ensures { IfOk result (λ reply. Responds (F.told files.old) (F.told files.new) (asked (map string_bytes words.now)) reply.status reply.text) }
+    ensures { IfOk result (λ reply. Responds (reading_of F.told F.leads files.old files.new) (asked (map string_bytes words.now)) reply.status reply.text) }
 {
     match words {
         [command, rest @ ..] => {
@@ -83,7 +84,7 @@ fn respond_statement<F: Shelf>(
     words: &[String],
     files: &mut F,
 ) -> Result<Reply, Memory>
-    ensures { IfOk result (λ reply. Responds (F.told files.old) (F.told files.new) (asked_statement (map string_bytes words.now)) reply.status reply.text) }
+    ensures { IfOk result (λ reply. Responds (reading_of F.told F.leads files.old files.new) (asked_statement (map string_bytes words.now)) reply.status reply.text) }
 {
     match words {
         [schema, constraints, table] => {
@@ -99,7 +100,7 @@ fn respond_drafting<F: Shelf>(
     words: &[String],
     files: &mut F,
 ) -> Result<Reply, Memory>
-    ensures { IfOk result (λ reply. Responds (F.told files.old) (F.told files.new) (asked_drafting (map string_bytes words.now)) reply.status reply.text) }
+    ensures { IfOk result (λ reply. Responds (reading_of F.told F.leads files.old files.new) (asked_drafting (map string_bytes words.now)) reply.status reply.text) }
 {
     match words {
         [file, columns @ ..] => sketch(alloc, files, file.as_str(), columns),
@@ -124,12 +125,12 @@ fn reply_to<F: Shelf>(
     constraints: &str,
     table: &str,
 ) -> Result<Reply, Memory>
-    ensures { IfOk result (λ reply. Replies (F.told files.old) (F.told files.new) (record { schema = schema.now; constraints = constraints.now; table = table.now }) reply.status reply.text) }
+    ensures { IfOk result (λ reply. Replies (reading_of F.told F.leads files.old files.new) (record { schema = schema.now; constraints = constraints.now; table = table.now }) reply.status reply.text) }
 {
-    match drafted(alloc, files, schema, constraints, table) {
-        Ok(text) => Ok(Reply {
+    match read_listing(alloc, files, schema, constraints) {
+        Ok(listing) => Ok(Reply {
             status: Status::Done,
-            text,
+            text: statement(alloc, &listing, table)?,
         }),
         Err(Stop::Refused(fault)) => Ok(Reply {
             status: Status::Malformed,
@@ -143,40 +144,12 @@ fn reply_to<F: Shelf>(
     }
 }
 
-/// The statement for the files of these names, or why there is none.
-fn drafted<F: Shelf>(
-    alloc: Global,
-    files: &mut F,
-    schema: &str,
-    constraints: &str,
-    table: &str,
-) -> Result<Seq<u8>, Stop>
-    ensures { Drafts (F.told files.old) (F.told files.new) (record { schema = schema.now; constraints = constraints.now; table = table.now }) result }
-{
-    let read = match load_schema(alloc, files, schema) {
-        Ok(read) => read,
-        Err(stop) => return Err(stop),
-    };
-    let held = match load_constraints(alloc, files, constraints, &read) {
-        Ok(held) => held,
-        Err(stop) => return Err(stop),
-    };
-    match statement(alloc, &read, held.as_slice(), table) {
-        Ok(text) => Ok(text),
-        Err(_) => Err(Stop::Memory),
-    }
-}
-
-fn statement(
-    alloc: Global,
-    schema: &Schema,
-    constraints: &[Constraint],
-    table: &str,
-) -> Result<Seq<u8>, Memory>
-    requires { IsWellFormed schema.now }
-    ensures { IfOk result (λ text. text ≡ sql_text schema.now constraints.now table.now) }
+fn statement(alloc: Global, listing: &Listing, table: &str) -> Result<Seq<u8>, Memory>
+    requires { IsWellFormed listing.now.schema }
+    ensures { IfOk result (λ text. text ≡ sql_text listing.now.schema listing.now.constraints table.now) }
 {
     let mut text = Vec::new(alloc);
-    put_sql(alloc, schema, constraints, table, &mut text)?;
+    let constraints = listing.constraints.as_slice();
+    put_sql(alloc, &listing.schema, constraints, table, &mut text)?;
     Ok(Seq::from_vec(text))
 }

@@ -1,13 +1,14 @@
 ghost use Rattle.std.specs.Prelude.{map, string_bytes, IfOk};
 ghost use Rattle.pc_infer.specs.Draft.{IsDraft};
+ghost use Rattle.pc_files.specs.Loading.{reading_of};
 ghost use Rattle.pc_draft_run.specs.Draft.{Sketches, Tells};
 
 use crate::Reply;
 use crate::loading::load_draft;
 use pc_base::{Shelf, Status};
+use pc_files::{Stop, fault_line, malformed_line};
 use pc_infer::{Drafted, misfit_lines, schema_text};
 use pc_list::Seq;
-use pc_loads::{Stop, fault_line, malformed_line};
 use pc_num::Memory;
 use std::alloc::Global;
 
@@ -19,7 +20,7 @@ pub(crate) fn sketch<F: Shelf>(
     file: &str,
     columns: &[String],
 ) -> Result<Reply, Memory>
-    ensures { IfOk result (λ reply. Sketches (F.told files.old) (F.told files.new) (record { file = file.now; columns = map string_bytes columns.now }) reply.status reply.text) }
+    ensures { IfOk result (λ reply. Sketches (reading_of F.told F.leads files.old files.new) (record { file = file.now; columns = map string_bytes columns.now }) reply.status reply.text) }
 {
     match load_draft(alloc, files, file, columns) {
         Ok(draft) => told(alloc, &draft),

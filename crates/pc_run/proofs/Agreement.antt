@@ -20,7 +20,8 @@ use Rattle.pc_run.specs.declared.input.Claim.{Claim}
 use Rattle.pc_run.specs.declared.input.Input.{Input}
 use Rattle.pc_run.specs.declared.input.Input.TheVariants.{Claims}
 use Rattle.pc_run.specs.Inputs.{IsCheckable, IsSoundInput}
-use Rattle.pc_run.specs.Outcome.{Obstacle, refused, absent, accepted_under, ComesTo, AreAccepted}
+use Rattle.pc_files.specs.Outcome.{Obstacle, refused, absent}
+use Rattle.pc_run.specs.Outcome.{accepted_under, ComesTo, AreAccepted}
 use Rattle.pc_run.specs.Replies.{BreaksFirst, BreaksRule, HasVerdict, IsNoDocument, RepliesTo, RepliesToCommand, RepliesToNone, Responds, Says, SaysFault, SaysInput, SaysOutcome, SaysProof, SaysVerdict, SpellsUnbroken, status_of}
 use Rattle.pc_run.specs.Meaning.{Call, ChecksClaim, IsAnswerable, IsDoneUnlessMemory, IsProved, Means, SaysNoUnlessMemory}
 use Rattle.pc_run.proofs.Answering.{answers, same_names}
@@ -30,8 +31,8 @@ use Rattle.pc_run.proofs.Answering.{answers, same_names}
 module _ (claim : Claim) (sound : IsCheckable claim) (spells : SpellsUnbroken claim) where
   not_broken : (line rule : ℕ) → BreaksRule claim line rule → ⊥
   not_broken line rule broken =
-      let same = only_document claim.schema claim.bytes broken.document spells.document (all_lines claim.schema sound.well_formed) broken.spelled spells.spelled in
-      let premises = premises_of claim.schema claim.rows claim.constraints in
+      let same = only_document claim.observed.schema claim.bytes broken.document spells.document (all_lines claim.observed.schema sound.well_formed) broken.spelled spells.spelled in
+      let premises = premises_of claim.observed.schema claim.observed.rows claim.observed.constraints in
       document-whole premises None 2 line rule spells.document.blocks
       (subst (λ (document : Document). IsFirstBrokenIn premises None 2 line rule document.blocks) same broken.first) spells.unbroken
 
@@ -48,7 +49,7 @@ text_is nodes case bytes proof = (proof.answers.formed, sym proof.proved)
 
 spells_proof : (claim : Claim) → IsProved claim → SpellsUnbroken claim
 spells_proof claim is =
-    let same : premises_of claim.schema claim.rows claim.constraints ≡ premises_of is.case.schema is.case.rows is.case.constraints
+    let same : premises_of claim.observed.schema claim.observed.rows claim.observed.constraints ≡ premises_of is.case.schema is.case.rows is.case.constraints
     = rw (is.same_schema, is.same_rows, is.same_constraints) refl in
     record {
       document = is.proof.document;

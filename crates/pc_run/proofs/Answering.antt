@@ -16,10 +16,11 @@ use Rattle.pc_script.specs.Script.{script_of}
 use Rattle.pc_run_words.specs.Words.{Asked, bound, prove, check, show, conflict, quantile, session, gen, command_of}
 use Rattle.pc_run.specs.declared.input.Input.{Input}
 use Rattle.pc_run.specs.declared.input.Input.TheVariants.{Asks, Proves, Shows, Contradicts, Measures, Follows}
-use Rattle.pc_run.specs.Outcome.{Obstacle, refused, absent, NamedFile, files_of, Found, nothing, value_under, with_file, found_after, found_in, held_in, mapped, made, case_in, listing_in, measured_in, scripted_in, input_in, outcome_of, accepted_under, needed, whole}
+use Rattle.pc_files.specs.Outcome.{Obstacle, refused, absent, NamedFile, Found, nothing, value_under, with_file, found_after, found_in, held_in, mapped, listing_in, outcome_of, needed, whole}
+use Rattle.pc_run.specs.Outcome.{files_of, made, case_in, measured_in, scripted_in, input_in, accepted_under}
 use Rattle.pc_run.specs.Replies.{SaysInput}
 use Rattle.pc_run.specs.Meaning.{Call, HasEnded, IsRefused, HasReadFault, Means, IsAnswer, IsAnswerable, IsAnswerUnlessMemory}
-use Rattle.pc_run.proofs.ReadFiles.{joined, needs}
+use Rattle.pc_files.proofs.ReadFiles.{joined, needs}
 
 -- ---- no file that is accepted is absent
 

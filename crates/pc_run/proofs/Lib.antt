@@ -1,16 +1,11 @@
 pub mod Agreement
 pub mod Answering
-pub mod Asked
 pub mod Chains
 pub mod Documents
-pub mod FaultFiles
-pub mod Files
 pub mod Following
 pub mod MadeCases
 pub mod Meanings
 pub mod Promises
-pub mod ReadFiles
 pub mod Reported
-pub mod Spelled
 pub mod StopReplies
 pub mod Unbroken

@@ -2,12 +2,13 @@
 use Rattle.std.proofs.Common.{List, ℕ}
 use Rattle.pc_base.specs.declared.status.Status.{Status}
 use Rattle.pc_run.specs.Replies.{Responds}
-use Rattle.pc_run.specs.Meaning.{Call, IsCutOff, IsWritten, KeepsPromise, after_failed_put}
+use Rattle.pc_files.specs.Writing.{IsCutOff, IsWritten}
+use Rattle.pc_run.specs.Meaning.{Call, KeepsPromise, after_failed_put}
 use Rattle.pc_run.proofs.Meanings.{means_whole, means_cut_off}
 use Rattle.pc_run.proofs.Agreement.{says_yes, says_no, agrees}
 use Rattle.pc_run.proofs.Answering.{answers}
 
-pub keeps_whole : (call : Call) (status : Status) (text : List ℕ) → Responds call.reading call.words status text → IsWritten call text → KeepsPromise call status
+pub keeps_whole : (call : Call) (status : Status) (text : List ℕ) → Responds call.reading call.words status text → IsWritten call.writing text → KeepsPromise call status
 keeps_whole call status text responds written =
     let means = means_whole call status text responds written in
     record {
@@ -18,7 +19,7 @@ keeps_whole call status text responds written =
       agrees = λ checks. agrees call status text responds means checks;
     }
 
-pub keeps_cut_off : (call : Call) (status : Status) (text : List ℕ) → Responds call.reading call.words status text → IsCutOff call text → KeepsPromise call (after_failed_put status)
+pub keeps_cut_off : (call : Call) (status : Status) (text : List ℕ) → Responds call.reading call.words status text → IsCutOff call.writing text → KeepsPromise call (after_failed_put status)
 keeps_cut_off call status text responds cut = record {
   means = means_cut_off call status text responds cut;
   answers = λ can. absurd (can.puts cut.rose);

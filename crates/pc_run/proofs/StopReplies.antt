@@ -6,16 +6,18 @@ use Rattle.pc_base.specs.Shelves.{ShelfState}
 use Rattle.pc_base.specs.declared.outside.Loaded.{Loaded}
 use Rattle.pc_base.specs.declared.status.Status.{Status}
 use Rattle.pc_run.specs.declared.input.Input.{Input}
-use Rattle.pc_run.specs.declared.stop.Stop.{Stop}
-use Rattle.pc_run.specs.declared.stop.Stop.TheVariants as stops
+use Rattle.pc_files.specs.declared.stop.Stop.{Stop}
+use Rattle.pc_files.specs.declared.stop.Stop.TheVariants as stops
 use Rattle.pc_run_words.specs.Words.{Asked, command_of}
 use Rattle.pc_run.specs.declared.reply.Reply.{Reply}
 use Rattle.pc_run.specs.Inputs.{IsSoundInput}
-use Rattle.pc_run.specs.Loading.{IsRead, Reading, reading_of}
-use Rattle.pc_run.specs.Outcome.{refused, files_of, file_count, input_in}
+use Rattle.pc_files.specs.Loading.{IsRead, Reading, reading_of}
+use Rattle.pc_files.specs.Outcome.{refused}
+use Rattle.pc_run.specs.Outcome.{files_of, file_count, input_in}
 use Rattle.pc_run.specs.Replies.{AnswersCommand, AnswersWords, Responds, SaysInput, RepliesTo, RepliesToStop, SaysFault, SaysOutcome}
-use Rattle.pc_run.proofs.Chains.{all_in_order, nothing_loaded, order_of_command, until_in_order}
-use Rattle.pc_run.proofs.ReadFiles.{no_loads}
+use Rattle.pc_files.proofs.Chains.{all_in_order, until_in_order}
+use Rattle.pc_run.proofs.Chains.{nothing_loaded, order_of_command}
+use Rattle.pc_files.proofs.ReadFiles.{no_loads}
 
 pub stop_replies : (reading : Reading) (asked : Asked) (stop : Stop) (status : Status) (text : List ℕ) → IsRead {X = Input} reading (files_of asked) (input_in asked) (Err stop) → RepliesToStop stop status text → RepliesTo reading asked status text
 stop_replies reading asked (stops.Refused fault) status text read replies =

@@ -1,5 +1,5 @@
 -- What was read of the files of a command.
-use Rattle.std.specs.Prelude.{List, [], ◌++◌, ℕ, All, Result, Ok, Err}
+use Rattle.std.specs.Prelude.{List, ℕ, All, Result}
 use Rattle.std.specs.List.{AllPass}
 use Rattle.pc_model.specs.Membership.{in_domain}
 use Rattle.pc_model.specs.Accepted.{AreConstraints, IsQuery}
@@ -7,25 +7,23 @@ use Rattle.pc_model.specs.WellFormed.{IsWellFormed}
 use Rattle.pc_lang.specs.Quantiles.{IsQuantile}
 use Rattle.pc_rows.specs.declared.case.Case.{Case}
 use Rattle.pc_session.specs.Edited.{Held, CanFollowAll}
+use Rattle.pc_files.specs.declared.stop.Stop.{Stop}
+use Rattle.pc_files.specs.Loading.{Reading, IsRead}
+use Rattle.pc_files.specs.Reads.{IsShowable, IsUsable}
 use Rattle.pc_run_words.specs.declared.command.Bound.{Bound}
 use Rattle.pc_run_words.specs.declared.command.Check.{Check}
 use Rattle.pc_run_words.specs.declared.command.Quantile.{Quantile}
 use Rattle.pc_run_words.specs.declared.command.Session.{Session}
-use Rattle.pc_run_words.specs.declared.command.Show.{Show}
 use Rattle.pc_run_words.specs.declared.command.Command.{Command}
 use Rattle.pc_run_words.specs.declared.command.Command.TheVariants as commands
 use Rattle.pc_run_words.specs.Commands.{asked_in, bound_names, quantile_names}
 use Rattle.pc_run_words.specs.Words.{bound, quantile, IsBudget, IsSize}
-use Rattle.pc_run.specs.declared.stop.Stop.{Stop}
 use Rattle.pc_run.specs.declared.input.Claim.{Claim}
 use Rattle.pc_run.specs.declared.input.Input.{Input}
 use Rattle.pc_run.specs.declared.input.Input.TheVariants.{Asks, Proves, Claims, Shows, Contradicts, Measures, Follows, Makes}
-use Rattle.pc_run.specs.declared.input.Listing.{Listing}
 use Rattle.pc_run.specs.declared.input.Measured.{Measured}
-use Rattle.pc_run.specs.declared.input.Observed.{Observed}
 use Rattle.pc_run.specs.declared.input.Scripted.{Scripted}
-use Rattle.pc_run.specs.Loading.{Reading, AreRead, IsRead}
-use Rattle.pc_run.specs.Outcome.{NamedFile, observed_files, listed_files, files_of, Found, case_in, listing_in, measured_in, input_in}
+use Rattle.pc_run.specs.Outcome.{files_of, case_in, measured_in, input_in}
 
 -- what the answer and its report need of what was read
 pub record IsSound (case : Case) : Type 0 where
@@ -34,37 +32,22 @@ pub record IsSound (case : Case) : Type 0 where
   pub accepted : AreConstraints case.schema case.constraints
   pub asked : All (IsQuery case.schema) case.queries
 
--- what a case and a check need of what was observed
-pub record IsUsable (observed : Observed) : Type 0 where
-  pub well_formed : IsWellFormed observed.schema
-  pub seen : AllPass (in_domain observed.schema) observed.rows
-  pub accepted : AreConstraints observed.schema observed.constraints
-
 abbrev pub IsCheckable : Claim → Type 0
-IsCheckable claim = IsUsable (record { schema = claim.schema; rows = claim.rows; constraints = claim.constraints })
-
--- what the text of constraints needs of what was read
-pub record IsShowable (listing : Listing) : Type 0 where
-  pub well_formed : IsWellFormed listing.schema
-  pub accepted : AreConstraints listing.schema listing.constraints
+IsCheckable claim = IsUsable claim.observed
 
 -- what the answer to a quantile and its text need of what was read
 pub record IsMeasurable (measured : Measured) : Type 0 where
-  pub well_formed : IsWellFormed measured.schema
-  pub seen : AllPass (in_domain measured.schema) measured.rows
-  pub accepted : AreConstraints measured.schema measured.constraints
-  pub asked : IsQuantile measured.schema measured.asked
+  pub usable : IsUsable measured.observed
+  pub asked : IsQuantile measured.observed.schema measured.asked
 
 -- what is held before the first line
 abbrev pub start_of : Scripted → Held
-start_of scripted = record { rows = scripted.rows; constraints = scripted.constraints }
+start_of scripted = record { rows = scripted.observed.rows; constraints = scripted.observed.constraints }
 
 -- what a session and its reports need of what was read
 pub record IsFollowable (scripted : Scripted) : Type 0 where
-  pub well_formed : IsWellFormed scripted.schema
-  pub seen : AllPass (in_domain scripted.schema) scripted.rows
-  pub accepted : AreConstraints scripted.schema scripted.constraints
-  pub can : CanFollowAll scripted.schema (start_of scripted) scripted.lines
+  pub usable : IsUsable scripted.observed
+  pub can : CanFollowAll scripted.observed.schema (start_of scripted) scripted.lines
 
 -- what was read is as its command needs it
 abbrev pub IsSoundInput : Input → Type 0
@@ -76,15 +59,6 @@ IsSoundInput (Contradicts nodes listing) = IsShowable listing × IsBudget nodes
 IsSoundInput (Measures nodes measured) = IsMeasurable measured × IsBudget nodes
 IsSoundInput (Follows nodes scripted) = IsFollowable scripted × IsBudget nodes
 IsSoundInput (Makes numbers) = IsSize numbers.size
-
--- the schema, the observed rows and the constraints that were found
-abbrev pub found_of : Observed → Found
-found_of observed = record { schema = observed.schema; rows = observed.rows; constraints = observed.constraints; bytes = []; lines = [] }
-
--- what reading the first files of a command answers: what was found in them, or why they give nothing, whatever files follow
-abbrev pub ReadsObserved : Reading → List ℕ → List ℕ → List ℕ → Result Observed Stop → Type 0
-ReadsObserved reading schema rows constraints (Ok observed) = AreRead reading (observed_files schema rows constraints) (found_of observed)
-ReadsObserved reading schema rows constraints (Err stop) = (rest : List NamedFile) → IsRead reading (observed_files schema rows constraints ++ rest) (λ found. Ok found) (Err stop)
 
 -- what reading the files of a command answers
 abbrev pub ReadsCase : Reading → Bound → Result Case Stop → Type 0
@@ -98,9 +72,6 @@ ReadsClaim reading command result = ReadsCommand reading (commands.Check command
 
 abbrev pub ReadsScripted : Reading → Session → Result Input Stop → Type 0
 ReadsScripted reading command result = ReadsCommand reading (commands.Session command) result
-
-abbrev pub ReadsListing : Reading → Show → Result Listing Stop → Type 0
-ReadsListing reading command result = IsRead reading (listed_files command.schema.now command.constraints.now) (λ found. Ok (listing_in found)) result
 
 abbrev pub ReadsMeasured : Reading → Quantile → Result Measured Stop → Type 0
 ReadsMeasured reading command result = IsRead reading (files_of (quantile (quantile_names command))) (measured_in (quantile_names command).query) result

@@ -1,8 +1,6 @@
 pub mod Answers
 pub mod Inputs
-pub mod Loading
 pub mod Meaning
 pub mod Outcome
 pub mod Reports
 pub mod Replies
-pub mod Stops

@@ -4,26 +4,20 @@ use Rattle.pc_model.specs.declared.fault.FileKind.{FileKind}
 use Rattle.pc_model.specs.declared.fault.Fault.{Fault}
 use Rattle.pc_base.specs.declared.status.Status.{Status}
 use Rattle.pc_base.specs.declared.status.Status.TheVariants as ended
-use Rattle.pc_base.specs.Counts.{Rose, RoseWithin}
-use Rattle.pc_base.specs.Shelves.{SinkState}
+use Rattle.pc_base.specs.Counts.{Rose}
 use Rattle.pc_run_words.specs.Words.{Asked, CheckNames, check, command_of}
 use Rattle.pc_rows.specs.declared.case.Case.{Case}
 use Rattle.pc_run.specs.declared.input.Claim.{Claim}
 use Rattle.pc_run.specs.declared.input.Input.{Input}
 use Rattle.pc_run.specs.declared.input.Input.TheVariants.{Claims}
 use Rattle.pc_run.specs.Inputs.{IsSoundInput}
-use Rattle.pc_run.specs.Outcome.{refused, files_of, accepted_under, ComesTo, AreAccepted}
-use Rattle.pc_run.specs.Loading.{Reading, IsUnread, LoadsAll, EndsAt, AreInOrder}
+use Rattle.pc_files.specs.Loading.{Reading, IsUnread, LoadsAll, EndsAt}
+use Rattle.pc_files.specs.Outcome.{refused}
+use Rattle.pc_files.specs.Texts.{fault_line, malformed_line}
+use Rattle.pc_files.specs.Writing.{Writing, IsCutOff, IsTold, IsUntouched, IsWritten}
+use Rattle.pc_run.specs.Outcome.{files_of, accepted_under, AreInOrder, ComesTo, AreAccepted}
 use Rattle.pc_run.specs.Replies.{BreaksFirst, SaysInput, SaysProof, SpellsUnbroken}
-use Rattle.pc_run.specs.Reports.{usage_line, fault_line, malformed_line}
-
--- what a sink tells before and after
-pub record Writing : Type 0 where
-  pub before : SinkState
-  pub after : SinkState
-
-abbrev pub writing_of : {S : Type 0} → (S → SinkState) → S → S → Writing
-writing_of told old new = record { before = told old; after = told new }
+use Rattle.pc_run.specs.Reports.{usage_line}
 
 -- what a run is given and what it leaves: the words, the shelf and the sink
 pub record Call : Type 1 where
@@ -33,20 +27,6 @@ pub record Call : Type 1 where
 
 abbrev pub call_of : List (List ℕ) → Reading → Writing → Call
 call_of words reading writing = record { words = words; reading = reading; writing = writing }
-
--- the whole text was written, and no put failed in this call
-pub record IsWritten (call : Call) (text : List ℕ) : Type 0 where
-  pub no_fault : call.writing.after.faults ≡ call.writing.before.faults
-  pub whole : IfSome call.writing.before.kept (λ kept. call.writing.after.kept ≡ Some (kept ++ text))
-
--- a front of the text was written, and a put failed in this call
-pub record IsCutOff (call : Call) (text : List ℕ) : Type 0 where
-  pub rose : Rose call.writing.before.faults call.writing.after.faults
-  pub front : IfSome call.writing.before.kept (λ kept. (n : ℕ) × (call.writing.after.kept ≡ Some (kept ++ take n text)))
-
--- a line of a refusal stays what it says where the put of it fails
-abbrev pub IsTold : Call → List ℕ → Type 0
-IsTold call line = IsWritten call line ⊎ IsCutOff call line
 
 -- The words are a command whose files are accepted and come to this input, which is as the command needs it; and this is what is
 -- said of it, with this status.
@@ -63,18 +43,18 @@ pub record IsAnswered (call : Call) (status : Status) (text : List ℕ) : Type 0
 pub record HasEnded (call : Call) (status : Status) : Type 0 where
   pub text : List ℕ
   pub answered : IsAnswered call status text
-  pub written : IsWritten call text
+  pub written : IsWritten call.writing text
 
 pub record HasWriteFault (call : Call) : Type 0 where
   pub status : Status
   pub text : List ℕ
   pub answered : IsAnswered call status text
-  pub cut_off : IsCutOff call text
+  pub cut_off : IsCutOff call.writing text
 
 pub record IsNoCommand (call : Call) : Type 0 where
   pub no_command : command_of call.words ≡ None
   pub loads : call.reading.did []
-  pub told : IsTold call usage_line
+  pub told : IsTold call.writing usage_line
 
 -- a file or the query has a first fault, and nothing was loaded after that file
 pub record IsRefused (call : Call) : Type 0 where
@@ -83,7 +63,7 @@ pub record IsRefused (call : Call) : Type 0 where
   pub fault : Fault
   pub agrees : ComesTo call.reading.before.files asked (Err (refused fault))
   pub loads : EndsAt call.reading (files_of asked) fault.file
-  pub told : IsTold call (malformed_line fault)
+  pub told : IsTold call.writing (malformed_line fault)
 
 -- the last load failed, and no other
 pub record HasReadFault (call : Call) : Type 0 where
@@ -91,12 +71,11 @@ pub record HasReadFault (call : Call) : Type 0 where
   pub command : command_of call.words ≡ Some asked
   pub file : FileKind
   pub unread : IsUnread call.reading (files_of asked) file
-  pub told : IsTold call (fault_line file)
+  pub told : IsTold call.writing (fault_line file)
 
--- nothing was written, and one put at most failed
+-- nothing was written
 pub record HasNoMemory (call : Call) : Type 0 where
-  pub nothing_put : call.writing.after.kept ≡ call.writing.before.kept
-  pub one_fault : RoseWithin 1 call.writing.before.faults call.writing.after.faults
+  pub untouched : IsUntouched call.writing
   pub in_order : AreInOrder call.reading (command_of call.words)
 
 abbrev pub Means : Call → Status → Type 0
@@ -141,9 +120,9 @@ pub record ChecksClaim (call : Call) : Type 0 where
 pub record IsProved (claim : Claim) : Type 0 where
   pub nodes : ℕ
   pub case : Case
-  pub same_schema : claim.schema ≡ case.schema
-  pub same_rows : claim.rows ≡ case.rows
-  pub same_constraints : claim.constraints ≡ case.constraints
+  pub same_schema : claim.observed.schema ≡ case.schema
+  pub same_rows : claim.observed.rows ≡ case.rows
+  pub same_constraints : claim.observed.constraints ≡ case.constraints
   pub proof : SaysProof nodes case claim.bytes
 
 abbrev pub IsDoneUnlessMemory : Status → Type 0

@@ -25,24 +25,26 @@ use Rattle.pc_quantile.specs.Texts.{block_text}
 use Rattle.pc_gen.specs.Generated.{generated_case}
 use Rattle.pc_rows.specs.declared.case.Case.{Case}
 use Rattle.pc_session.specs.Edited.{cases_of}
-use Rattle.pc_run.specs.declared.stop.Stop.{Stop}
-use Rattle.pc_run.specs.declared.stop.Stop.TheVariants as stops
+use Rattle.pc_files.specs.declared.stop.Stop.{Stop}
+use Rattle.pc_files.specs.declared.stop.Stop.TheVariants as stops
 use Rattle.pc_run_words.specs.declared.command.Gen.{Gen}
 use Rattle.pc_run_words.specs.Words.{Asked, command_of, usual_nodes}
-use Rattle.pc_run.specs.Outcome.{Obstacle, refused, absent, files_of, file_count, ComesTo}
+use Rattle.pc_files.specs.Outcome.{Obstacle, refused, absent}
+use Rattle.pc_files.specs.Loading.{Reading, IsUnread, LoadsAll, EndsAt, IsInOrder}
+use Rattle.pc_files.specs.Texts.{fault_line, malformed_line}
+use Rattle.pc_files.specs.declared.reading.Listing.{Listing}
+use Rattle.pc_run.specs.Outcome.{files_of, file_count, AreInOrder, ComesTo}
 use Rattle.pc_run.specs.Inputs.{IsSoundInput, start_of}
-use Rattle.pc_run.specs.Loading.{Reading, IsUnread, LoadsAll, EndsAt, AreInOrder, IsInOrder}
 use Rattle.pc_run.specs.declared.reply.Reply.{Reply}
 use Rattle.pc_num.specs.declared.memory.Memory.{Memory}
 use Rattle.pc_base.specs.Shelves.{ShelfState, AreLoads}
-use Rattle.pc_run.specs.Reports.{usage_line, fault_line, malformed_line, listing_of, yes_line, no_line}
+use Rattle.pc_run.specs.Reports.{usage_line, listing_of, yes_line, no_line}
 use Rattle.pc_run.specs.Answers.{AnswersCase}
 use Rattle.pc_check.specs.declared.verdict.Verdict.{Verdict}
 use Rattle.pc_check.specs.declared.verdict.Verdict.TheVariants as verdicts
 use Rattle.pc_run.specs.declared.input.Claim.{Claim}
 use Rattle.pc_run.specs.declared.input.Input.{Input}
 use Rattle.pc_run.specs.declared.input.Input.TheVariants.{Asks, Proves, Claims, Shows, Contradicts, Measures, Follows, Makes}
-use Rattle.pc_run.specs.declared.input.Listing.{Listing}
 use Rattle.pc_run.specs.declared.input.Measured.{Measured}
 
 -- the reply where files give nothing
@@ -68,25 +70,25 @@ pub record SaysProof (nodes : ℕ) (case : Case) (text : List ℕ) : Type 0 wher
 -- the bytes are the text of a document that breaks no rule
 pub record SpellsUnbroken (claim : Claim) : Type 0 where
   pub document : Document
-  pub spelled : IsDocumentText claim.schema claim.bytes document
-  pub unbroken : AreUnbroken (premises_of claim.schema claim.rows claim.constraints) None document.blocks
+  pub spelled : IsDocumentText claim.observed.schema claim.bytes document
+  pub unbroken : AreUnbroken (premises_of claim.observed.schema claim.observed.rows claim.observed.constraints) None document.blocks
 
 -- the bytes are the text of a document that breaks no rule, and each of its blocks is right
 pub record IsUnbrokenText (claim : Claim) : Type 0 where
   pub document : Document
-  pub spelled : IsDocumentText claim.schema claim.bytes document
-  pub unbroken : AreUnbroken (premises_of claim.schema claim.rows claim.constraints) None document.blocks
-  pub right : AreRight (premises_of claim.schema claim.rows claim.constraints) document.blocks
+  pub spelled : IsDocumentText claim.observed.schema claim.bytes document
+  pub unbroken : AreUnbroken (premises_of claim.observed.schema claim.observed.rows claim.observed.constraints) None document.blocks
+  pub right : AreRight (premises_of claim.observed.schema claim.observed.rows claim.observed.constraints) document.blocks
 
 -- this line of the document that the bytes spell is the first that breaks a rule, which this is
 pub record BreaksRule (claim : Claim) (line rule : ℕ) : Type 0 where
   pub document : Document
-  pub spelled : IsDocumentText claim.schema claim.bytes document
-  pub first : IsFirstBrokenIn (premises_of claim.schema claim.rows claim.constraints) None 2 line rule document.blocks
+  pub spelled : IsDocumentText claim.observed.schema claim.bytes document
+  pub first : IsFirstBrokenIn (premises_of claim.observed.schema claim.observed.rows claim.observed.constraints) None 2 line rule document.blocks
 
 -- the bytes are the text of no document, and this is the line of the first fault
 pub record IsNoDocument (claim : Claim) (line rule : ℕ) : Type 0 where
-  pub fault : IsFaultLine claim.schema claim.bytes line
+  pub fault : IsFaultLine claim.observed.schema claim.bytes line
   pub first_rule : rule ≡ 1
 
 -- the first rule that is broken, with its line
@@ -148,8 +150,8 @@ pub record SaysConflict (nodes : ℕ) (listing : Listing) (text : List ℕ) : Ty
 -- the text is that of the answer to a quantile, by searches of at most so many nodes each
 pub record SaysQuantile (nodes : ℕ) (measured : Measured) (text : List ℕ) : Type 0 where
   pub answer : QuantileAnswer
-  pub owes : Owes measured.schema measured.rows measured.constraints measured.asked nodes answer
-  pub said : text ≡ block_text measured.schema (quantile_text measured.schema measured.asked) measured.asked answer
+  pub owes : Owes measured.observed.schema measured.observed.rows measured.observed.constraints measured.asked nodes answer
+  pub said : text ≡ block_text measured.observed.schema (quantile_text measured.observed.schema measured.asked) measured.asked answer
 
 -- the text is that of the reports of the cases, one after the other, and nothing else
 pub record SaysReports (nodes : ℕ) (cases : List Case) (text : List ℕ) : Type 0 where
@@ -164,7 +166,7 @@ SaysInput (Claims claim) status text = SaysVerdict claim status text
 SaysInput (Shows listing) status text = (status ≡ ended.Done) × SaysListing listing text
 SaysInput (Contradicts nodes listing) status text = (status ≡ ended.Done) × SaysConflict nodes listing text
 SaysInput (Measures nodes measured) status text = (status ≡ ended.Done) × SaysQuantile nodes measured text
-SaysInput (Follows nodes scripted) status text = (status ≡ ended.Done) × SaysReports nodes (cases_of scripted.schema (start_of scripted) scripted.lines) text
+SaysInput (Follows nodes scripted) status text = (status ≡ ended.Done) × SaysReports nodes (cases_of scripted.observed.schema (start_of scripted) scripted.lines) text
 SaysInput (Makes numbers) status text = (status ≡ ended.Done) × SaysSummary (made_case numbers) text
 
 -- the reply to files that are accepted, or refused

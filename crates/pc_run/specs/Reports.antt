@@ -1,26 +1,13 @@
 -- The texts that a run writes.
 use Rattle.std.specs.Prelude.{ℕ, Bool, if◌then◌else◌, List, [], ◌∷◌, ◌++◌, codes, decimal}
 use Rattle.std.specs.List.{concat}
-use Rattle.pc_model.specs.declared.fault.FileKind.{FileKind}
-use Rattle.pc_model.specs.declared.fault.Fault.{Fault}
-use Rattle.pc_model.specs.FaultTexts.{number_of, name_of, file_name_of}
 use Rattle.pc_lang.specs.Canonical.{constraints_text}
-use Rattle.pc_run.specs.declared.input.Listing.{Listing}
-
--- a text that ends with a line break
-abbrev pub line_break : List ℕ
-line_break = 10 ∷ []
+use Rattle.pc_files.specs.declared.reading.Listing.{Listing}
+use Rattle.pc_files.specs.Texts.{line_break}
 
 -- the commands of the whole language
 abbrev pub usage_line : List ℕ
 usage_line = codes "usage: pc bound|prove [--nodes N] SCHEMA ROWS CONSTRAINTS QUERY... | pc check SCHEMA ROWS CONSTRAINTS DOCUMENT | pc show SCHEMA CONSTRAINTS | pc gen SEED SIZE | pc conflict [--nodes N] SCHEMA CONSTRAINTS | pc quantile [--nodes N] SCHEMA ROWS CONSTRAINTS QUERY | pc session [--nodes N] SCHEMA ROWS CONSTRAINTS SCRIPT" ++ line_break
-
-abbrev pub fault_line : FileKind → List ℕ
-fault_line file = concat (codes "read fault: " ∷ file_name_of file ∷ line_break ∷ [])
-
-abbrev pub malformed_line : Fault → List ℕ
-malformed_line fault =
-    concat (codes "malformed " ∷ file_name_of fault.file ∷ codes " at " ∷ decimal fault.place ∷ codes ": reason " ∷ decimal (number_of fault.reason) ∷ codes " " ∷ name_of fault.reason ∷ line_break ∷ [])
 
 abbrev pub yes_line : List ℕ
 yes_line = codes "yes" ++ line_break

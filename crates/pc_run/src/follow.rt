@@ -7,6 +7,7 @@ ghost use Rattle.pc_run.specs.Inputs.{IsFollowable, start_of};
 ghost use Rattle.pc_run.specs.Replies.{SaysReport, SaysReports};
 
 use crate::input::Scripted;
+use pc_files::Observed;
 use pc_group::ask;
 use pc_list::Seq;
 use pc_model::Query;
@@ -24,14 +25,14 @@ pub(crate) fn report_script(
 ) -> Result<Vec<u8>, Memory>
     requires followable { IsFollowable scripted }
     requires budget { IsBudget nodes }
-    ensures { IfOk result (λ text. SaysReports nodes (cases_of scripted.schema (start_of scripted) scripted.lines) text.items) }
+    ensures { IfOk result (λ text. SaysReports nodes (cases_of scripted.observed.schema (start_of scripted) scripted.lines) text.items) }
 {
-    let Scripted {
+    let Scripted { observed, lines } = scripted;
+    let Observed {
         schema,
         rows,
         constraints,
-        lines,
-    } = scripted;
+    } = observed;
     let session = Session::begin(alloc, schema, rows, constraints)?;
     report_lines(alloc, session, lines, nodes)
 }

@@ -1,66 +1,42 @@
-ghost use Rattle.std.specs.Prelude.{◌≡◌, map, All, IfOk};
-ghost use Rattle.pc_model.specs.Accepted.{IsQuery};
-ghost use Rattle.pc_model.specs.Refusals.{Gives};
-ghost use Rattle.pc_model.specs.WellFormed.{IsWellFormed};
+ghost use Rattle.std.specs.Prelude.{IfOk};
 ghost use Rattle.pc_run_words.specs.Commands.{HasNumbers};
 ghost use Rattle.pc_run_words.specs.Words.{IsBudget};
-ghost use Rattle.pc_run.specs.Loading.{reading_of};
-ghost use Rattle.pc_run.specs.Outcome.{queries_of};
-ghost use Rattle.pc_run.specs.Inputs.{IsMeasurable, IsUsable, IsShowable, IsSound, IsSoundInput, ReadsCase, ReadsClaim, ReadsCommand, ReadsListing, ReadsMeasured, ReadsObserved, ReadsScripted};
+ghost use Rattle.pc_files.specs.Loading.{reading_of};
+ghost use Rattle.pc_run.specs.Inputs.{IsMeasurable, IsSound, IsSoundInput, ReadsCase, ReadsClaim, ReadsCommand, ReadsMeasured, ReadsScripted};
 
-use crate::loading::{load_bytes, load_constraints, load_rows, load_schema, load_script};
-use crate::stop::Stop;
 use pc_base::Shelf;
-use pc_lang::{Quantile, read_quantile, read_query};
+use pc_files::{
+    Listing, Observed, Stop, load_bytes, load_script, read_listing, read_observed, read_queries,
+};
+use pc_lang::{Quantile, read_quantile};
 use pc_list::Seq;
-use pc_model::{Constraint, FileKind, Query, Refusal, Schema};
-use pc_rows::{Case, Rows};
+use pc_model::FileKind;
+use pc_rows::Case;
 use pc_run_words::{
-    Bound, Check, Command, Gen, Quantile as QuantileWords, Session as SessionWords, Show,
+    Bound, Check, Command, Gen, Quantile as QuantileWords, Session as SessionWords,
 };
 use pc_session::Line;
 use std::alloc::Global;
 
-/// What is checked: the bytes of a document, and the schema, the observed rows and the constraints that it is for.
+/// What is checked: the bytes of a document, and what it is for.
 #[derive(Debug, Drop)]
 pub(crate) struct Claim {
-    pub schema: Schema,
-    pub rows: Rows,
-    pub constraints: Seq<Constraint>,
+    pub observed: Observed,
     pub bytes: Seq<u8>,
 }
 
-/// What is shown: constraints, and the schema that they are of.
-#[derive(Debug, Drop)]
-pub(crate) struct Listing {
-    pub schema: Schema,
-    pub constraints: Seq<Constraint>,
-}
-
-/// What a quantile is asked of: the schema, the observed rows and the constraints, and the query.
+/// What a quantile is asked of, and the query.
 #[derive(Debug, Drop)]
 pub(crate) struct Measured {
-    pub schema: Schema,
-    pub rows: Rows,
-    pub constraints: Seq<Constraint>,
+    pub observed: Observed,
     pub asked: Quantile,
 }
 
-/// What a session begins with: the schema, the observed rows and the constraints; and the lines that it follows.
+/// What a session begins with, and the lines that it follows.
 #[derive(Debug, Drop)]
 pub(crate) struct Scripted {
-    pub schema: Schema,
-    pub rows: Rows,
-    pub constraints: Seq<Constraint>,
+    pub observed: Observed,
     pub lines: Seq<Line>,
-}
-
-/// The schema, the observed rows and the constraints of a command.
-#[derive(Debug, Drop)]
-pub(crate) struct Observed {
-    pub schema: Schema,
-    pub rows: Rows,
-    pub constraints: Seq<Constraint>,
 }
 
 /// What a command comes to with its files: a case that is asked about, or answered with proofs, by searches of at most so
@@ -104,17 +80,20 @@ pub(crate) fn read_input<F: Shelf>(
             Err(stop) => Err(stop),
         },
         Command::Check(command) => read_claim(alloc, files, command),
-        Command::Show(command) => match read_listing(alloc, files, command) {
+        Command::Show(names) => match read_listing(alloc, files, names.schema, names.constraints) {
             Ok(listing) => Ok(Input::Shows(listing)),
             Err(stop) => Err(stop),
         },
-        Command::Conflict(command) => match read_listing(alloc, files, &command.files) {
-            Ok(listing) => Ok(Input::Contradicts {
-                nodes: command.nodes,
-                listing,
-            }),
-            Err(stop) => Err(stop),
-        },
+        Command::Conflict(command) => {
+            let names = command.files;
+            match read_listing(alloc, files, names.schema, names.constraints) {
+                Ok(listing) => Ok(Input::Contradicts {
+                    nodes: command.nodes,
+                    listing,
+                }),
+                Err(stop) => Err(stop),
+            }
+        }
         Command::Quantile(command) => match read_measured(alloc, files, command) {
             Ok(measured) => Ok(Input::Measures {
                 nodes: command.nodes,
@@ -161,25 +140,7 @@ fn read_claim<F: Shelf>(alloc: Global, files: &mut F, command: &Check) -> Result
         command.constraints,
     )?;
     let bytes = load_bytes(alloc, files, FileKind::Document, command.document)?;
-    Ok(Input::Claims(Claim {
-        schema: observed.schema,
-        rows: observed.rows,
-        constraints: observed.constraints,
-        bytes,
-    }))
-}
-
-/// Reads the files of `show`. Those of `conflict` are read alike.
-fn read_listing<F: Shelf>(alloc: Global, files: &mut F, command: &Show) -> Result<Listing, Stop>
-    ensures read { ReadsListing (reading_of F.told F.leads files.old files.new) command.now result }
-    ensures sound { IfOk result IsShowable }
-{
-    let schema = load_schema(alloc, files, command.schema)?;
-    let constraints = load_constraints(alloc, files, command.constraints, &schema)?;
-    Ok(Listing {
-        schema,
-        constraints,
-    })
+    Ok(Input::Claims(Claim { observed, bytes }))
 }
 
 /// Reads the files of `quantile`, and then its query.
@@ -199,12 +160,7 @@ fn read_measured<F: Shelf>(
         command.constraints,
     )?;
     let asked = read_quantile(alloc, &observed.schema, command.query, 1)?;
-    Ok(Measured {
-        schema: observed.schema,
-        rows: observed.rows,
-        constraints: observed.constraints,
-        asked,
-    })
+    Ok(Measured { observed, asked })
 }
 
 /// Reads the files of `session`, the last of which is the script.
@@ -225,50 +181,9 @@ fn read_scripted<F: Shelf>(
         command.constraints,
     )?;
     let lines = load_script(alloc, files, command.script, &observed)?;
-    let scripted = Scripted {
-        schema: observed.schema,
-        rows: observed.rows,
-        constraints: observed.constraints,
-        lines,
-    };
     Ok(Input::Follows {
         nodes: command.nodes,
-        scripted,
+        scripted: Scripted { observed, lines },
     })
 }
 
-/// Reads a schema, observed rows and constraints, which the files of a command begin with.
-#[tactic(auto, using(pc_model::proofs::FewNames::have_few_names))]
-fn read_observed<F: Shelf>(
-    alloc: Global,
-    files: &mut F,
-    schema: &str,
-    rows: &str,
-    constraints: &str,
-) -> Result<Observed, Stop>
-    ensures read { ReadsObserved (reading_of F.told F.leads files.old files.new) schema.now rows.now constraints.now result }
-    ensures sound { IfOk result IsUsable }
-{
-    let schema = load_schema(alloc, files, schema)?;
-    let rows = load_rows(alloc, files, rows, &schema)?;
-    let constraints = load_constraints(alloc, files, constraints, &schema)?;
-    Ok(Observed {
-        schema,
-        rows,
-        constraints,
-    })
-}
-
-/// Reads the queries in their order. The place of a fault is that of the query among them.
-fn read_queries(alloc: Global, schema: &Schema, texts: &[&str]) -> Result<Seq<Query>, Refusal>
-    requires well_formed { IsWellFormed schema.now }
-    ensures gives { Gives result (queries_of schema.now (map (λ text. text.now) texts.now)) }
-    ensures asked { IfOk result (All (IsQuery schema.now)) }
-{
-    let mut queries = Seq::new(alloc);
-    for (place, text) in texts.iter().enumerate() {
-        let query = read_query(alloc, schema, text, place as u64 + 1)?;
-        queries.push(query).map_err(|_| Refusal::Memory)?;
-    }
-    Ok(queries)
-}

@@ -3,22 +3,22 @@
 
 ghost use Rattle.std.specs.Prelude.{◌≡◌, ◌≤◌, ◌+◌, ℕ, map, string_bytes};
 ghost use Rattle.pc_run.specs.Replies.{AreLoadsFor};
-ghost use Rattle.pc_run.specs.Meaning.{KeepsPromise, call_of, writing_of, after_failed_put};
-ghost use Rattle.pc_run.specs.Loading.{reading_of};
+ghost use Rattle.pc_files.specs.Writing.{writing_of};
+ghost use Rattle.pc_run.specs.Meaning.{KeepsPromise, call_of, after_failed_put};
+ghost use Rattle.pc_files.specs.Loading.{reading_of};
 
 mod follow;
 mod input;
 mod laws;
 mod line;
-mod loading;
 mod making;
 mod reply;
 mod show;
-mod stop;
 mod verdict;
 
 pub use laws::reports_tell_their_answers;
 use pc_base::{Put, Shelf, Sink, Status};
+use pc_files::put_text;
 use reply::respond;
 use std::alloc::Global;
 
@@ -32,7 +32,7 @@ pub fn run<F: Shelf, K: Sink>(alloc: Global, words: &[String], files: &mut F, ou
     let Ok(reply) = respond(alloc, words, files) else {
         return Status::Memory;
     };
-    match out.put(reply.text.as_slice()) {
+    match put_text(out, reply.text.as_slice()) {
         Put::All => reply.status,
         Put::Failed => after_failed_put(reply.status),
         Put::Memory => Status::Memory,

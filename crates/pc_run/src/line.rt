@@ -1,9 +1,8 @@
 ghost use Rattle.std.specs.Prelude.{◌≡◌, IfOk, string_bytes};
 ghost use Rattle.pc_run.specs.Replies.{verdict_line};
-ghost use Rattle.pc_run.specs.Reports.{usage_line, fault_line, malformed_line};
+ghost use Rattle.pc_run.specs.Reports.{usage_line};
 
 use pc_check::Verdict;
-use pc_model::{Fault, FileKind};
 use std::alloc::{AllocError, Global};
 
 /// The line that tells which words are a command.
@@ -24,23 +23,4 @@ pub(crate) fn verdict_line(alloc: Global, verdict: Verdict) -> Result<String, Al
         Verdict::Yes => String::from_str(alloc, "yes\n"),
         Verdict::No { line, rule } => format!(in alloc; "no line {line} rule {rule}\n"),
     }
-}
-
-/// The line for a file that could not be read.
-pub(crate) fn fault_line(alloc: Global, file: FileKind) -> Result<String, AllocError>
-    ensures { IfOk result (λ text. string_bytes text ≡ fault_line file) }
-{
-    let name = file.name();
-    format!(in alloc; "read fault: {name}\n")
-}
-
-/// The line for a file or a query that is refused.
-pub(crate) fn malformed_line(alloc: Global, fault: Fault) -> Result<String, AllocError>
-    ensures { IfOk result (λ text. string_bytes text ≡ malformed_line fault) }
-{
-    let file = fault.file.name();
-    let place = fault.place;
-    let number = fault.reason.number();
-    let reason = fault.reason.name();
-    format!(in alloc; "malformed {file} at {place}: reason {number} {reason}\n")
 }

@@ -2,18 +2,18 @@ ghost use Rattle.std.specs.Prelude.{◌≡◌, map, IfOk, string_bytes};
 ghost use Rattle.pc_run_words.specs.Commands.{asked_in, HasNumbers};
 ghost use Rattle.pc_run_words.specs.Words.{IsBudget};
 ghost use Rattle.pc_run.specs.Inputs.{IsMeasurable, IsSound, IsSoundInput};
-ghost use Rattle.pc_run.specs.Loading.{reading_of};
+ghost use Rattle.pc_files.specs.Loading.{reading_of};
 ghost use Rattle.pc_run.specs.Replies.{AnswersWords, AnswersCommand, RepliesToStop, SaysInput, SaysProof, SaysQuantile, SaysReport};
 
 use crate::follow::report_script;
 use crate::input::{Input, Measured, read_input};
-use crate::line::{fault_line, malformed_line, usage_line};
+use crate::line::usage_line;
 use crate::making::summarize;
 use crate::show::{report_conflict, report_listing};
-use crate::stop::Stop;
 use crate::verdict::report_verdict;
 use pc_base::{Shelf, Status};
 use pc_document::put_document;
+use pc_files::{Observed, Stop, fault_line, malformed_line};
 use pc_group::answer_all;
 use pc_num::Memory;
 use pc_quantile::{bound_quantile, put_quantile};
@@ -143,10 +143,13 @@ fn report_quantile(alloc: Global, measured: &Measured, nodes: u32) -> Result<Vec
     requires budget { IsBudget nodes }
     ensures { IfOk result (λ text. SaysQuantile nodes measured.now text.items) }
 {
-    let schema = &measured.schema;
+    let Observed {
+        schema,
+        rows,
+        constraints,
+    } = &measured.observed;
     let asked = &measured.asked;
-    let constraints = measured.constraints.as_slice();
-    let answer = bound_quantile(alloc, schema, &measured.rows, constraints, asked, nodes)?;
+    let answer = bound_quantile(alloc, schema, rows, constraints.as_slice(), asked, nodes)?;
     let mut text = Vec::new(alloc);
     put_quantile(alloc, schema, &mut text, asked, &answer)?;
     Ok(text)

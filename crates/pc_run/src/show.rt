@@ -1,12 +1,12 @@
 ghost use Rattle.std.specs.Prelude.{◌≡◌, IfOk};
 ghost use Rattle.pc_run_words.specs.Words.{IsBudget};
-ghost use Rattle.pc_run.specs.Inputs.{IsShowable};
+ghost use Rattle.pc_files.specs.Reads.{IsShowable};
 ghost use Rattle.pc_run.specs.Replies.{SaysConflict, SaysListing};
 ghost use Rattle.pc_run.specs.Reports.{disjoint_line, listing_of};
 
-use crate::input::Listing;
 use pc_cells::pairwise_apart;
 use pc_conflict::{find, put_conflict};
+use pc_files::Listing;
 use pc_lang::put_constraints;
 use pc_num::Memory;
 use std::alloc::Global;

@@ -8,6 +8,7 @@ use crate::reply::Reply;
 use pc_base::Status;
 use pc_check::{Verdict, check};
 use pc_document::{NoDocument, read_document};
+use pc_files::Observed;
 use pc_num::Memory;
 use std::alloc::Global;
 
@@ -37,14 +38,13 @@ fn verdict_on(alloc: Global, claim: &Claim) -> Result<Verdict, Memory>
     requires { IsCheckable claim.now }
     ensures { IfOk result (HasVerdict claim.now) }
 {
-    match read_document(alloc, &claim.schema, claim.bytes.as_slice()) {
-        Ok(document) => check(
-            alloc,
-            &claim.schema,
-            &claim.rows,
-            claim.constraints.as_slice(),
-            &document,
-        ),
+    let Observed {
+        schema,
+        rows,
+        constraints,
+    } = &claim.observed;
+    match read_document(alloc, schema, claim.bytes.as_slice()) {
+        Ok(document) => check(alloc, schema, rows, constraints.as_slice(), &document),
         Err(NoDocument::Fault { line }) => Ok(Verdict::No { line, rule: 1 }),
         Err(NoDocument::Memory) => Err(Memory),
     }

@@ -3,6 +3,8 @@ use Rattle.std.specs.Prelude.{ℕ, ◌≤◌, nat_lt, nat_le, ◌==◌, ◌&&◌
 use Rattle.std.specs.Char.{is_ascii_digit}
 use Rattle.std.specs.List.{list_all}
 use Rattle.std.specs.Str.Parse.{digits_value}
+use Rattle.pc_run_words.specs.declared.form.Form.{Form}
+use Rattle.pc_run_words.specs.declared.form.Form.TheVariants as forms
 
 -- of `bound`, and of `prove`: how many nodes each search may have, the names of its three files, and the texts of its queries
 pub record BoundNames : Type 0 where
@@ -144,50 +146,30 @@ names_at (schema ∷ rows ∷ constraints ∷ query ∷ queries) nodes =
     else None
 names_at words nodes = None
 
-abbrev pub names_of : Given → Option BoundNames
-names_of words = option_and_then (names_at words.plain) (budget_of words.value)
-
 -- four files
 abbrev pub check_at : List (List ℕ) → Option Asked
 check_at (schema ∷ rows ∷ constraints ∷ document ∷ []) = Some (check (record { schema = schema; rows = rows; constraints = constraints; document = document }))
 check_at words = None
 
-abbrev pub check_of : Given → Option Asked
-check_of words = check_at words.plain
-
 -- two files
-abbrev pub show_at : List (List ℕ) → Option Asked
-show_at (schema ∷ constraints ∷ []) = Some (show (record { schema = schema; constraints = constraints }))
+abbrev pub show_at : List (List ℕ) → Option ShowNames
+show_at (schema ∷ constraints ∷ []) = Some (record { schema = schema; constraints = constraints })
 show_at words = None
 
-abbrev pub show_of : Given → Option Asked
-show_of words = show_at words.plain
+abbrev pub contradicted : ℕ → ShowNames → Asked
+contradicted nodes files = conflict (record { nodes = nodes; files = files })
 
--- two files, and how many nodes each search may have
-abbrev pub conflict_at : List (List ℕ) → ℕ → Option Asked
-conflict_at (schema ∷ constraints ∷ []) nodes = Some (conflict (record { nodes = nodes; files = record { schema = schema; constraints = constraints } }))
-conflict_at words nodes = None
-
-abbrev pub conflict_of : Given → Option Asked
-conflict_of words = option_and_then (conflict_at words.plain) (budget_of words.value)
-
--- three files and one query, and how many nodes each search may have
+-- three files and one query
 abbrev pub quantile_at : List (List ℕ) → ℕ → Option Asked
 quantile_at (schema ∷ rows ∷ constraints ∷ query ∷ []) nodes =
     Some (quantile (record { nodes = nodes; schema = schema; rows = rows; constraints = constraints; query = query }))
 quantile_at words nodes = None
 
-abbrev pub quantile_of : Given → Option Asked
-quantile_of words = option_and_then (quantile_at words.plain) (budget_of words.value)
-
--- four files, and how many nodes each search may have
+-- four files, the last of which is a script
 abbrev pub session_at : List (List ℕ) → ℕ → Option Asked
 session_at (schema ∷ rows ∷ constraints ∷ script ∷ []) nodes =
     Some (session (record { nodes = nodes; schema = schema; rows = rows; constraints = constraints; script = script }))
 session_at words nodes = None
-
-abbrev pub session_of : Given → Option Asked
-session_of words = option_and_then (session_at words.plain) (budget_of words.value)
 
 -- two numbers
 abbrev pub gen_with : List ℕ → List ℕ → Option Asked
@@ -198,25 +180,51 @@ abbrev pub gen_at : List (List ℕ) → Option Asked
 gen_at (seed ∷ size ∷ []) = gen_with seed size
 gen_at words = None
 
-abbrev pub gen_of : Given → Option Asked
-gen_of words = gen_at words.plain
+-- what a command makes of its plain words, and of how many nodes each search may have
+abbrev pub made_at : Form → List (List ℕ) → ℕ → Option Asked
+made_at forms.Bound words nodes = option_map bound (names_at words nodes)
+made_at forms.Prove words nodes = option_map prove (names_at words nodes)
+made_at forms.Check words nodes = check_at words
+made_at forms.Show words nodes = option_map show (show_at words)
+made_at forms.Conflict words nodes = option_map (contradicted nodes) (show_at words)
+made_at forms.Quantile words nodes = quantile_at words nodes
+made_at forms.Session words nodes = session_at words nodes
+made_at forms.Gen words nodes = gen_at words
 
--- the first word says which command it is
-abbrev pub command_with : List ℕ → List (List ℕ) → Option Asked
-command_with name words =
-    if bytes_eq name (codes "bound") then option_map bound (option_and_then names_of (given true words))
-    else (if bytes_eq name (codes "prove") then option_map prove (option_and_then names_of (given true words))
-    else (if bytes_eq name (codes "check") then option_and_then check_of (given false words)
-    else (if bytes_eq name (codes "show") then option_and_then show_of (given false words)
-    else (if bytes_eq name (codes "conflict") then option_and_then conflict_of (given true words)
-    else (if bytes_eq name (codes "quantile") then option_and_then quantile_of (given true words)
-    else (if bytes_eq name (codes "session") then option_and_then session_of (given true words)
-    else (if bytes_eq name (codes "gen") then option_and_then gen_of (given false words)
+-- whether it takes `--nodes`
+abbrev pub has_nodes : Form → Bool
+has_nodes forms.Bound = true
+has_nodes forms.Prove = true
+has_nodes forms.Check = false
+has_nodes forms.Show = false
+has_nodes forms.Conflict = true
+has_nodes forms.Quantile = true
+has_nodes forms.Session = true
+has_nodes forms.Gen = false
+
+-- its name
+abbrev pub form_named : List ℕ → Option Form
+form_named name =
+    if bytes_eq name (codes "bound") then Some forms.Bound
+    else (if bytes_eq name (codes "prove") then Some forms.Prove
+    else (if bytes_eq name (codes "check") then Some forms.Check
+    else (if bytes_eq name (codes "show") then Some forms.Show
+    else (if bytes_eq name (codes "conflict") then Some forms.Conflict
+    else (if bytes_eq name (codes "quantile") then Some forms.Quantile
+    else (if bytes_eq name (codes "session") then Some forms.Session
+    else (if bytes_eq name (codes "gen") then Some forms.Gen
     else None)))))))
 
+abbrev pub made_of : Form → Given → Option Asked
+made_of form words = option_and_then (made_at form words.plain) (budget_of words.value)
+
+abbrev pub command_with : Form → List (List ℕ) → Option Asked
+command_with form words = option_and_then (made_of form) (given (has_nodes form) words)
+
+-- the first word says which command it is
 abbrev pub command_of : List (List ℕ) → Option Asked
 command_of [] = None
-command_of (name ∷ words) = command_with name words
+command_of (name ∷ words) = option_and_then (λ form. command_with form words) (form_named name)
 
 -- ---- what holds of the numbers of a command
 

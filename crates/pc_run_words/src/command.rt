@@ -1,8 +1,9 @@
-ghost use Rattle.std.specs.Prelude.{◌≡◌, map, string_bytes, Some, None, IfOk, IfSome, MatchOption, option_and_then, option_map, true, false};
-ghost use Rattle.pc_run_words.specs.Words.{bound, budget_of, check_at, check_of, command_of, conflict_at, conflict_of, gen_at, gen_of, gen_with, given, names_at, names_of, prove, quantile_at, quantile_of, session_at, session_of, show_at, show_of, IsBudget};
-ghost use Rattle.pc_run_words.specs.Commands.{asked_in, bound_names, HasNumbers};
+ghost use Rattle.std.specs.Prelude.{◌≡◌, map, string_bytes, Some, None, IfOk, IfSome, MatchOption, option_map};
+ghost use Rattle.pc_run_words.specs.Words.{budget_of, check_at, command_of, command_with, contradicted, gen_at, gen_with, made_at, names_at, quantile_at, session_at, show_at, IsBudget};
+ghost use Rattle.pc_run_words.specs.Commands.{asked_in, bound_names, show_names, HasNumbers};
 
-use crate::given::{nodes_in, plain_in, words_alone, words_with_nodes};
+use crate::form::Form;
+use crate::given::{nodes_in, plain_in, words_given};
 use crate::number::number_of;
 use pc_num::Memory;
 use std::alloc::Global;
@@ -98,124 +99,52 @@ pub fn read_command<'a>(alloc: Global, words: &'a [String]) -> Result<Option<Com
     let Some((name, words)) = words.split_first() else {
         return Ok(None);
     };
-    match name.as_str() {
-        "bound" => read_bound(alloc, words),
-        "prove" => read_prove(alloc, words),
-        "check" => read_check(alloc, words),
-        "show" => read_show(alloc, words),
-        "conflict" => read_conflict(alloc, words),
-        "quantile" => read_quantile(alloc, words),
-        "session" => read_session(alloc, words),
-        "gen" => read_gen(alloc, words),
-        _ => Ok(None),
+    match Form::named(name.as_str()) {
+        Some(form) => read_form(alloc, form, name.as_str(), words),
+        None => Ok(None),
     }
 }
 
-fn read_bound<'a>(alloc: Global, words: &'a [String]) -> Result<Option<Command<'a>>, Memory>
-    ensures reads { IfOk result (λ found. option_map asked_in found ≡ option_map bound (option_and_then names_of (given true (map string_bytes words.now)))) }
-    ensures numbers { IfOk result (λ found. IfSome found HasNumbers) }
-{
-    let Some(names) = read_names(alloc, "bound", words)? else {
-        return Ok(None);
-    };
-    Ok(Some(Command::Bound(names)))
-}
-
-fn read_prove<'a>(alloc: Global, words: &'a [String]) -> Result<Option<Command<'a>>, Memory>
-    ensures reads { IfOk result (λ found. option_map asked_in found ≡ option_map prove (option_and_then names_of (given true (map string_bytes words.now)))) }
-    ensures numbers { IfOk result (λ found. IfSome found HasNumbers) }
-{
-    let Some(names) = read_names(alloc, "prove", words)? else {
-        return Ok(None);
-    };
-    Ok(Some(Command::Prove(names)))
-}
-
-/// What `bound` and `prove` take alike.
-fn read_names<'a>(
+/// The command of this form, by the words after its name.
+fn read_form<'a>(
     alloc: Global,
+    form: Form,
     name: &'a str,
     words: &'a [String],
-) -> Result<Option<Bound<'a>>, Memory>
-    ensures reads { IfOk result (λ found. option_map bound_names found ≡ option_and_then names_of (given true (map string_bytes words.now))) }
-    ensures numbers { IfOk result (λ found. IfSome found (λ names. IsBudget names.nodes)) }
+) -> Result<Option<Command<'a>>, Memory>
+    ensures reads { IfOk result (λ found. option_map asked_in found ≡ command_with form (map string_bytes words.now)) }
+    ensures numbers { IfOk result (λ found. IfSome found HasNumbers) }
 {
-    let Some(found) = words_with_nodes(alloc, name, words)? else {
+    let Some(found) = words_given(alloc, name, form.has_nodes(), words)? else {
         return Ok(None);
     };
     let Some(nodes) = budget_of(nodes_in(&found)) else {
         return Ok(None);
     };
-    names_at(alloc, plain_in(&found), nodes)
+    made_at(alloc, form, plain_in(&found), nodes)
 }
 
-fn read_check<'a>(alloc: Global, words: &'a [String]) -> Result<Option<Command<'a>>, Memory>
-    ensures reads { IfOk result (λ found. option_map asked_in found ≡ option_and_then check_of (given false (map string_bytes words.now))) }
+/// What a command makes of its plain words.
+fn made_at<'a>(
+    alloc: Global,
+    form: Form,
+    plain: &[&'a str],
+    nodes: u32,
+) -> Result<Option<Command<'a>>, Memory>
+    requires { IsBudget nodes }
+    ensures reads { IfOk result (λ found. option_map asked_in found ≡ made_at form (map (λ text. text.now) plain.now) nodes) }
     ensures numbers { IfOk result (λ found. IfSome found HasNumbers) }
 {
-    let Some(found) = words_alone(alloc, "check", words)? else {
-        return Ok(None);
-    };
-    Ok(check_at(plain_in(&found)))
-}
-
-fn read_show<'a>(alloc: Global, words: &'a [String]) -> Result<Option<Command<'a>>, Memory>
-    ensures reads { IfOk result (λ found. option_map asked_in found ≡ option_and_then show_of (given false (map string_bytes words.now))) }
-    ensures numbers { IfOk result (λ found. IfSome found HasNumbers) }
-{
-    let Some(found) = words_alone(alloc, "show", words)? else {
-        return Ok(None);
-    };
-    Ok(show_at(plain_in(&found)))
-}
-
-fn read_conflict<'a>(alloc: Global, words: &'a [String]) -> Result<Option<Command<'a>>, Memory>
-    ensures reads { IfOk result (λ found. option_map asked_in found ≡ option_and_then conflict_of (given true (map string_bytes words.now))) }
-    ensures numbers { IfOk result (λ found. IfSome found HasNumbers) }
-{
-    let Some(found) = words_with_nodes(alloc, "conflict", words)? else {
-        return Ok(None);
-    };
-    let Some(nodes) = budget_of(nodes_in(&found)) else {
-        return Ok(None);
-    };
-    Ok(conflict_at(plain_in(&found), nodes))
-}
-
-fn read_quantile<'a>(alloc: Global, words: &'a [String]) -> Result<Option<Command<'a>>, Memory>
-    ensures reads { IfOk result (λ found. option_map asked_in found ≡ option_and_then quantile_of (given true (map string_bytes words.now))) }
-    ensures numbers { IfOk result (λ found. IfSome found HasNumbers) }
-{
-    let Some(found) = words_with_nodes(alloc, "quantile", words)? else {
-        return Ok(None);
-    };
-    let Some(nodes) = budget_of(nodes_in(&found)) else {
-        return Ok(None);
-    };
-    Ok(quantile_at(plain_in(&found), nodes))
-}
-
-fn read_session<'a>(alloc: Global, words: &'a [String]) -> Result<Option<Command<'a>>, Memory>
-    ensures reads { IfOk result (λ found. option_map asked_in found ≡ option_and_then session_of (given true (map string_bytes words.now))) }
-    ensures numbers { IfOk result (λ found. IfSome found HasNumbers) }
-{
-    let Some(found) = words_with_nodes(alloc, "session", words)? else {
-        return Ok(None);
-    };
-    let Some(nodes) = budget_of(nodes_in(&found)) else {
-        return Ok(None);
-    };
-    Ok(session_at(plain_in(&found), nodes))
-}
-
-fn read_gen<'a>(alloc: Global, words: &'a [String]) -> Result<Option<Command<'a>>, Memory>
-    ensures reads { IfOk result (λ found. option_map asked_in found ≡ option_and_then gen_of (given false (map string_bytes words.now))) }
-    ensures numbers { IfOk result (λ found. IfSome found HasNumbers) }
-{
-    let Some(found) = words_alone(alloc, "gen", words)? else {
-        return Ok(None);
-    };
-    Ok(gen_at(plain_in(&found)))
+    match form {
+        Form::Bound => Ok(names_at(alloc, plain, nodes)?.map(Command::Bound)),
+        Form::Prove => Ok(names_at(alloc, plain, nodes)?.map(Command::Prove)),
+        Form::Check => Ok(check_at(plain)),
+        Form::Show => Ok(show_at(plain).map(Command::Show)),
+        Form::Conflict => Ok(conflict_at(plain, nodes)),
+        Form::Quantile => Ok(quantile_at(plain, nodes)),
+        Form::Session => Ok(session_at(plain, nodes)),
+        Form::Gen => Ok(gen_at(plain)),
+    }
 }
 
 /// How many nodes each search may have, by the value of `--nodes`.
@@ -265,34 +194,25 @@ fn check_at<'a>(plain: &[&'a str]) -> Option<Command<'a>>
     }
 }
 
-fn show_at<'a>(plain: &[&'a str]) -> Option<Command<'a>>
-    ensures reads { option_map asked_in result ≡ show_at (map (λ text. text.now) plain.now) }
-    ensures numbers { IfSome result HasNumbers }
+fn show_at<'a>(plain: &[&'a str]) -> Option<Show<'a>>
+    ensures { option_map show_names result ≡ show_at (map (λ text. text.now) plain.now) }
 {
     match plain {
-        [schema, constraints] => Some(Command::Show(Show {
+        [schema, constraints] => Some(Show {
             schema: *schema,
             constraints: *constraints,
-        })),
+        }),
         _ => None,
     }
 }
 
 fn conflict_at<'a>(plain: &[&'a str], nodes: u32) -> Option<Command<'a>>
     requires { IsBudget nodes }
-    ensures reads { option_map asked_in result ≡ conflict_at (map (λ text. text.now) plain.now) nodes }
+    ensures reads { option_map asked_in result ≡ option_map (contradicted nodes) (show_at (map (λ text. text.now) plain.now)) }
     ensures numbers { IfSome result HasNumbers }
 {
-    match plain {
-        [schema, constraints] => Some(Command::Conflict(Conflict {
-            nodes,
-            files: Show {
-                schema: *schema,
-                constraints: *constraints,
-            },
-        })),
-        _ => None,
-    }
+    let files = show_at(plain)?;
+    Some(Command::Conflict(Conflict { nodes, files }))
 }
 
 fn quantile_at<'a>(plain: &[&'a str], nodes: u32) -> Option<Command<'a>>

@@ -7,26 +7,16 @@ use clap::{Arg, ArgAction, ArgMatches, Command};
 use pc_num::Memory;
 use std::alloc::{AllocError, Global};
 
-/// What the words after the name of a command that has `--nodes` give, where `clap` takes them.
-pub(crate) fn words_with_nodes<'a>(
+/// What the words after the name of a command give, where `clap` takes them.
+pub(crate) fn words_given<'a>(
     alloc: Global,
     name: &'a str,
+    has_nodes: bool,
     words: &'a [String],
 ) -> Result<Option<ArgMatches<'a>>, Memory>
-    ensures { IfOk result (IsFound true (map string_bytes words.now)) }
+    ensures { IfOk result (IsFound has_nodes (map string_bytes words.now)) }
 {
-    found_in(nodes_parser(alloc, name)?, words)
-}
-
-/// The same of a command that has no option.
-pub(crate) fn words_alone<'a>(
-    alloc: Global,
-    name: &'a str,
-    words: &'a [String],
-) -> Result<Option<ArgMatches<'a>>, Memory>
-    ensures { IfOk result (IsFound false (map string_bytes words.now)) }
-{
-    found_in(plain_parser(alloc, name)?, words)
+    found_in(parser_for(alloc, name, has_nodes)?, words)
 }
 
 /// The value of `--nodes`, where it is given.
@@ -41,6 +31,19 @@ pub(crate) fn plain_in<'b, 'a>(found: &'b ArgMatches<'a>) -> &'b [&'a str]
     ensures { map (λ text. text.now) result.now ≡ plain_found found.now }
 {
     found.get_strs("words").unwrap_or_default()
+}
+
+fn parser_for<'a>(
+    alloc: Global,
+    name: &'a str,
+    has_nodes: bool,
+) -> Result<Command<'a>, AllocError>
+    ensures { IfOk result (λ command. app_of command ≡ parser_app name.now has_nodes) }
+{
+    if has_nodes {
+        return nodes_parser(alloc, name);
+    }
+    plain_parser(alloc, name)
 }
 
 fn nodes_parser<'a>(alloc: Global, name: &'a str) -> Result<Command<'a>, AllocError>

@@ -2,6 +2,7 @@
 #![tactic(auto)]
 
 mod command;
+mod form;
 mod given;
 mod laws;
 mod number;

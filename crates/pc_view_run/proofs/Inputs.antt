@@ -1,8 +1,6 @@
 -- What a load of the input tells.
 use Rattle.std.proofs.Common.{◌≡◌, ℕ, List}
 use Rattle.pc_model.specs.declared.fault.Fault.{Fault}
-use Rattle.pc_model.specs.declared.schema.Schema.{Schema}
-use Rattle.pc_model.specs.declared.constraint.Constraint.{Constraint}
 use Rattle.pc_base.specs.Shelves.{IsLoad, ShelfState}
 use Rattle.pc_base.specs.declared.outside.Loaded.{Loaded}
 use Rattle.pc_base.specs.declared.outside.Loaded.TheVariants as loads
@@ -11,7 +9,6 @@ use Rattle.pc_view_run.specs.declared.input.Input.TheVariants as input
 use Rattle.pc_view_run.specs.declared.reply.Reply.{Reply}
 use Rattle.pc_view_run.specs.declared.style.Style.{Style}
 use Rattle.pc_view_run.specs.Lines.{malformed, unread}
-use Rattle.pc_view_run.specs.Reasons.{IsReplyOver, TellsReasons}
 use Rattle.pc_view_run.specs.Refusals.{IsPointed, Points, PointsAfter, PointsIn}
 use Rattle.pc_view_run.specs.Reports.{Tells, input_name, limit, reported}
 
@@ -26,19 +23,7 @@ module _ (before after : ShelfState) (into : List ℕ) (reply : Reply) where
     pub tells_failed : IsLoad before input_name limit loads.Failed into after → reply ≡ unread input.Report → Tells style before after reply
     tells_failed load is = (loads.Failed, into, load, is)
 
-  module _ (schema : Schema) (constraints : List Constraint) where
-    pub reasons_whole : IsLoad before input_name limit loads.Whole into after → IsReplyOver schema constraints into reply → TellsReasons schema constraints before after reply
-    reasons_whole load is = (loads.Whole, into, load, is)
-
-    pub reasons_long : IsLoad before input_name limit loads.Long into after → reply ≡ malformed input.Document 0 → TellsReasons schema constraints before after reply
-    reasons_long load is = (loads.Long, into, load, is)
-
-    pub reasons_failed : IsLoad before input_name limit loads.Failed into after → reply ≡ unread input.Document → TellsReasons schema constraints before after reply
-    reasons_failed load is = (loads.Failed, into, load, is)
-
 pub ruleset inputs = (tells_whole, tells_long, tells_failed)
-
-pub ruleset documents = (reasons_whole, reasons_long, reasons_failed)
 
 pub points_after : (name : List ℕ) (before middle after : ShelfState) (loaded : Loaded) (into : List ℕ) (reply : Reply) → IsLoad before input_name limit loaded into middle → PointsAfter name loaded into middle after reply → Points name before after reply
 points_after name before middle after loaded into reply load is = record { loaded = loaded; bytes = into; middle = middle; load = load; later = is }

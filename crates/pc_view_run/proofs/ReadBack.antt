@@ -16,7 +16,7 @@ use Rattle.pc_model.specs.declared.fault.Fault.{Fault}
 use Rattle.pc_model.specs.declared.fault.Reason.{Reason}
 use Rattle.pc_model.specs.declared.fault.Reason.TheVariants as reasons
 use Rattle.pc_model.specs.FaultTexts.{file_name_of, name_of, number_of}
-use Rattle.pc_loads.specs.Texts.{malformed_line}
+use Rattle.pc_files.specs.Texts.{malformed_line}
 use Rattle.pc_faults.specs.Refusals.{about, digits_of, is_space, kind_of, named, pieces_of, place_of, placed, reason_numbered, reason_of, refusal_in, refusal_of, told, without_last}
 
 abbrev HaveNoSpace : List ℕ → Type 0

@@ -1,9 +1,9 @@
 -- The lines that tell why nothing is shown.
 use Rattle.std.specs.Prelude.{◌≡◌, ℕ, List, [], ◌∷◌, codes, decimal}
 use Rattle.std.specs.List.{concat}
-use Rattle.pc_loads.specs.declared.stop.Stop.{Stop}
-use Rattle.pc_loads.specs.declared.stop.Stop.TheVariants as stops
-use Rattle.pc_loads.specs.Texts.{fault_line, line_break, malformed_line}
+use Rattle.pc_files.specs.declared.stop.Stop.{Stop}
+use Rattle.pc_files.specs.declared.stop.Stop.TheVariants as stops
+use Rattle.pc_files.specs.Texts.{fault_line, line_break, malformed_line}
 use Rattle.pc_view_run.specs.declared.ended.Ended.TheVariants as ends
 use Rattle.pc_view_run.specs.declared.reply.Reply.{Reply}
 use Rattle.pc_view_run.specs.declared.input.Input.{Input}

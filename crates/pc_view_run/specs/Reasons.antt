@@ -1,21 +1,20 @@
--- What is replied where the reasons of a document are asked for: the schema, the constraints and then the input are loaded, each
--- where the one before was accepted.
-use Rattle.std.specs.Prelude.{◌≡◌, ◌⊎◌, ℕ, List, Ok, Err}
+-- What is replied where the reasons of a document are asked for, which the input holds.
+use Rattle.std.specs.Prelude.{◌≡◌, ◌⊎◌, ℕ, List, [], ◌∷◌, ◌++◌, Result, Ok, Err}
 use Rattle.pc_model.specs.declared.schema.Schema.{Schema}
 use Rattle.pc_model.specs.declared.constraint.Constraint.{Constraint}
-use Rattle.pc_base.specs.declared.outside.Loaded.{Loaded}
-use Rattle.pc_base.specs.declared.outside.Loaded.TheVariants as loads
-use Rattle.pc_base.specs.Shelves.{IsLoad, ShelfState}
-use Rattle.pc_loads.specs.declared.stop.Stop.{Stop}
-use Rattle.pc_loads.specs.Loading.{ReadsConstraints, ReadsSchema}
+use Rattle.pc_model.specs.declared.fault.FileKind.TheVariants as kinds
+use Rattle.pc_files.specs.declared.stop.Stop.{Stop}
+use Rattle.pc_files.specs.Loading.{IsRead, Reading}
+use Rattle.pc_files.specs.Outcome.{NamedFile, Found, listed_files, listing_in}
 use Rattle.pc_why.specs.declared.table.NoReasons.{NoReasons}
 use Rattle.pc_why.specs.declared.table.NoReasons.TheVariants as refusals
 use Rattle.pc_why.specs.Why.{IsTableOf, Refuses}
 use Rattle.pc_view_run.specs.declared.ended.Ended.TheVariants as ends
+use Rattle.pc_view_run.specs.declared.reasons.Explained.{Explained}
 use Rattle.pc_view_run.specs.declared.reply.Reply.{Reply}
 use Rattle.pc_view_run.specs.declared.input.Input.TheVariants as inputs
-use Rattle.pc_view_run.specs.Lines.{IsStopReply, malformed, unfit, unread}
-use Rattle.pc_view_run.specs.Reports.{input_name, limit}
+use Rattle.pc_view_run.specs.Lines.{IsStopReply, malformed, unfit}
+use Rattle.pc_view_run.specs.Reports.{input_name}
 
 -- the names of the two files
 pub record Names : Type 0 where
@@ -42,47 +41,22 @@ pub record IsRefused (schema : Schema) (constraints : List Constraint) (bytes : 
 abbrev pub IsReplyOver : Schema → List Constraint → List ℕ → Reply → Type 0
 IsReplyOver schema constraints bytes reply = IsTabled schema constraints bytes reply ⊎ IsRefused schema constraints bytes reply
 
--- the reply to what a load of the input left
-abbrev pub IsReasonReply : Schema → List Constraint → Loaded → List ℕ → Reply → Type 0
-IsReasonReply schema constraints loads.Whole bytes reply = IsReplyOver schema constraints bytes reply
-IsReasonReply schema constraints loads.Long bytes reply = reply ≡ malformed inputs.Document 0
-IsReasonReply schema constraints loads.Failed bytes reply = reply ≡ unread inputs.Document
-IsReasonReply schema constraints loads.Memory bytes reply = ⊥
+-- the files are loaded in this order; the input is the document
+abbrev pub explained_files : Names → List NamedFile
+explained_files names = listed_files names.schema names.constraints ++ (kinds.Document, input_name) ∷ []
 
-abbrev pub TellsReasons : Schema → List Constraint → ShelfState → ShelfState → Reply → Type 0
-TellsReasons schema constraints before after reply =
-    (loaded : Loaded) × (bytes : List ℕ) × IsLoad before input_name limit loaded bytes after × IsReasonReply schema constraints loaded bytes reply
+abbrev pub explained_in : Found → Explained
+explained_in found = record { listing = listing_in found; bytes = found.bytes }
 
--- the constraints are not read
-pub record StopsAtConstraints (name : List ℕ) (schema : Schema) (before after : ShelfState) (reply : Reply) : Type 0 where
-  pub stop : Stop
-  pub reads : ReadsConstraints before after name schema (Err stop)
-  pub said : IsStopReply stop reply
+abbrev pub ReadsExplained : Reading → Names → Result Explained Stop → Type 0
+ReadsExplained reading names result = IsRead reading (explained_files names) (λ found. Ok (explained_in found)) result
 
--- .. they are
-pub record ReadsThem (name : List ℕ) (schema : Schema) (before after : ShelfState) (reply : Reply) : Type 0 where
-  pub middle : ShelfState
-  pub constraints : List Constraint
-  pub reads : ReadsConstraints before middle name schema (Ok constraints)
-  pub tells : TellsReasons schema constraints middle after reply
+-- the reply to what was read
+abbrev pub IsReasonReply : Result Explained Stop → Reply → Type 0
+IsReasonReply (Ok explained) reply = IsReplyOver explained.listing.schema explained.listing.constraints explained.bytes reply
+IsReasonReply (Err stop) reply = IsStopReply stop reply
 
--- .. with a schema that is read
-abbrev pub ExplainsUnder : List ℕ → Schema → ShelfState → ShelfState → Reply → Type 0
-ExplainsUnder name schema before after reply =
-    StopsAtConstraints name schema before after reply ⊎ ReadsThem name schema before after reply
-
--- the schema is not read
-pub record StopsAtSchema (name : List ℕ) (before after : ShelfState) (reply : Reply) : Type 0 where
-  pub stop : Stop
-  pub reads : ReadsSchema before after name (Err stop)
-  pub said : IsStopReply stop reply
-
--- .. it is
-pub record ReadsIt (names : Names) (before after : ShelfState) (reply : Reply) : Type 0 where
-  pub middle : ShelfState
-  pub schema : Schema
-  pub reads : ReadsSchema before middle names.schema (Ok schema)
-  pub later : ExplainsUnder names.constraints schema middle after reply
-
-abbrev pub Explains : Names → ShelfState → ShelfState → Reply → Type 0
-Explains names before after reply = StopsAtSchema names.schema before after reply ⊎ ReadsIt names before after reply
+pub record Explains (names : Names) (reading : Reading) (reply : Reply) : Type 0 where
+  pub result : Result Explained Stop
+  pub read : ReadsExplained reading names result
+  pub said : IsReasonReply result reply

@@ -5,7 +5,7 @@ use Rattle.pc_model.specs.declared.fault.Fault.{Fault}
 use Rattle.pc_base.specs.declared.outside.Loaded.{Loaded}
 use Rattle.pc_base.specs.declared.outside.Loaded.TheVariants as loads
 use Rattle.pc_base.specs.Shelves.{IsLoad, ShelfState}
-use Rattle.pc_loads.specs.Texts.{fault_line}
+use Rattle.pc_files.specs.Texts.{fault_line}
 use Rattle.pc_faults.specs.Faults.{fault_text}
 use Rattle.pc_faults.specs.Refusals.{refusal_in}
 use Rattle.pc_view_run.specs.declared.ended.Ended.TheVariants as ends

@@ -4,8 +4,8 @@ ghost use Rattle.pc_view_run.specs.Lines.{IsStopReply, malformed, unfit, unread,
 use crate::ended::Ended;
 use crate::input::Input;
 use crate::reply::Reply;
+use pc_files::{Stop, fault_line, malformed_line};
 use pc_list::Seq;
-use pc_loads::{Stop, fault_line, malformed_line};
 use pc_num::Memory;
 use std::alloc::Global;
 

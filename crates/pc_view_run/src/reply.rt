@@ -1,4 +1,5 @@
 ghost use Rattle.std.specs.Prelude.{◌≤◌, ◌+◌, IfOk, map, string_bytes};
+ghost use Rattle.pc_files.specs.Loading.{reading_of};
 ghost use Rattle.pc_view_run.specs.Replies.{Responds};
 ghost use Rattle.pc_view_run.specs.Words.{asked, asked_of_one, asked_of_two};
 
@@ -26,7 +27,7 @@ pub(crate) fn respond<F: Shelf>(
     words: &[String],
     files: &mut F,
 ) -> Result<Reply, Memory>
-    ensures responds { IfOk result (Responds (asked (map string_bytes words.now)) (F.told files.old) (F.told files.new)) }
+    ensures responds { IfOk result (Responds (asked (map string_bytes words.now)) (reading_of F.told F.leads files.old files.new)) }
     ensures loads { (F.told files.new).calls ≤ (F.told files.old).calls + 3 }
 {
     match words {
@@ -48,7 +49,7 @@ fn respond_to_two<F: Shelf>(
     files: &mut F,
     file: &str,
 ) -> Result<Reply, Memory>
-    ensures responds { IfOk result (Responds (asked_of_two word.now file.now) (F.told files.old) (F.told files.new)) }
+    ensures responds { IfOk result (Responds (asked_of_two word.now file.now) (reading_of F.told F.leads files.old files.new)) }
     ensures loads { (F.told files.new).calls ≤ (F.told files.old).calls + 2 }
 {
     if word != "fault" {
@@ -58,7 +59,7 @@ fn respond_to_two<F: Shelf>(
 }
 
 fn respond_to_one<F: Shelf>(alloc: Global, word: &str, files: &mut F) -> Result<Reply, Memory>
-    ensures responds { IfOk result (Responds (asked_of_one word.now) (F.told files.old) (F.told files.new)) }
+    ensures responds { IfOk result (Responds (asked_of_one word.now) (reading_of F.told F.leads files.old files.new)) }
     ensures loads { (F.told files.new).calls ≤ (F.told files.old).calls + 1 }
 {
     match word {

@@ -2,11 +2,12 @@ use Rattle.std.proofs.Common.{◌≡◌, [], ◌∷◌, refl, rules}
 use Rattle.std.proofs.lemmas.Result.{err_from_is_err_and}
 use Rattle.pc_model.specs.declared.fault.FileKind.TheVariants as kinds
 use Rattle.pc_run_words.specs.Commands.{bound_names}
-use Rattle.pc_run.specs.Inputs.{found_of}
-use Rattle.pc_run.specs.Loading.{reading_of}
-use Rattle.pc_run.specs.Outcome.{case_in, observed_files, queries_of}
-use Rattle.pc_run.proofs.FaultFiles.{queries_of_words}
-use Rattle.pc_run.proofs.ReadFiles.{queries_refused, still_stops, whole_read}
+use Rattle.pc_files.specs.Reads.{found_of}
+use Rattle.pc_files.specs.Loading.{reading_of}
+use Rattle.pc_files.specs.Outcome.{observed_files, queries_of}
+use Rattle.pc_run.specs.Outcome.{case_in}
+use Rattle.pc_files.proofs.FaultFiles.{queries_of_words}
+use Rattle.pc_files.proofs.ReadFiles.{queries_refused, still_stops, whole_read}
 use Rattle.pc_run.proofs.input.read_case.Goals as goal
 
 pub returns-in_err-observed-clause-read : goal.returns-in_err-observed-clause-read

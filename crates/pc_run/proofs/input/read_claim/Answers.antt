@@ -4,10 +4,11 @@ use Rattle.pc_model.specs.declared.fault.FileKind.TheVariants as kinds
 use Rattle.pc_run_words.specs.Commands.{check_names}
 use Rattle.pc_run_words.specs.Words.{check}
 use Rattle.pc_run.specs.declared.input.Input.TheVariants.{Claims}
-use Rattle.pc_run.specs.Inputs.{found_of}
-use Rattle.pc_run.specs.Loading.{reading_of}
-use Rattle.pc_run.specs.Outcome.{claim_in, files_of, input_in, observed_files, whole}
-use Rattle.pc_run.proofs.ReadFiles.{at_next, still_stops, stops_here, whole_read, with_bytes}
+use Rattle.pc_files.specs.Reads.{found_of}
+use Rattle.pc_files.specs.Loading.{reading_of}
+use Rattle.pc_files.specs.Outcome.{observed_files, whole}
+use Rattle.pc_run.specs.Outcome.{claim_in, files_of, input_in}
+use Rattle.pc_files.proofs.ReadFiles.{at_next, still_stops, stops_here, whole_read, with_bytes}
 use Rattle.pc_run.proofs.input.read_claim.Goals as goal
 
 pub returns-in_err-observed-clause-read : goal.returns-in_err-observed-clause-read

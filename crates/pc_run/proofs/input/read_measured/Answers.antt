@@ -3,11 +3,12 @@ use Rattle.std.proofs.lemmas.Result.{err_from_is_err_and}
 use Rattle.pc_model.specs.declared.fault.FileKind.TheVariants as kinds
 use Rattle.pc_lang.specs.Quantiles.{quantile_at}
 use Rattle.pc_run_words.specs.Commands.{quantile_names}
-use Rattle.pc_run.specs.Inputs.{found_of}
-use Rattle.pc_run.specs.Loading.{reading_of}
-use Rattle.pc_run.specs.Outcome.{measured_in, observed_files}
-use Rattle.pc_run.proofs.FaultFiles.{quantile_of_word}
-use Rattle.pc_run.proofs.ReadFiles.{queries_refused, still_stops, whole_read}
+use Rattle.pc_files.specs.Reads.{found_of}
+use Rattle.pc_files.specs.Loading.{reading_of}
+use Rattle.pc_files.specs.Outcome.{observed_files}
+use Rattle.pc_run.specs.Outcome.{measured_in}
+use Rattle.pc_files.proofs.FaultFiles.{quantile_of_word}
+use Rattle.pc_files.proofs.ReadFiles.{queries_refused, still_stops, whole_read}
 use Rattle.pc_run.proofs.input.read_measured.Goals as goal
 
 pub returns-in_err-observed-clause-read : goal.returns-in_err-observed-clause-read
@@ -31,4 +32,4 @@ returns-clause-read g c =
     let names = quantile_names c.args.command.now in
     let observed = c.in_ok-observed.observed in
     whole_read (measured_in names.query) (kinds.Schema, names.schema) ((kinds.Rows, names.rows) ∷ (kinds.Constraints, names.constraints) ∷ []) (reading_of g.F.Shelf.told g.F.Shelf.leads c.args.files.now c.read_observed.new.files) (found_of observed) c.in_ok-observed.ensures.read
-    (record { schema = observed.schema; rows = observed.rows; constraints = observed.constraints; asked = c.in_ok-asked.asked }) (rw c.in_ok-asked.ensures.gives refl)
+    (record { observed = observed; asked = c.in_ok-asked.asked }) (rw c.in_ok-asked.ensures.gives refl)

@@ -5,10 +5,11 @@ use Rattle.pc_script.specs.Script.{script_of}
 use Rattle.pc_run_words.specs.Commands.{session_names}
 use Rattle.pc_run_words.specs.Words.{session}
 use Rattle.pc_run.specs.declared.input.Input.TheVariants.{Follows}
-use Rattle.pc_run.specs.Inputs.{found_of}
-use Rattle.pc_run.specs.Loading.{reading_of}
-use Rattle.pc_run.specs.Outcome.{files_of, held_in, input_in, observed_files, scripted_in}
-use Rattle.pc_run.proofs.ReadFiles.{at_next, still_stops, stops_here, whole_read, with_lines}
+use Rattle.pc_files.specs.Reads.{found_of}
+use Rattle.pc_files.specs.Loading.{reading_of}
+use Rattle.pc_files.specs.Outcome.{held_in, observed_files}
+use Rattle.pc_run.specs.Outcome.{files_of, input_in, scripted_in}
+use Rattle.pc_files.proofs.ReadFiles.{at_next, still_stops, stops_here, whole_read, with_lines}
 use Rattle.pc_run.proofs.input.read_scripted.Goals as goal
 
 pub returns-in_err-observed-clause-read : goal.returns-in_err-observed-clause-read

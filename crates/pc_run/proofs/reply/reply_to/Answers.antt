@@ -1,5 +1,5 @@
 use Rattle.pc_run_words.specs.Commands.{asked_in}
-use Rattle.pc_run.specs.Loading.{reading_of}
+use Rattle.pc_files.specs.Loading.{reading_of}
 use Rattle.pc_run.proofs.StopReplies.{input_answers, stop_answers}
 use Rattle.pc_run.proofs.reply.reply_to.Goals as goal
 

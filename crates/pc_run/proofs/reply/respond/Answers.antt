@@ -1,7 +1,7 @@
 use Rattle.std.proofs.Common.{map, string_bytes}
 use Rattle.std.proofs.lemmas.Result.{err_from_is_err_and}
 use Rattle.pc_run_words.specs.Commands.{asked_in}
-use Rattle.pc_run.specs.Loading.{reading_of}
+use Rattle.pc_files.specs.Loading.{reading_of}
 use Rattle.pc_run.proofs.StopReplies.{for_words, none_answers}
 use Rattle.pc_run.proofs.reply.respond.Goals as goal
 

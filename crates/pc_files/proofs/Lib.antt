@@ -1,0 +1,6 @@
+pub mod Asked
+pub mod Chains
+pub mod FaultFiles
+pub mod Files
+pub mod ReadFiles
+pub mod Written

@@ -1,0 +1,27 @@
+use Rattle.std.proofs.Common.{Ok, Err}
+use Rattle.std.proofs.lemmas.Result.{err_from_is_err_and}
+use Rattle.pc_model.specs.declared.fault.FileKind.TheVariants as kinds
+use Rattle.pc_lang.specs.Files.{constraints_of}
+use Rattle.pc_files.specs.Loading.{reading_of}
+use Rattle.pc_files.proofs.FaultFiles.{constraints_of_file}
+use Rattle.pc_files.proofs.Files.{not_read, read_now}
+use Rattle.pc_files.proofs.loading.load_constraints.Goals as goal
+
+pub returns-in_err-bytes-clause-loaded : goal.returns-in_err-bytes-clause-loaded
+returns-in_err-bytes-clause-loaded g c =
+    let p = err_from_is_err_and c.from_residual.result c.from_residual.ensures.1 in
+    let reading = reading_of g.F.Shelf.told g.F.Shelf.leads c.args.files.now c.load_bytes.new.files in
+    rw (p.1, p.2) (not_read (constraints_of c.args.schema.now) kinds.Constraints c.args.name.now reading c.in_err-bytes.field-0.0 c.in_err-bytes.ensures)
+
+pub returns-in_err-read_constraints-clause-loaded : goal.returns-in_err-read_constraints-clause-loaded
+returns-in_err-read_constraints-clause-loaded g c =
+    let p = err_from_is_err_and c.from_residual-in_err-read_constraints.result c.from_residual-in_err-read_constraints.ensures.1 in
+    let reading = reading_of g.F.Shelf.told g.F.Shelf.leads c.args.files.now c.load_bytes.new.files in
+    let gives = rw c.as_slice.ensures at c.in_err-read_constraints.ensures.gives in
+    rw (p.1, p.2) (read_now (constraints_of c.args.schema.now) kinds.Constraints c.args.name.now reading c.in_ok-bytes.bytes (Err c.in_err-read_constraints.field-0.0) (constraints_of_file c.args.schema.now c.in_ok-bytes.bytes) c.in_ok-bytes.ensures gives)
+
+pub returns-clause-loaded : goal.returns-clause-loaded
+returns-clause-loaded g c =
+    let reading = reading_of g.F.Shelf.told g.F.Shelf.leads c.args.files.now c.load_bytes.new.files in
+    let gives = rw c.as_slice.ensures at c.in_ok-read_constraints.ensures.gives in
+    read_now (constraints_of c.args.schema.now) kinds.Constraints c.args.name.now reading c.in_ok-bytes.bytes (Ok c.in_ok-read_constraints.field-0) (constraints_of_file c.args.schema.now c.in_ok-bytes.bytes) c.in_ok-bytes.ensures gives

@@ -1,0 +1,6 @@
+pub mod Loading
+pub mod Outcome
+pub mod Reads
+pub mod Stops
+pub mod Texts
+pub mod Writing

@@ -1,0 +1,15 @@
+//! The edge of a program: its files are loaded, each once and in their order, and read; what stops it is told by a line; and
+//! a text is written by one put.
+#![tactic(auto)]
+
+mod line;
+mod loading;
+mod reading;
+mod stop;
+mod writing;
+
+pub use line::{fault_line, malformed_line};
+pub use loading::{load_bytes, load_constraints, load_rows, load_schema, load_script};
+pub use reading::{Listing, Observed, read_listing, read_observed, read_queries};
+pub use stop::Stop;
+pub use writing::put_text;

@@ -1,0 +1,134 @@
+ghost use Rattle.std.specs.Prelude.{◌≡◌, IfOk};
+ghost use Rattle.std.specs.List.{AllPass};
+ghost use Rattle.pc_model.specs.declared.fault.FileKind.TheVariants as kinds;
+ghost use Rattle.pc_model.specs.declared.fault.Reason.TheVariants as reasons;
+ghost use Rattle.pc_model.specs.Accepted.{AreConstraints};
+ghost use Rattle.pc_model.specs.Membership.{in_domain};
+ghost use Rattle.pc_model.specs.Refusals.{fault_at};
+ghost use Rattle.pc_model.specs.WellFormed.{IsWellFormed, HaveFewNames};
+ghost use Rattle.pc_schema.specs.SchemaFile.{schema_of};
+ghost use Rattle.pc_rows.specs.RowFile.{rows_of};
+ghost use Rattle.pc_lang.specs.Files.{constraints_of};
+ghost use Rattle.pc_session.specs.Edited.{CanFollowAll};
+ghost use Rattle.pc_script.specs.Script.{script_of};
+ghost use Rattle.pc_files.specs.Loading.{reading_of, IsLoaded};
+ghost use Rattle.pc_files.specs.Outcome.{held_in, limit_of, whole};
+ghost use Rattle.pc_files.specs.Reads.{IsUsable, found_of};
+
+use crate::reading::Observed;
+use crate::stop::Stop;
+use pc_base::{Loaded, Shelf};
+use pc_lang::read_constraints;
+use pc_list::Seq;
+use pc_model::{Constraint, FILE_LIMIT, Fault, FileKind, Reason, Schema};
+use pc_rows::{Rows, read_rows};
+use pc_schema::read_schema;
+use pc_script::read_script;
+use pc_session::Line;
+use std::alloc::Global;
+
+/// The greatest number of bytes of a document.
+const DOCUMENT_LIMIT: usize = 268_435_456;
+
+/// Loads the bytes of a file.
+pub fn load_bytes<F: Shelf>(
+    alloc: Global,
+    files: &mut F,
+    file: FileKind,
+    name: &str,
+) -> Result<Seq<u8>, Stop>
+    ensures { IsLoaded (reading_of F.told F.leads files.old files.new) file name.now whole result }
+{
+    let mut bytes = Vec::new(alloc);
+    match files.load(alloc, name, &mut bytes, limit_of(file)) {
+        Loaded::Whole => Ok(Seq::from_vec(bytes)),
+        Loaded::Long => Err(Stop::Refused(too_long(file))),
+        Loaded::Failed => Err(Stop::Unread(file)),
+        Loaded::Memory => Err(Stop::Memory),
+    }
+}
+
+/// The greatest number of bytes that a file may have.
+fn limit_of(file: FileKind) -> usize
+    ensures { result ≡ limit_of file }
+{
+    match file {
+        FileKind::Document => DOCUMENT_LIMIT,
+        _ => FILE_LIMIT,
+    }
+}
+
+fn too_long(file: FileKind) -> Fault
+    ensures { result ≡ fault_at file 0 reasons.TooLong }
+{
+    Fault {
+        file,
+        place: 0,
+        reason: Reason::TooLong,
+    }
+}
+
+/// Loads and reads the schema.
+pub fn load_schema<F: Shelf>(
+    alloc: Global,
+    files: &mut F,
+    name: &str,
+) -> Result<Schema, Stop>
+    ensures loaded { IsLoaded (reading_of F.told F.leads files.old files.new) kinds.Schema name.now schema_of result }
+    ensures well_formed { IfOk result IsWellFormed }
+{
+    let bytes = load_bytes(alloc, files, FileKind::Schema, name)?;
+    Ok(read_schema(alloc, bytes.as_slice())?)
+}
+
+/// Loads and reads the observed rows.
+pub fn load_rows<F: Shelf>(
+    alloc: Global,
+    files: &mut F,
+    name: &str,
+    schema: &Schema,
+) -> Result<Rows, Stop>
+    requires { HaveFewNames schema.now.columns }
+    ensures loaded { IsLoaded (reading_of F.told F.leads files.old files.new) kinds.Rows name.now (rows_of schema.now) result }
+    ensures seen { IfOk result (AllPass (in_domain schema.now)) }
+{
+    let bytes = load_bytes(alloc, files, FileKind::Rows, name)?;
+    Ok(read_rows(alloc, schema, bytes.as_slice())?)
+}
+
+/// Loads and reads the constraints.
+pub fn load_constraints<F: Shelf>(
+    alloc: Global,
+    files: &mut F,
+    name: &str,
+    schema: &Schema,
+) -> Result<Seq<Constraint>, Stop>
+    requires well_formed { IsWellFormed schema.now }
+    ensures loaded { IsLoaded (reading_of F.told F.leads files.old files.new) kinds.Constraints name.now (constraints_of schema.now) result }
+    ensures accepted { IfOk result (AreConstraints schema.now) }
+{
+    let bytes = load_bytes(alloc, files, FileKind::Constraints, name)?;
+    Ok(read_constraints(alloc, schema, bytes.as_slice())?)
+}
+
+/// Loads and reads the lines of a script, which begin with what was observed.
+pub fn load_script<F: Shelf>(
+    alloc: Global,
+    files: &mut F,
+    name: &str,
+    observed: &Observed,
+) -> Result<Seq<Line>, Stop>
+    requires { IsUsable observed.now }
+    ensures loaded { IsLoaded (reading_of F.told F.leads files.old files.new) kinds.Script name.now (script_of observed.now.schema (held_in (found_of observed.now))) result }
+    ensures can { IfOk result (CanFollowAll observed.now.schema (held_in (found_of observed.now))) }
+{
+    let bytes = load_bytes(alloc, files, FileKind::Script, name)?;
+    let constraints = observed.constraints.as_slice();
+    Ok(read_script(
+        alloc,
+        &observed.schema,
+        &observed.rows,
+        constraints,
+        bytes.as_slice(),
+    )?)
+}

@@ -1,0 +1,85 @@
+ghost use Rattle.std.specs.Prelude.{map, All, IfOk};
+ghost use Rattle.pc_model.specs.Accepted.{IsQuery};
+ghost use Rattle.pc_model.specs.Refusals.{Gives};
+ghost use Rattle.pc_model.specs.WellFormed.{IsWellFormed};
+ghost use Rattle.pc_files.specs.Loading.{reading_of};
+ghost use Rattle.pc_files.specs.Outcome.{queries_of};
+ghost use Rattle.pc_files.specs.Reads.{IsShowable, IsUsable, ReadsListing, ReadsObserved};
+
+use crate::loading::{load_constraints, load_rows, load_schema};
+use crate::stop::Stop;
+use pc_base::Shelf;
+use pc_lang::read_query;
+use pc_list::Seq;
+use pc_model::{Constraint, Query, Refusal, Schema};
+use pc_rows::Rows;
+use std::alloc::Global;
+
+/// The schema, the observed rows and the constraints that answers are over.
+#[derive(Debug, Drop)]
+pub struct Observed {
+    pub schema: Schema,
+    pub rows: Rows,
+    pub constraints: Seq<Constraint>,
+}
+
+/// Constraints, and the schema that they are of.
+#[derive(Debug, Drop)]
+pub struct Listing {
+    pub schema: Schema,
+    pub constraints: Seq<Constraint>,
+}
+
+/// Loads and reads a schema, observed rows and constraints, each once and in this order.
+#[tactic(auto, using(pc_model::proofs::FewNames::have_few_names))]
+pub fn read_observed<F: Shelf>(
+    alloc: Global,
+    files: &mut F,
+    schema: &str,
+    rows: &str,
+    constraints: &str,
+) -> Result<Observed, Stop>
+    ensures read { ReadsObserved (reading_of F.told F.leads files.old files.new) schema.now rows.now constraints.now result }
+    ensures sound { IfOk result IsUsable }
+{
+    let schema = load_schema(alloc, files, schema)?;
+    let rows = load_rows(alloc, files, rows, &schema)?;
+    let constraints = load_constraints(alloc, files, constraints, &schema)?;
+    Ok(Observed {
+        schema,
+        rows,
+        constraints,
+    })
+}
+
+/// Loads and reads a schema and constraints, each once and in this order.
+pub fn read_listing<F: Shelf>(
+    alloc: Global,
+    files: &mut F,
+    schema: &str,
+    constraints: &str,
+) -> Result<Listing, Stop>
+    ensures read { ReadsListing (reading_of F.told F.leads files.old files.new) schema.now constraints.now result }
+    ensures sound { IfOk result IsShowable }
+{
+    let schema = load_schema(alloc, files, schema)?;
+    let constraints = load_constraints(alloc, files, constraints, &schema)?;
+    Ok(Listing {
+        schema,
+        constraints,
+    })
+}
+
+/// Reads the queries in their order. The place of a fault is that of the query among them.
+pub fn read_queries(alloc: Global, schema: &Schema, texts: &[&str]) -> Result<Seq<Query>, Refusal>
+    requires well_formed { IsWellFormed schema.now }
+    ensures gives { Gives result (queries_of schema.now (map (λ text. text.now) texts.now)) }
+    ensures asked { IfOk result (All (IsQuery schema.now)) }
+{
+    let mut queries = Seq::new(alloc);
+    for (place, text) in texts.iter().enumerate() {
+        let query = read_query(alloc, schema, text, place as u64 + 1)?;
+        queries.push(query).map_err(|_| Refusal::Memory)?;
+    }
+    Ok(queries)
+}
