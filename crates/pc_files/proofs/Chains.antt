@@ -1,5 +1,5 @@
 -- Which loads there were, one after the other.
-use Rattle.std.proofs.Common.{◌≡◌, ℕ, ⊎_elim, inl, inr, List, [], ◌∷◌, ◌++◌, length, refl, sym, subst}
+use Rattle.std.proofs.Common.{ℕ, ⊎_elim, inl, inr, List, [], ◌∷◌, ◌++◌, length, refl, sym, subst}
 use Rattle.std.proofs.Math.Seq.{take-length}
 use Rattle.pc_base.specs.Loads.{Load, Chain}
 use Rattle.pc_base.specs.declared.outside.Loaded.{Loaded}

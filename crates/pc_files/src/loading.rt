@@ -69,11 +69,7 @@ fn too_long(file: FileKind) -> Fault
 }
 
 /// Loads and reads the schema.
-pub fn load_schema<F: Shelf>(
-    alloc: Global,
-    files: &mut F,
-    name: &str,
-) -> Result<Schema, Stop>
+pub fn load_schema<F: Shelf>(alloc: Global, files: &mut F, name: &str) -> Result<Schema, Stop>
     ensures loaded { IsLoaded (reading_of F.told F.leads files.old files.new) kinds.Schema name.now schema_of result }
     ensures well_formed { IfOk result IsWellFormed }
 {

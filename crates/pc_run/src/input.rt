@@ -186,4 +186,3 @@ fn read_scripted<F: Shelf>(
         scripted: Scripted { observed, lines },
     })
 }
-

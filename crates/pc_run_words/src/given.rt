@@ -33,11 +33,7 @@ pub(crate) fn plain_in<'b, 'a>(found: &'b ArgMatches<'a>) -> &'b [&'a str]
     found.get_strs("words").unwrap_or_default()
 }
 
-fn parser_for<'a>(
-    alloc: Global,
-    name: &'a str,
-    has_nodes: bool,
-) -> Result<Command<'a>, AllocError>
+fn parser_for<'a>(alloc: Global, name: &'a str, has_nodes: bool) -> Result<Command<'a>, AllocError>
     ensures { IfOk result (λ command. app_of command ≡ parser_app name.now has_nodes) }
 {
     if has_nodes {

@@ -58,7 +58,12 @@ fn reply_over(alloc: Global, listing: &Listing, bytes: &[u8]) -> Result<Reply, M
     requires { IsShowable listing.now }
     ensures { IfOk result (IsReplyOver listing.now.schema listing.now.constraints bytes.now) }
 {
-    match why(alloc, &listing.schema, listing.constraints.as_slice(), bytes) {
+    match why(
+        alloc,
+        &listing.schema,
+        listing.constraints.as_slice(),
+        bytes,
+    ) {
         Ok(text) => Ok(Reply {
             status: Ended::Settled,
             text: Seq::from_vec(text),
