@@ -1,5 +1,5 @@
 -- What a call of `pc_draft` comes to: its words, what the loads of its files gave, and what was put.
-use Rattle.std.specs.Prelude.{◌≡◌, ◌⊎◌, ℕ, List, [], ◌∷◌, codes, bytes_eq, cond, Option, Some, None, Result, Ok, Err}
+use Rattle.std.specs.Prelude.{◌≡◌, ◌⊎◌, ℕ, List, [], ◌∷◌, codes, bytes_eq, cond, option_map, Option, Some, None, Result, Ok, Err}
 use Rattle.pc_model.specs.declared.schema.Schema.{Schema}
 use Rattle.pc_model.specs.declared.fault.FileKind.{FileKind}
 use Rattle.pc_model.specs.declared.fault.FileKind.TheVariants as kinds
@@ -20,6 +20,7 @@ use Rattle.pc_files.specs.Loading.{IsLoaded, Reading}
 use Rattle.pc_files.specs.Reads.{ReadsListing}
 use Rattle.pc_files.specs.Texts.{fault_line, malformed_line}
 use Rattle.pc_files.specs.Writing.{IsCutOff, IsTold, IsUntouched, IsWritten, Writing}
+use Rattle.pc_draft_run.specs.declared.StatementNames.{StatementNames}
 use Rattle.pc_draft_run.specs.Texts.{usage_line}
 
 -- the names of the two files, and that of the table
@@ -27,6 +28,10 @@ pub record Names : Type 0 where
   pub schema : List ℕ
   pub constraints : List ℕ
   pub table : List ℕ
+
+-- those that the code holds
+abbrev pub names_in : StatementNames → Names
+names_in names = record { schema = names.schema.now; constraints = names.constraints.now; table = names.table.now }
 
 -- the name of a row file, and the names of the columns of which a schema is drafted, none for all
 pub record Drafting : Type 0 where
@@ -38,9 +43,12 @@ pub data Asked : Type 0 where
   statement : Names → Asked
   drafting : Drafting → Asked
 
+abbrev pub names_of : List (List ℕ) → Option Names
+names_of (schema ∷ constraints ∷ table ∷ []) = Some (record { schema = schema; constraints = constraints; table = table })
+names_of words = None
+
 abbrev pub asked_statement : List (List ℕ) → Option Asked
-asked_statement (schema ∷ constraints ∷ table ∷ []) = Some (statement (record { schema = schema; constraints = constraints; table = table }))
-asked_statement words = None
+asked_statement words = option_map statement (names_of words)
 
 abbrev pub asked_drafting : List (List ℕ) → Option Asked
 asked_drafting (file ∷ columns) = Some (drafting (record { file = file; columns = columns }))

@@ -2,14 +2,14 @@
 //! schema for a row file.
 #![tactic(auto)]
 
-ghost use Rattle.std.specs.Prelude.{◌≡◌, IfOk, map, string_bytes};
+ghost use Rattle.std.specs.Prelude.{◌≡◌, IfOk, map, option_map, string_bytes};
 ghost use Rattle.pc_model.specs.WellFormed.{IsWellFormed};
 ghost use Rattle.pc_sql.specs.Statement.{sql_text};
 ghost use Rattle.pc_base.specs.declared.status.Status.TheVariants as ended;
 ghost use Rattle.pc_files.specs.Loading.{reading_of};
 ghost use Rattle.pc_files.specs.Writing.{writing_of};
 ghost use Rattle.pc_draft_run.specs.Texts.{usage_line};
-ghost use Rattle.pc_draft_run.specs.Draft.{Means, Replies, Responds, after_failed_put, asked, asked_drafting, asked_statement, call_of};
+ghost use Rattle.pc_draft_run.specs.Draft.{Means, Replies, Responds, after_failed_put, asked, asked_drafting, asked_statement, call_of, names_in, names_of};
 
 mod line;
 mod loading;
@@ -29,6 +29,14 @@ use std::alloc::Global;
 pub(crate) struct Reply {
     pub status: Status,
     pub text: Seq<u8>,
+}
+
+/// The names of the two files of a statement, and that of its table.
+#[derive(Clone, Copy, Debug)]
+pub(crate) struct StatementNames<'a> {
+    pub schema: &'a str,
+    pub constraints: &'a str,
+    pub table: &'a str,
 }
 
 /// Runs the command that the words are, `sql SCHEMA CONSTRAINTS TABLE` or `schema ROWS [COLUMN..]`: loads its files, each at
@@ -86,12 +94,22 @@ fn respond_statement<F: Shelf>(
 ) -> Result<Reply, Memory>
     ensures { IfOk result (λ reply. Responds (reading_of F.told F.leads files.old files.new) (asked_statement (map string_bytes words.now)) reply.status reply.text) }
 {
+    match names_of(words) {
+        Some(names) => reply_to(alloc, files, &names),
+        None => usage(alloc),
+    }
+}
+
+fn names_of<'a>(words: &'a [String]) -> Option<StatementNames<'a>>
+    ensures { option_map names_in result ≡ names_of (map string_bytes words.now) }
+{
     match words {
-        [schema, constraints, table] => {
-            let schema = schema.as_str();
-            reply_to(alloc, files, schema, constraints.as_str(), table.as_str())
-        }
-        _ => usage(alloc),
+        [schema, constraints, table] => Some(StatementNames {
+            schema: schema.as_str(),
+            constraints: constraints.as_str(),
+            table: table.as_str(),
+        }),
+        _ => None,
     }
 }
 
@@ -118,19 +136,13 @@ fn usage(alloc: Global) -> Result<Reply, Memory>
 }
 
 /// The reply to a command of a statement.
-fn reply_to<F: Shelf>(
-    alloc: Global,
-    files: &mut F,
-    schema: &str,
-    constraints: &str,
-    table: &str,
-) -> Result<Reply, Memory>
-    ensures { IfOk result (λ reply. Replies (reading_of F.told F.leads files.old files.new) (record { schema = schema.now; constraints = constraints.now; table = table.now }) reply.status reply.text) }
+fn reply_to<F: Shelf>(alloc: Global, files: &mut F, names: &StatementNames) -> Result<Reply, Memory>
+    ensures { IfOk result (λ reply. Replies (reading_of F.told F.leads files.old files.new) (names_in names.now) reply.status reply.text) }
 {
-    match read_listing(alloc, files, schema, constraints) {
+    match read_listing(alloc, files, names.schema, names.constraints) {
         Ok(listing) => Ok(Reply {
             status: Status::Done,
-            text: statement(alloc, &listing, table)?,
+            text: statement(alloc, &listing, names.table)?,
         }),
         Err(Stop::Refused(fault)) => Ok(Reply {
             status: Status::Malformed,

@@ -1,5 +1,5 @@
 -- What the status of a run means, from the reply and what the put of it left.
-use Rattle.std.proofs.Common.{◌≡◌, ℕ, ⊎_elim, inl, inr, ◌++◌, List, take, Option, Some, None, Result, Ok, Err, IfOk, IfSome, ◌⊎◌, sym, subst, refl, ap}
+use Rattle.std.proofs.Common.{◌≡◌, ℕ, ⊎_elim, inl, inr, List, Some, Result, Ok, Err, IfOk, ◌⊎◌, sym, subst, refl}
 use Rattle.pc_base.specs.declared.status.Status.{Status}
 use Rattle.pc_base.specs.declared.status.Status.TheVariants as ended
 use Rattle.pc_run_words.specs.Words.{Asked, command_of}

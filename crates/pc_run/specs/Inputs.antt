@@ -1,5 +1,5 @@
 -- What was read of the files of a command.
-use Rattle.std.specs.Prelude.{List, ℕ, All, Result}
+use Rattle.std.specs.Prelude.{All, Result}
 use Rattle.std.specs.List.{AllPass}
 use Rattle.pc_model.specs.Membership.{in_domain}
 use Rattle.pc_model.specs.Accepted.{AreConstraints, IsQuery}

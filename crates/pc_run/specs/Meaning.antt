@@ -1,5 +1,5 @@
 -- What the status of a run means for the files, the words and what was written.
-use Rattle.std.specs.Prelude.{◌≡◌, ℕ, ◌⊎◌, ◌++◌, take, List, [], Some, None, Ok, Err, IfSome, IsSomeAnd}
+use Rattle.std.specs.Prelude.{◌≡◌, ℕ, ◌⊎◌, List, [], Some, None, Ok, Err, IsSomeAnd}
 use Rattle.pc_model.specs.declared.fault.FileKind.{FileKind}
 use Rattle.pc_model.specs.declared.fault.Fault.{Fault}
 use Rattle.pc_base.specs.declared.status.Status.{Status}

@@ -1,5 +1,5 @@
 -- What the files of a command come to, or what stands in the way.
-use Rattle.std.specs.Prelude.{◌≡◌, ℕ, List, [], ◌∷◌, ◌++◌, length, Option, Some, None, Result, Ok, Err, IsSomeAnd, IsOk}
+use Rattle.std.specs.Prelude.{ℕ, List, [], ◌∷◌, ◌++◌, length, Option, Some, None, Result, Ok, IsSomeAnd, IsOk}
 use Rattle.pc_model.specs.declared.fault.FileKind.TheVariants as kinds
 use Rattle.pc_model.specs.Refusals.{◌>>=◌}
 use Rattle.pc_base.specs.Files.{Files}

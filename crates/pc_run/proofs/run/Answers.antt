@@ -1,6 +1,6 @@
-use Rattle.std.proofs.Common.{map, string_bytes, subst}
+use Rattle.std.proofs.Common.{map, string_bytes}
 use Rattle.pc_files.specs.Loading.{reading_of}
-use Rattle.pc_files.specs.Writing.{IsCutOff, IsUntouched, IsWritten, writing_of}
+use Rattle.pc_files.specs.Writing.{IsCutOff, IsWritten, writing_of}
 use Rattle.pc_run.specs.Meaning.{call_of}
 use Rattle.pc_run.proofs.Promises.{keeps_whole, keeps_cut_off}
 use Rattle.pc_run.proofs.run.Goals as goal
