@@ -13,7 +13,7 @@ use Rattle.pc_proof.specs.declared.answer.Lack.{Lack}
 use Rattle.pc_proof.specs.declared.answer.Lack.TheVariants as lacks
 use Rattle.pc_proof.specs.Unbroken.{plain_answer, plain_ends, plain_lack, plain_relation}
 use Rattle.pc_report.specs.Report.{answer_text, end_text, ends_text, lack_text, relation_text, titled_text, values_text, without_text}
-use Rattle.pc_report.specs.Shown.{AreShownEnds, IsShownLack, IsShownRelation}
+use Rattle.pc_report.specs.Shown.{AreShownEnds, IsShownAnswer, IsShownLack}
 use Rattle.pc_report.proofs.EndsBack.{ends_back}
 use Rattle.pc_report.proofs.PartsBack.{is_n, lack_back, relation_back}
 use Rattle.pc_report.proofs.RunsBack.{is_r}
@@ -105,14 +105,6 @@ rest_back false false schema query lack other a b r s same formed are others sil
     values_back schema query lack other a b r s formed are others absent gone stop end e
 
 -- ---- answers
-
--- what is shown of an answer
-pub record IsShownAnswer (schema : Schema) (query : Query) (answer : Answer) : Type 0 where
-  pub relation : IsShownRelation schema answer.relation
-  pub lack : IsShownLack schema answer.lack
-  pub ends : AreShownEnds schema query.agg answer.ends
-  pub silent : is_silent (plain_lack answer.lack) ≡ (always_has_value query.agg || is_impossible (plain_relation answer.relation))
-  pub absent : is_none answer.ends ≡ (is_impossible (plain_relation answer.relation) || is_always (plain_lack answer.lack))
 
 answer_opens : (schema : Schema) (query : Query) (a : Answer) (r : List ℕ) → answer_text schema query a ++ r ≡ relation_text schema a.relation ++ (values_unless (is_impossible (plain_relation a.relation)) schema query a.lack a.ends ++ r)
 unfolding answer_text

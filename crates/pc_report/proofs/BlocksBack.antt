@@ -25,14 +25,20 @@ use Rattle.pc_proof.specs.declared.document.Document.{Document}
 use Rattle.pc_report.specs.Report.{answer_text, block_text, blocks_text, group_line, group_text, kind_name, query_line, report_text}
 use Rattle.pc_proof.specs.Form.{IsGroupName, IsNameOf}
 use Rattle.pc_report.specs.Shown.{IsShown, SaysAlike}
-use Rattle.pc_report.proofs.AnswersBack.{EndsAnswer, IsShownAnswer, answer_back}
+use Rattle.pc_report.proofs.AnswersBack.{EndsAnswer, answer_back}
 use Rattle.pc_report.proofs.NamesBack.{name_back, same_place}
 use Rattle.pc_report.proofs.Stops.{fronts_equal, same_tail, starts, unlike_starts}
 
 -- ---- the query
 
-abbrev is_printed : ℕ → Bool
+abbrev pub is_printed : ℕ → Bool
 is_printed byte = nat_le 32 byte
+
+-- the line of a question, and what follows it
+pub line_back : (text other r s : List ℕ) → list_all is_printed text ≡ true → list_all is_printed other ≡ true → codes "query " ++ (text ++ 10 ∷ r) ≡ codes "query " ++ (other ++ 10 ∷ s) → (text ≡ other) × (r ≡ s)
+line_back text other r s printed its e =
+    let texts = fronts_equal is_printed text other (10 ∷ r) (10 ∷ s) printed its refl refl (append_cancel_left (codes "query ") _ _ e) in
+    (texts.0, same_tail 10 10 r s texts.1)
 
 query_printed : (schema : Schema) (query : Query) → IsWellFormed schema → IsQuery schema query → list_all is_printed (query_text schema query) ≡ true
 unfolding query_text
@@ -51,9 +57,8 @@ query_opens schema query r =
 
 query_back : (schema : Schema) (query other : Query) (r s : List ℕ) → IsWellFormed schema → IsQuery schema query → IsQuery schema other → query_line schema query ++ r ≡ query_line schema other ++ s → (query ≡ other) × (r ≡ s)
 query_back schema query other r s formed asked its e =
-    let opened = append_cancel_left (codes "query ") _ _ (sym (query_opens schema query r) ∙ e ∙ query_opens schema other s) in
-    let texts = fronts_equal is_printed (query_text schema query) (query_text schema other) (10 ∷ r) (10 ∷ s) (query_printed schema query formed asked) (query_printed schema other formed its) refl refl opened in
-    (query_same schema query other formed asked its texts.0, same_tail 10 10 r s texts.1)
+    let texts = line_back (query_text schema query) (query_text schema other) r s (query_printed schema query formed asked) (query_printed schema other formed its) (sym (query_opens schema query r) ∙ e ∙ query_opens schema other s) in
+    (query_same schema query other formed asked its texts.0, texts.1)
 
 -- ---- the name
 
@@ -95,9 +100,6 @@ group_back schema (Some group) (Some p) (Some q) r s formed named called is othe
 
 -- ---- blocks
 
-shown_answer : (schema : Schema) (block : Block) → IsShown schema block → IsShownAnswer schema block.query block.answer
-shown_answer schema block is = record { relation = is.relation; lack = is.lack; ends = is.ends; silent = is.silent; absent = is.absent }
-
 three_parts : (a b c r : List ℕ) → (a ++ (b ++ (c ++ []))) ++ r ≡ a ++ (b ++ (c ++ r))
 three_parts a b c r = rw (append-nil c, append_assoc a (b ++ c) r) (ap (λ (rest : List ℕ). a ++ rest) (append_assoc b c r))
 
@@ -112,9 +114,9 @@ block_back schema a b r s formed is other stop end e =
   where
     after : a.query ≡ b.query → group_line schema a.query.group a.name ++ (answer_text schema a.query a.answer ++ r) ≡ group_line schema b.query.group b.name ++ (answer_text schema b.query b.answer ++ s) → SaysAlike a b × (r ≡ s)
     after same rest =
-        let its = rw (← same) at (shown_answer schema b other) in
+        let its = rw (← same) at other.answer in
         let name = group_back schema a.query.group a.name b.name _ _ formed is.named (rw (← same) at other.named) is.name (rw (← same) at other.name) (rw (← same) at rest) in
-        let answer = answer_back schema a.query a.answer b.answer r s formed (shown_answer schema a is) its stop end name.1 in
+        let answer = answer_back schema a.query a.answer b.answer r s formed is.answer its stop end name.1 in
         (record { query = same; name = name.0; answer = answer.0 }, answer.1)
 
 blocks_open : (schema : Schema) (block : Block) (blocks : List Block) → blocks_text schema (block ∷ blocks) ≡ block_text schema block ++ blocks_text schema blocks

@@ -7,6 +7,7 @@ pub mod NamesBack
 pub mod NumbersBack
 pub mod PartsBack
 pub mod RunsBack
+pub mod RunsShown
 pub mod Scales
 pub mod Stops
 pub mod Units

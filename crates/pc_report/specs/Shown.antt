@@ -11,6 +11,7 @@ use Rattle.pc_model.specs.declared.schema.Schema.{Schema}
 use Rattle.pc_model.specs.declared.row.Run.{Run}
 use Rattle.pc_model.specs.declared.query.Agg.{Agg}
 use Rattle.pc_model.specs.declared.query.Agg.TheVariants as aggs
+use Rattle.pc_model.specs.declared.query.Query.{Query}
 use Rattle.pc_model.specs.Accepted.{IsQuery}
 use Rattle.pc_model.specs.Places.{is_below}
 use Rattle.pc_model.specs.Right.{always_has_value, is_always, is_impossible, is_silent}
@@ -21,6 +22,7 @@ use Rattle.pc_proof.specs.declared.answer.Lack.TheVariants as lacks
 use Rattle.pc_proof.specs.declared.answer.Mark.{Mark}
 use Rattle.pc_proof.specs.declared.answer.Mark.TheVariants as marks
 use Rattle.pc_proof.specs.declared.answer.End.{End}
+use Rattle.pc_proof.specs.declared.answer.Answer.{Answer}
 use Rattle.pc_proof.specs.declared.document.Block.{Block}
 use Rattle.pc_proof.specs.Form.{IsGroupName}
 use Rattle.pc_proof.specs.Unbroken.{plain_answer, plain_lack, plain_relation}
@@ -81,18 +83,22 @@ pub record IsShownEnd (schema : Schema) (agg : Agg) (end : End) : Type 0 where
 abbrev pub AreShownEnds : Schema → Agg → Option (End × End) → Type 0
 AreShownEnds schema agg ends = IfSome ends (λ (ends : End × End). IsShownEnd schema agg ends.0 × IsShownEnd schema agg ends.1)
 
--- ---- blocks
+-- ---- answers and blocks
+
+-- an answer of which the lines are read back
+pub record IsShownAnswer (schema : Schema) (query : Query) (answer : Answer) : Type 0 where
+  pub relation : IsShownRelation schema answer.relation
+  pub lack : IsShownLack schema answer.lack
+  pub ends : AreShownEnds schema query.agg answer.ends
+  pub silent : is_silent (plain_lack answer.lack) ≡ (always_has_value query.agg || is_impossible (plain_relation answer.relation))
+  pub absent : is_none answer.ends ≡ (is_impossible (plain_relation answer.relation) || is_always (plain_lack answer.lack))
 
 -- a block of which the report is read back
 pub record IsShown (schema : Schema) (block : Block) : Type 0 where
   pub query : IsQuery schema block.query
   pub named : is_none block.name ≡ is_none block.query.group
   pub name : IsGroupName schema block.query.group block.name
-  pub relation : IsShownRelation schema block.answer.relation
-  pub lack : IsShownLack schema block.answer.lack
-  pub ends : AreShownEnds schema block.query.agg block.answer.ends
-  pub silent : is_silent (plain_lack block.answer.lack) ≡ (always_has_value block.query.agg || is_impossible (plain_relation block.answer.relation))
-  pub absent : is_none block.answer.ends ≡ (is_impossible (plain_relation block.answer.relation) || is_always (plain_lack block.answer.lack))
+  pub answer : IsShownAnswer schema block.query block.answer
 
 -- two blocks that say the same, whatever shows it
 pub record SaysAlike (a b : Block) : Type 0 where

@@ -9,7 +9,7 @@ mod summary;
 mod value;
 
 pub use answer::{put_line, put_mark, put_titled};
-pub use laws::reports_tell_their_blocks;
+pub use laws::{possible_runs_are_shown, reports_tell_their_blocks};
 pub use report::{kind_name, put_report};
 pub use runs::{put_fields, put_runs};
 pub use summary::put_summary;

@@ -11,6 +11,7 @@ use Rattle.pc_model.specs.declared.schema.Schema.{Schema}
 use Rattle.pc_model.specs.declared.row.Run.{Run}
 use Rattle.pc_model.specs.declared.query.Agg.{Agg}
 use Rattle.pc_model.specs.declared.query.Agg.TheVariants as aggs
+use Rattle.pc_model.specs.declared.query.Query.{Query}
 use Rattle.pc_model.specs.WellFormed.{IsWellFormed}
 use Rattle.pc_proof.specs.declared.answer.Relation.{Relation}
 use Rattle.pc_proof.specs.declared.answer.Relation.TheVariants as relations
@@ -19,11 +20,12 @@ use Rattle.pc_proof.specs.declared.answer.Lack.TheVariants as lacks
 use Rattle.pc_proof.specs.declared.answer.Mark.{Mark}
 use Rattle.pc_proof.specs.declared.answer.Mark.TheVariants as marks
 use Rattle.pc_proof.specs.declared.answer.End.{End}
+use Rattle.pc_proof.specs.declared.answer.Answer.{Answer}
 use Rattle.pc_proof.specs.declared.document.Block.{Block}
 use Rattle.pc_proof.specs.declared.document.Document.{Document}
-use Rattle.pc_proof.specs.Form.{IsFormedCell, IsFormedCellOf, IsFormedRun, AreFormedRuns, IsFormedRelation, IsFormedLack, IsFormedValue, IsFormedWhole, IsFormedMark, IsFormedEnd, AreFormedEnds, IsFormedBlock, IsInForm}
+use Rattle.pc_proof.specs.Form.{IsFormedCell, IsFormedCellOf, IsFormedRun, AreFormedRuns, IsFormedRelation, IsFormedLack, IsFormedValue, IsFormedWhole, IsFormedMark, IsFormedEnd, AreFormedEnds, IsFormedAnswer, IsFormedBlock, IsInForm}
 use Rattle.pc_report.specs.Report.{report_text}
-use Rattle.pc_report.specs.Shown.{IsCell, IsCellOf, IsShownRun, AreShownRuns, IsShownRelation, IsShownLack, IsShownMark, IsWhole, IsShownValue, IsShownEnd, AreShownEnds, IsShown, SaysAlike}
+use Rattle.pc_report.specs.Shown.{IsCell, IsCellOf, IsShownRun, AreShownRuns, IsShownRelation, IsShownLack, IsShownMark, IsWhole, IsShownValue, IsShownEnd, AreShownEnds, IsShownAnswer, IsShown, SaysAlike}
 use Rattle.pc_report.proofs.BlocksBack.{reports_tell_their_blocks}
 use Rattle.pc_rows.specs.declared.case.Case.{Case}
 use Rattle.pc_run.specs.Replies.{SaysReport}
@@ -80,16 +82,21 @@ shown_ends : (schema : Schema) (agg : Agg) (ends : Option (End × End)) → AreF
 shown_ends schema agg None formed = tt
 shown_ends schema agg (Some ends) formed = (shown_end schema agg ends.0 formed.0, shown_end schema agg ends.1 formed.1)
 
+shown_answer : (schema : Schema) (query : Query) (answer : Answer) → IsFormedAnswer schema query.agg answer → IsShownAnswer schema query answer
+shown_answer schema query answer formed = record {
+  relation = shown_relation schema query.agg answer.relation formed.relation;
+  lack = shown_lack schema query.agg answer.lack formed.lack;
+  ends = shown_ends schema query.agg answer.ends formed.ends;
+  silent = formed.silent;
+  absent = formed.absent;
+}
+
 shown_block : (schema : Schema) (block : Block) → IsFormedBlock schema block → IsShown schema block
 shown_block schema block formed = record {
   query = formed.query;
   named = formed.named;
   name = formed.name;
-  relation = shown_relation schema block.query.agg block.answer.relation formed.answer.relation;
-  lack = shown_lack schema block.query.agg block.answer.lack formed.answer.lack;
-  ends = shown_ends schema block.query.agg block.answer.ends formed.answer.ends;
-  silent = formed.answer.silent;
-  absent = formed.answer.absent;
+  answer = shown_answer schema block.query block.answer formed.answer;
 }
 
 all_shown : (schema : Schema) (doc : Document) → IsInForm schema doc → All (IsShown schema) doc.blocks
