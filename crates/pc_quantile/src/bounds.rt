@@ -63,7 +63,7 @@ pub fn bound_quantile(
 }
 
 /// The query of the least number of the same rows.
-fn least_of(asked: &Quantile) -> Result<Query, Memory>
+pub(crate) fn least_of(asked: &Quantile) -> Result<Query, Memory>
     ensures { IfOk result (λ query. query ≡ least_of asked.now) }
 {
     Ok(Query {

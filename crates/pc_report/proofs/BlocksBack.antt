@@ -22,6 +22,7 @@ use Rattle.pc_lang.proofs.CanonicalSpelled.{question_spelled}
 use Rattle.pc_lang.proofs.ReadBack.{query_reads_back}
 use Rattle.pc_proof.specs.declared.document.Block.{Block}
 use Rattle.pc_proof.specs.declared.document.Document.{Document}
+use Rattle.pc_proof.specs.Unbroken.{plain_answer}
 use Rattle.pc_report.specs.Report.{answer_text, block_text, blocks_text, group_line, group_text, kind_name, query_line, report_text}
 use Rattle.pc_proof.specs.Form.{IsGroupName, IsNameOf}
 use Rattle.pc_report.specs.Shown.{IsShown, SaysAlike}
@@ -103,20 +104,20 @@ group_back schema (Some group) (Some p) (Some q) r s formed named called is othe
 three_parts : (a b c r : List ℕ) → (a ++ (b ++ (c ++ []))) ++ r ≡ a ++ (b ++ (c ++ r))
 three_parts a b c r = rw (append-nil c, append_assoc a (b ++ c) r) (ap (λ (rest : List ℕ). a ++ rest) (append_assoc b c r))
 
-block_opens : (schema : Schema) (block : Block) (r : List ℕ) → block_text schema block ++ r ≡ query_line schema block.query ++ (group_line schema block.query.group block.name ++ (answer_text schema block.query block.answer ++ r))
+block_opens : (schema : Schema) (block : Block) (r : List ℕ) → block_text schema block ++ r ≡ query_line schema block.query ++ (group_line schema block.query.group block.name ++ (answer_text schema block.query (plain_answer block.answer) ++ r))
 unfolding block_text
-block_opens schema block r = three_parts (query_line schema block.query) (group_line schema block.query.group block.name) (answer_text schema block.query block.answer) r
+block_opens schema block r = three_parts (query_line schema block.query) (group_line schema block.query.group block.name) (answer_text schema block.query (plain_answer block.answer)) r
 
 block_back : (schema : Schema) (a b : Block) (r s : List ℕ) → IsWellFormed schema → IsShown schema a → IsShown schema b → EndsAnswer r → EndsAnswer s → block_text schema a ++ r ≡ block_text schema b ++ s → SaysAlike a b × (r ≡ s)
 block_back schema a b r s formed is other stop end e =
     let query = query_back schema a.query b.query _ _ formed is.query other.query (sym (block_opens schema a r) ∙ e ∙ block_opens schema b s) in
     after query.0 query.1
   where
-    after : a.query ≡ b.query → group_line schema a.query.group a.name ++ (answer_text schema a.query a.answer ++ r) ≡ group_line schema b.query.group b.name ++ (answer_text schema b.query b.answer ++ s) → SaysAlike a b × (r ≡ s)
+    after : a.query ≡ b.query → group_line schema a.query.group a.name ++ (answer_text schema a.query (plain_answer a.answer) ++ r) ≡ group_line schema b.query.group b.name ++ (answer_text schema b.query (plain_answer b.answer) ++ s) → SaysAlike a b × (r ≡ s)
     after same rest =
         let its = rw (← same) at other.answer in
         let name = group_back schema a.query.group a.name b.name _ _ formed is.named (rw (← same) at other.named) is.name (rw (← same) at other.name) (rw (← same) at rest) in
-        let answer = answer_back schema a.query a.answer b.answer r s formed is.answer its stop end name.1 in
+        let answer = answer_back schema a.query (plain_answer a.answer) (plain_answer b.answer) r s formed is.answer its stop end name.1 in
         (record { query = same; name = name.0; answer = answer.0 }, answer.1)
 
 blocks_open : (schema : Schema) (block : Block) (blocks : List Block) → blocks_text schema (block ∷ blocks) ≡ block_text schema block ++ blocks_text schema blocks

@@ -11,22 +11,14 @@ use Rattle.pc_model.specs.declared.row.Run.{Run}
 use Rattle.pc_model.specs.declared.query.Agg.{Agg}
 use Rattle.pc_model.specs.declared.query.Agg.TheVariants as aggs
 use Rattle.pc_model.specs.declared.query.Query.{Query}
-use Rattle.pc_model.specs.Right.{is_always, is_impossible}
+use Rattle.pc_model.specs.Right.{Answer, End, Lack, Mark, Relation, always, exact, impossible, is_always, is_impossible, never, outer, possible, silent, sometimes, undecided, unsettled}
 use Rattle.pc_lang_tokens.specs.Spelling.{name_text}
 use Rattle.pc_lang.specs.Canonical.{query_text}
-use Rattle.pc_proof.specs.declared.answer.Relation.{Relation}
-use Rattle.pc_proof.specs.declared.answer.Relation.TheVariants as relations
-use Rattle.pc_proof.specs.declared.answer.Lack.{Lack}
-use Rattle.pc_proof.specs.declared.answer.Lack.TheVariants as lacks
-use Rattle.pc_proof.specs.declared.answer.Mark.{Mark}
-use Rattle.pc_proof.specs.declared.answer.Mark.TheVariants as marks
-use Rattle.pc_proof.specs.declared.answer.End.{End}
-use Rattle.pc_proof.specs.declared.answer.Answer.{Answer}
 use Rattle.pc_proof.specs.declared.document.Block.{Block}
 use Rattle.pc_proof.specs.declared.document.Document.{Document}
-use Rattle.pc_proof.specs.Unbroken.{plain_lack, plain_relation}
+use Rattle.pc_proof.specs.Unbroken.{plain_answer}
 use Rattle.pc_report.specs.RunLines.{name_at, run_lines}
-use Rattle.pc_report.specs.Units.{average_text}
+use Rattle.pc_report.specs.Units.{average_text, frac_of}
 
 -- every line of a report ends with one
 abbrev pub line_break : List ℕ
@@ -86,12 +78,12 @@ titled_text schema title runs = concat (title ∷ line_break ∷ run_lines schem
 
 -- what is said of an end after its value, with the runs that reach it
 abbrev pub mark_text : Schema → Mark → List ℕ
-mark_text schema (marks.Exact runs) = titled_text schema (codes " exact") runs
-mark_text schema marks.Outer = codes " outer" ++ line_break
+mark_text schema (exact runs) = titled_text schema (codes " exact") runs
+mark_text schema outer = codes " outer" ++ line_break
 
 unfoldable pub end_text : Schema → Query → List ℕ → End → List ℕ
 end_text schema query name end =
-    concat (name ∷ codes " " ∷ value_text schema query.agg query.column end.value ∷ mark_text schema end.mark ∷ [])
+    concat (name ∷ codes " " ∷ value_text schema query.agg query.column (frac_of end.value) ∷ mark_text schema end.mark ∷ [])
 
 abbrev pub ends_text : Schema → Query → Option (End × End) → List ℕ
 ends_text schema query None = []
@@ -105,31 +97,31 @@ with_text schema runs = titled_text schema (codes "some") runs
 
 -- whether the aggregate can lack a value, with runs for which it does and runs for which it does not
 abbrev pub lack_text : Schema → Lack → List ℕ
-lack_text schema lacks.Silent = []
-lack_text schema (lacks.Never by') = codes "none never" ++ line_break
-lack_text schema (lacks.Sometimes without with') = without_text schema without ++ with_text schema with'
-lack_text schema (lacks.Always by') = codes "none always" ++ line_break
-lack_text schema lacks.Undecided = codes "none undecided" ++ line_break
+lack_text schema silent = []
+lack_text schema never = codes "none never" ++ line_break
+lack_text schema (sometimes without with') = without_text schema without ++ with_text schema with'
+lack_text schema always = codes "none always" ++ line_break
+lack_text schema unsettled = codes "none undecided" ++ line_break
 
 -- an aggregate that never has a value ends the block
 abbrev pub values_text : Schema → Query → Lack → Option (End × End) → List ℕ
-values_text schema query lack ends = lack_text schema lack ++ (if is_always (plain_lack lack) then [] else ends_text schema query ends)
+values_text schema query lack ends = lack_text schema lack ++ (if is_always lack then [] else ends_text schema query ends)
 
 abbrev pub relation_text : Schema → Relation → List ℕ
-relation_text schema (relations.Possible runs) = titled_text schema (codes "relation possible") runs
-relation_text schema (relations.Impossible why) = codes "relation impossible" ++ line_break
-relation_text schema relations.Undecided = codes "relation undecided" ++ line_break
+relation_text schema (possible runs) = titled_text schema (codes "relation possible") runs
+relation_text schema impossible = codes "relation impossible" ++ line_break
+relation_text schema undecided = codes "relation undecided" ++ line_break
 
 -- an impossible relation ends the block
 unfoldable pub answer_text : Schema → Query → Answer → List ℕ
 answer_text schema query answer =
-    relation_text schema answer.relation ++ (if is_impossible (plain_relation answer.relation) then [] else values_text schema query answer.lack answer.ends)
+    relation_text schema answer.relation ++ (if is_impossible answer.relation then [] else values_text schema query answer.lack answer.ends)
 
 -- ---- blocks
 
 unfoldable pub block_text : Schema → Block → List ℕ
 block_text schema block =
-    concat (query_line schema block.query ∷ group_line schema block.query.group block.name ∷ answer_text schema block.query block.answer ∷ [])
+    concat (query_line schema block.query ∷ group_line schema block.query.group block.name ∷ answer_text schema block.query (plain_answer block.answer) ∷ [])
 
 -- one block after another
 unfoldable pub blocks_text : Schema → List Block → List ℕ

@@ -14,18 +14,11 @@ use Rattle.pc_model.specs.declared.query.Agg.TheVariants as aggs
 use Rattle.pc_model.specs.declared.query.Query.{Query}
 use Rattle.pc_model.specs.Accepted.{IsQuery}
 use Rattle.pc_model.specs.Places.{is_below}
-use Rattle.pc_model.specs.Right.{always_has_value, is_always, is_impossible, is_silent}
-use Rattle.pc_proof.specs.declared.answer.Relation.{Relation}
-use Rattle.pc_proof.specs.declared.answer.Relation.TheVariants as relations
-use Rattle.pc_proof.specs.declared.answer.Lack.{Lack}
-use Rattle.pc_proof.specs.declared.answer.Lack.TheVariants as lacks
-use Rattle.pc_proof.specs.declared.answer.Mark.{Mark}
-use Rattle.pc_proof.specs.declared.answer.Mark.TheVariants as marks
-use Rattle.pc_proof.specs.declared.answer.End.{End}
-use Rattle.pc_proof.specs.declared.answer.Answer.{Answer}
+use Rattle.pc_model.specs.Right.{Answer, End, Lack, Mark, Relation, always, always_has_value, exact, impossible, is_always, is_impossible, is_silent, never, outer, possible, silent, sometimes, undecided, unsettled}
 use Rattle.pc_proof.specs.declared.document.Block.{Block}
 use Rattle.pc_proof.specs.Form.{IsGroupName}
-use Rattle.pc_proof.specs.Unbroken.{plain_answer, plain_lack, plain_relation}
+use Rattle.pc_proof.specs.Unbroken.{plain_answer}
+use Rattle.pc_report.specs.Units.{frac_of}
 
 -- ---- runs
 
@@ -49,20 +42,20 @@ AreShownRuns schema runs = All (IsShownRun schema) runs
 -- ---- parts of answers
 
 abbrev pub IsShownRelation : Schema → Relation → Type 0
-IsShownRelation schema (relations.Possible runs) = AreShownRuns schema runs
-IsShownRelation schema (relations.Impossible why) = ⊤
-IsShownRelation schema relations.Undecided = ⊤
+IsShownRelation schema (possible runs) = AreShownRuns schema runs
+IsShownRelation schema impossible = ⊤
+IsShownRelation schema undecided = ⊤
 
 abbrev pub IsShownLack : Schema → Lack → Type 0
-IsShownLack schema lacks.Silent = ⊤
-IsShownLack schema (lacks.Never by') = ⊤
-IsShownLack schema (lacks.Sometimes without with') = AreShownRuns schema without × AreShownRuns schema with'
-IsShownLack schema (lacks.Always by') = ⊤
-IsShownLack schema lacks.Undecided = ⊤
+IsShownLack schema silent = ⊤
+IsShownLack schema never = ⊤
+IsShownLack schema (sometimes without with') = AreShownRuns schema without × AreShownRuns schema with'
+IsShownLack schema always = ⊤
+IsShownLack schema unsettled = ⊤
 
 abbrev pub IsShownMark : Schema → Mark → Type 0
-IsShownMark schema (marks.Exact runs) = AreShownRuns schema runs
-IsShownMark schema marks.Outer = ⊤
+IsShownMark schema (exact runs) = AreShownRuns schema runs
+IsShownMark schema outer = ⊤
 
 pub record IsWhole (value : Frac) : Type 0 where
   pub fits : Fits value.num
@@ -77,7 +70,7 @@ IsShownValue aggs.Max value = IsWhole value
 IsShownValue aggs.Avg value = IsFrac value
 
 pub record IsShownEnd (schema : Schema) (agg : Agg) (end : End) : Type 0 where
-  pub value : IsShownValue agg end.value
+  pub value : IsShownValue agg (frac_of end.value)
   pub mark : IsShownMark schema end.mark
 
 abbrev pub AreShownEnds : Schema → Agg → Option (End × End) → Type 0
@@ -90,15 +83,15 @@ pub record IsShownAnswer (schema : Schema) (query : Query) (answer : Answer) : T
   pub relation : IsShownRelation schema answer.relation
   pub lack : IsShownLack schema answer.lack
   pub ends : AreShownEnds schema query.agg answer.ends
-  pub silent : is_silent (plain_lack answer.lack) ≡ (always_has_value query.agg || is_impossible (plain_relation answer.relation))
-  pub absent : is_none answer.ends ≡ (is_impossible (plain_relation answer.relation) || is_always (plain_lack answer.lack))
+  pub silent : is_silent answer.lack ≡ (always_has_value query.agg || is_impossible answer.relation)
+  pub absent : is_none answer.ends ≡ (is_impossible answer.relation || is_always answer.lack)
 
 -- a block of which the report is read back
 pub record IsShown (schema : Schema) (block : Block) : Type 0 where
   pub query : IsQuery schema block.query
   pub named : is_none block.name ≡ is_none block.query.group
   pub name : IsGroupName schema block.query.group block.name
-  pub answer : IsShownAnswer schema block.query block.answer
+  pub answer : IsShownAnswer schema block.query (plain_answer block.answer)
 
 -- two blocks that say the same, whatever shows it
 pub record SaysAlike (a b : Block) : Type 0 where

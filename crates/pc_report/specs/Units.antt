@@ -6,8 +6,10 @@ use Rattle.pc_num.specs.Signs.{Fits, differ}
 use Rattle.pc_num.specs.declared.fraction.Frac.{Frac}
 use Rattle.pc_model.specs.declared.query.Agg.{Agg}
 use Rattle.pc_model.specs.declared.query.Agg.TheVariants as aggs
-use Rattle.pc_proof.specs.declared.answer.End.{End}
+use Rattle.pc_model.specs.Aggregate.{Ratio}
+use Rattle.pc_model.specs.Right.{End}
 use Rattle.pc_proof.specs.declared.document.Block.{Block}
+use Rattle.pc_proof.specs.Unbroken.{plain_ends}
 
 -- ---- lowest terms
 
@@ -45,9 +47,13 @@ pub record IsAverage (value : Frac) : Type 0 where
   pub small : value.den ≤ℤ pos 30_000_000_000_000_000
   pub fits : Fits value.num
 
+-- a ratio as the code holds it
+abbrev pub frac_of : Ratio → Frac
+frac_of ratio = record { num = ratio.num; den = ratio.den }
+
 -- both ends, where there are ends
 abbrev pub AreAverages : Option (End × End) → Type 0
-AreAverages ends = IfSome ends (λ (ends : End × End). IsAverage ends.0.value × IsAverage ends.1.value)
+AreAverages ends = IfSome ends (λ (ends : End × End). IsAverage (frac_of ends.0.value) × IsAverage (frac_of ends.1.value))
 
 -- the value of an aggregate can be printed
 abbrev pub IsPrintable : Agg → Frac → Type 0
@@ -59,4 +65,4 @@ ArePrintable agg ends = agg ≡ aggs.Avg → AreAverages ends
 
 -- a block whose ends can be printed
 abbrev pub HasAverages : Block → Type 0
-HasAverages block = ArePrintable block.query.agg block.answer.ends
+HasAverages block = ArePrintable block.query.agg (plain_ends block.answer.ends)

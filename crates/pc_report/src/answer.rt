@@ -1,51 +1,49 @@
 ghost use Rattle.std.specs.Prelude.{◌≡◌, ◌++◌, OnOk};
-ghost use Rattle.pc_model.specs.Right.{is_always, is_impossible};
 ghost use Rattle.pc_report.specs.Report.{answer_text, end_text, ends_text, lack_text, line_break, mark_text, relation_text, titled_text, values_text, with_text, without_text};
 ghost use Rattle.pc_report.specs.RunLines.{HaveScales};
+ghost use Rattle.pc_report.specs.Told.{answer_in, end_in, ends_in, lack_in, mark_in, relation_in};
 ghost use Rattle.pc_report.specs.Units.{ArePrintable, IsPrintable};
 
 use crate::put_runs;
+use crate::told::{Told, ToldEnd, ToldLack, ToldMark, ToldRelation};
 use crate::value::put_value;
 use pc_model::{Query, Run, Schema};
 use pc_num::Memory;
-use pc_proof::{Answer, End, Lack, Mark, Relation};
 use std::alloc::Global;
 
-/// Appends the lines of an answer.
+/// Appends the lines of an answer: its relation, whether it can lack a value, and its ends.
 #[tactic(auto, unfolding(crate::specs::Report::answer_text))]
-pub(crate) fn put_answer(
+pub fn put_answer(
     alloc: Global,
     schema: &Schema,
     out: &mut Vec<u8>,
     query: &Query,
-    answer: &Answer,
+    told: &Told,
 ) -> Result<(), Memory>
     requires scales { HaveScales schema.now.columns }
-    requires printable { ArePrintable query.now.agg answer.now.ends }
-    ensures { OnOk result (out.new.items ≡ out.old.items ++ answer_text schema.now query.now answer.now) }
+    requires printable { ArePrintable query.now.agg (ends_in told.now.ends) }
+    ensures { OnOk result (out.new.items ≡ out.old.items ++ answer_text schema.now query.now (answer_in told.now)) }
 {
-    put_relation(alloc, schema, out, &answer.relation)?;
-    if answer.relation.is_impossible() {
+    put_relation(alloc, schema, out, &told.relation)?;
+    if told.relation.is_impossible() {
         return Ok(());
     }
-    put_values(alloc, schema, out, query, answer)
+    put_values(alloc, schema, out, query, told)
 }
 
 fn put_relation(
     alloc: Global,
     schema: &Schema,
     out: &mut Vec<u8>,
-    relation: &Relation,
+    relation: &ToldRelation,
 ) -> Result<(), Memory>
     requires { HaveScales schema.now.columns }
-    ensures { OnOk result (out.new.items ≡ out.old.items ++ relation_text schema.now relation.now) }
+    ensures { OnOk result (out.new.items ≡ out.old.items ++ relation_text schema.now (relation_in relation.now)) }
 {
     match relation {
-        Relation::Possible(runs) => {
-            put_titled(alloc, schema, out, "relation possible", runs.as_slice())
-        }
-        Relation::Impossible(_) => put_line(out, "relation impossible"),
-        Relation::Undecided => put_line(out, "relation undecided"),
+        ToldRelation::Possible(runs) => put_titled(alloc, schema, out, "relation possible", runs),
+        ToldRelation::Impossible => put_line(out, "relation impossible"),
+        ToldRelation::Undecided => put_line(out, "relation undecided"),
     }
 }
 
@@ -55,32 +53,37 @@ fn put_values(
     schema: &Schema,
     out: &mut Vec<u8>,
     query: &Query,
-    answer: &Answer,
+    told: &Told,
 ) -> Result<(), Memory>
     requires scales { HaveScales schema.now.columns }
-    requires printable { ArePrintable query.now.agg answer.now.ends }
-    ensures { OnOk result (out.new.items ≡ out.old.items ++ values_text schema.now query.now answer.now.lack answer.now.ends) }
+    requires printable { ArePrintable query.now.agg (ends_in told.now.ends) }
+    ensures { OnOk result (out.new.items ≡ out.old.items ++ values_text schema.now query.now (lack_in told.now.lack) (ends_in told.now.ends)) }
 {
-    put_lack(alloc, schema, out, &answer.lack)?;
-    if answer.lack.is_always() {
+    put_lack(alloc, schema, out, &told.lack)?;
+    if told.lack.is_always() {
         return Ok(());
     }
-    put_ends(alloc, schema, out, query, &answer.ends)
+    put_ends(alloc, schema, out, query, &told.ends)
 }
 
-fn put_lack(alloc: Global, schema: &Schema, out: &mut Vec<u8>, lack: &Lack) -> Result<(), Memory>
+fn put_lack(
+    alloc: Global,
+    schema: &Schema,
+    out: &mut Vec<u8>,
+    lack: &ToldLack,
+) -> Result<(), Memory>
     requires { HaveScales schema.now.columns }
-    ensures { OnOk result (out.new.items ≡ out.old.items ++ lack_text schema.now lack.now) }
+    ensures { OnOk result (out.new.items ≡ out.old.items ++ lack_text schema.now (lack_in lack.now)) }
 {
     match lack {
-        Lack::Silent => Ok(()),
-        Lack::Never(_) => put_line(out, "none never"),
-        Lack::Sometimes { without, with } => {
-            put_without(alloc, schema, out, without.as_slice())?;
-            put_with(alloc, schema, out, with.as_slice())
+        ToldLack::Silent => Ok(()),
+        ToldLack::Never => put_line(out, "none never"),
+        ToldLack::Sometimes { without, with } => {
+            put_without(alloc, schema, out, without)?;
+            put_with(alloc, schema, out, with)
         }
-        Lack::Always(_) => put_line(out, "none always"),
-        Lack::Undecided => put_line(out, "none undecided"),
+        ToldLack::Always => put_line(out, "none always"),
+        ToldLack::Undecided => put_line(out, "none undecided"),
     }
 }
 
@@ -112,11 +115,11 @@ fn put_ends(
     schema: &Schema,
     out: &mut Vec<u8>,
     query: &Query,
-    ends: &Option<(End, End)>,
+    ends: &Option<(ToldEnd, ToldEnd)>,
 ) -> Result<(), Memory>
     requires scales { HaveScales schema.now.columns }
-    requires printable { ArePrintable query.now.agg ends.now }
-    ensures { OnOk result (out.new.items ≡ out.old.items ++ ends_text schema.now query.now ends.now) }
+    requires printable { ArePrintable query.now.agg (ends_in ends.now) }
+    ensures { OnOk result (out.new.items ≡ out.old.items ++ ends_text schema.now query.now (ends_in ends.now)) }
 {
     match ends {
         Some((low, high)) => {
@@ -134,11 +137,11 @@ fn put_end(
     out: &mut Vec<u8>,
     query: &Query,
     name: &str,
-    end: &End,
+    end: &ToldEnd,
 ) -> Result<(), Memory>
     requires scales { HaveScales schema.now.columns }
     requires printable { IsPrintable query.now.agg end.now.value }
-    ensures { OnOk result (out.new.items ≡ out.old.items ++ end_text schema.now query.now name.now end.now) }
+    ensures { OnOk result (out.new.items ≡ out.old.items ++ end_text schema.now query.now name.now (end_in end.now)) }
 {
     out.extend_from_slice(name.as_bytes())?;
     out.push(b' ')?;
@@ -146,25 +149,25 @@ fn put_end(
     put_mark(alloc, schema, out, &end.mark)
 }
 
-/// Appends whether an end is reached, and the runs that reach it.
-pub fn put_mark(
+// Appends whether an end is reached, and the runs that reach it.
+fn put_mark(
     alloc: Global,
     schema: &Schema,
     out: &mut Vec<u8>,
-    mark: &Mark,
+    mark: &ToldMark,
 ) -> Result<(), Memory>
     requires { HaveScales schema.now.columns }
-    ensures { OnOk result (out.new.items ≡ out.old.items ++ mark_text schema.now mark.now) }
+    ensures { OnOk result (out.new.items ≡ out.old.items ++ mark_text schema.now (mark_in mark.now)) }
 {
     match mark {
-        Mark::Exact(runs) => put_titled(alloc, schema, out, " exact", runs.as_slice()),
-        Mark::Outer => put_line(out, " outer"),
+        ToldMark::Exact(runs) => put_titled(alloc, schema, out, " exact", runs),
+        ToldMark::Outer => put_line(out, " outer"),
     }
 }
 
-/// Appends a line, and those of runs after it.
+// Appends a line, and those of runs after it.
 #[tactic(auto, unfolding(crate::specs::Report::titled_text))]
-pub fn put_titled(
+fn put_titled(
     alloc: Global,
     schema: &Schema,
     out: &mut Vec<u8>,
@@ -178,8 +181,8 @@ pub fn put_titled(
     put_runs(alloc, schema, out, runs)
 }
 
-/// Appends a text and a line break.
-pub fn put_line(out: &mut Vec<u8>, text: &str) -> Result<(), Memory>
+// Appends a text and a line break.
+fn put_line(out: &mut Vec<u8>, text: &str) -> Result<(), Memory>
     ensures { OnOk result (out.new.items ≡ out.old.items ++ (text.now ++ line_break)) }
 {
     out.extend_from_slice(text.as_bytes())?;

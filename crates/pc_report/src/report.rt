@@ -7,6 +7,7 @@ ghost use Rattle.pc_report.specs.Units.{HasAverages};
 
 use crate::answer::put_answer;
 use crate::runs::name_at;
+use crate::told::Told;
 use pc_lang::put_query;
 use pc_lang_tokens::put_name;
 use pc_model::{Column, Kind, Query, Schema};
@@ -56,7 +57,7 @@ fn put_block(alloc: Global, schema: &Schema, out: &mut Vec<u8>, block: &Block) -
 {
     put_query_line(alloc, schema, out, &block.query)?;
     put_group(alloc, schema, out, block.query.group, block.name)?;
-    put_answer(alloc, schema, out, &block.query, &block.answer)
+    put_answer(alloc, schema, out, &block.query, &Told::of(&block.answer))
 }
 
 #[tactic(auto, unfolding(crate::specs::Report::query_line))]

@@ -2,6 +2,7 @@ ghost use Rattle.std.specs.Prelude.{◌≡◌, ◌++◌, codes, All, IfOk, OnErr
 ghost use Rattle.pc_model.specs.Accepted.{IsQuery};
 ghost use Rattle.pc_model.specs.WellFormed.{IsWellFormed};
 ghost use Rattle.pc_proof.specs.declared.document.Block.{Block};
+ghost use Rattle.pc_proof.specs.Unbroken.{plain_ends};
 ghost use Rattle.pc_report.specs.RunLines.{HaveScales};
 ghost use Rattle.pc_report.specs.Summary.{count_line, end_words, ends_words, mark_word, summary_line, summary_lines, summary_text};
 ghost use Rattle.pc_report.specs.Units.{ArePrintable, HasAverages, IsPrintable};
@@ -99,7 +100,7 @@ fn put_ends(
     ends: &Option<(End, End)>,
 ) -> Result<(), Memory>
     requires scales { HaveScales schema.now.columns }
-    requires printable { ArePrintable query.now.agg ends.now }
+    requires printable { ArePrintable query.now.agg (plain_ends ends.now) }
     ensures { OnOk result (out.new.items ≡ out.old.items ++ ends_words schema.now query.now ends.now) }
 {
     match ends {
