@@ -4,6 +4,7 @@ pub mod Attained
 pub mod Bounding
 pub mod ChosenKeys
 pub mod Counted
+pub mod EndsFit
 pub mod Halving
 pub mod ListSums
 pub mod Marked
@@ -17,6 +18,8 @@ pub mod PastPrograms
 pub mod RungKeys
 pub mod SeenKeys
 pub mod Shares
+pub mod ShownAnswers
 pub mod Standing
+pub mod TextsBack
 pub mod There
 pub mod Within

@@ -1,15 +1,27 @@
+ghost use Rattle.std.specs.List.{AllPass};
 ghost use Rattle.std.specs.Prelude.{◌≡◌, ◌↔◌, ℕ, ◌*◌, ◌^◌, ◌≤◌, ◌<◌, ℤ, pos, ◌≤ℤ◌, ◌<ℤ◌, List, [], length, All, Contains, Some, IfSome, IsSome, IsNone};
+ghost use Rattle.pc_model.specs.declared.constraint.Constraint.{Constraint};
 ghost use Rattle.pc_model.specs.declared.row.Row.{Row};
+ghost use Rattle.pc_model.specs.declared.schema.Schema.{Schema};
+ghost use Rattle.pc_model.specs.Accepted.{AreConstraints};
 ghost use Rattle.pc_model.specs.Cells.{Class};
+ghost use Rattle.pc_model.specs.Membership.{in_domain};
 ghost use Rattle.pc_model.specs.Right.{value_for};
+ghost use Rattle.pc_model.specs.WellFormed.{IsWellFormed};
 ghost use Rattle.pc_proof.specs.Setting.{Setting, high_in, low_in};
 ghost use Rattle.pc_lang.specs.declared.quantile.Quantile.{Quantile};
+ghost use Rattle.pc_lang.specs.Quantiles.{IsQuantile, quantile_text};
+ghost use Rattle.pc_quantile.specs.declared.answer.QuantileAnswer.{QuantileAnswer};
 ghost use Rattle.pc_quantile.specs.Candidates.{AreFrom, AreUpTo, IsCandidate, StandAt};
 ghost use Rattle.pc_quantile.specs.Gains.{BoundsAbove, BoundsBelow, first_most, first_sum, second_most, second_sum};
-ghost use Rattle.pc_quantile.specs.Measured.{IsAskedIn, IsListIn, numbers_of, quantile_of};
+ghost use Rattle.pc_quantile.specs.Licensed.{Owes};
+ghost use Rattle.pc_quantile.specs.Measured.{IsAskedIn, IsListIn, least_of, numbers_of, quantile_of};
 ghost use Rattle.pc_quantile.specs.Quantile.{at_most, quantile};
 ghost use Rattle.pc_quantile.specs.Right.{ContainsQuantiles};
+ghost use Rattle.pc_quantile.specs.Shown.{shown};
 ghost use Rattle.pc_quantile.specs.Sums.{first_of, second_of};
+ghost use Rattle.pc_quantile.specs.Texts.{block_text};
+ghost use Rattle.pc_report.specs.Shown.{IsShownAnswer};
 
 /// Of a share of more than none and at most one, every list of numbers has a quantile, but the empty one.
 #[tactic(auto, using(crate::proofs::Shares::there_is_one))]
@@ -73,4 +85,14 @@ pub fn numbers_are_within_the_candidates()
 /// Where each lost row has its cell's number at an end, all numbers are candidates of that end.
 pub fn numbers_at_an_end_are_candidates()
     ensures { (s : Setting) (asked : Quantile) (lost : List Row) (end : Class → ℤ) → IsListIn s asked lost → StandAt s end lost → All (IsCandidate s end) (numbers_of s.question lost) }
+{}
+
+/// The lines of an answer that owes what it must are read back.
+pub fn owed_answers_are_shown()
+    ensures { (schema : Schema) (observed : List Row) (constraints : List Constraint) (asked : Quantile) (budget : ℕ) (answer : QuantileAnswer) → IsWellFormed schema → AllPass (in_domain schema) observed → AreConstraints schema constraints → Owes schema observed constraints asked budget answer → IsShownAnswer schema (least_of asked) (shown answer) }
+{}
+
+/// One text over one schema is that of one question and one answer: its ends with their values, the marks and all runs.
+pub fn texts_tell_their_quantiles()
+    ensures { (schema : Schema) (asked other : Quantile) (one two : QuantileAnswer) → IsWellFormed schema → IsQuantile schema asked → IsQuantile schema other → IsShownAnswer schema (least_of asked) (shown one) → IsShownAnswer schema (least_of other) (shown two) → block_text schema (quantile_text schema asked) asked one ≡ block_text schema (quantile_text schema other) other two → (asked ≡ other) × (one ≡ two) }
 {}
