@@ -98,22 +98,22 @@ same_answer one two e = sym (again one) ∙ ap back e ∙ again two
 
 -- ---- both
 
-block_opens : (schema : Schema) (canonical : List ℕ) (asked : Quantile) (answer : QuantileAnswer) → block_text schema canonical asked answer ≡ codes "query " ++ (canonical ++ 10 ∷ answer_text schema (least_of asked) (shown answer))
+block_opens : (schema : Schema) (canonical : List ℕ) (asked : Quantile) (answer : QuantileAnswer) → block_text schema canonical asked answer ≡ codes "query " ++ (canonical ++ 10 ∷ answer_text schema (least_of asked) (plain_answer (shown answer)))
 unfolding block_text
 block_opens schema canonical asked answer =
-    ap (λ (rest : List ℕ). codes "query " ++ (canonical ++ 10 ∷ rest)) (append-nil (answer_text schema (least_of asked) (shown answer)))
+    ap (λ (rest : List ℕ). codes "query " ++ (canonical ++ 10 ∷ rest)) (append-nil (answer_text schema (least_of asked) (plain_answer (shown answer))))
 
 pub texts_tell_their_quantiles : (schema : Schema) (asked other : Quantile) (one two : QuantileAnswer) → IsWellFormed schema → IsQuantile schema asked → IsQuantile schema other
-    → IsShownAnswer schema (least_of asked) (shown one) → IsShownAnswer schema (least_of other) (shown two)
+    → IsShownAnswer schema (least_of asked) (plain_answer (shown one)) → IsShownAnswer schema (least_of other) (plain_answer (shown two))
     → block_text schema (quantile_text schema asked) asked one ≡ block_text schema (quantile_text schema other) other two → (asked ≡ other) × (one ≡ two)
 texts_tell_their_quantiles schema asked other one two formed well its are others e =
-    let parts = line_back (quantile_text schema asked) (quantile_text schema other) (answer_text schema (least_of asked) (shown one)) (answer_text schema (least_of other) (shown two))
+    let parts = line_back (quantile_text schema asked) (quantile_text schema other) (answer_text schema (least_of asked) (plain_answer (shown one))) (answer_text schema (least_of other) (plain_answer (shown two)))
     (text_printed schema asked formed well) (text_printed schema other formed its)
     (sym (block_opens schema (quantile_text schema asked) asked one) ∙ e ∙ block_opens schema (quantile_text schema other) other two) in
     let same = same_question schema asked other formed well its parts.0 in
-    let rest = parts.1 ∙ ap (λ (question : Quantile). answer_text schema (least_of question) (shown two)) (sym same) in
-    let told = answer_back schema (least_of asked) (shown one) (shown two) [] [] formed are
-    (subst (λ (question : Quantile). IsShownAnswer schema (least_of question) (shown two)) (sym same) others)
+    let rest = parts.1 ∙ ap (λ (question : Quantile). answer_text schema (least_of question) (plain_answer (shown two))) (sym same) in
+    let told = answer_back schema (least_of asked) (plain_answer (shown one)) (plain_answer (shown two)) [] [] formed are
+    (subst (λ (question : Quantile). IsShownAnswer schema (least_of question) (plain_answer (shown two))) (sym same) others)
     (record { run = refl; none = refl }) (record { run = refl; none = refl })
-    (append-nil (answer_text schema (least_of asked) (shown one)) ∙ rest ∙ sym (append-nil (answer_text schema (least_of asked) (shown two)))) in
+    (append-nil (answer_text schema (least_of asked) (plain_answer (shown one))) ∙ rest ∙ sym (append-nil (answer_text schema (least_of asked) (plain_answer (shown two))))) in
     (same, same_answer one two told.0)

@@ -8,6 +8,7 @@ ghost use Rattle.pc_model.specs.Cells.{Class};
 ghost use Rattle.pc_model.specs.Membership.{in_domain};
 ghost use Rattle.pc_model.specs.Right.{value_for};
 ghost use Rattle.pc_model.specs.WellFormed.{IsWellFormed};
+ghost use Rattle.pc_proof.specs.Unbroken.{plain_answer};
 ghost use Rattle.pc_proof.specs.Setting.{Setting, high_in, low_in};
 ghost use Rattle.pc_lang.specs.declared.quantile.Quantile.{Quantile};
 ghost use Rattle.pc_lang.specs.Quantiles.{IsQuantile, quantile_text};
@@ -89,10 +90,10 @@ pub fn numbers_at_an_end_are_candidates()
 
 /// The lines of an answer that owes what it must are read back.
 pub fn owed_answers_are_shown()
-    ensures { (schema : Schema) (observed : List Row) (constraints : List Constraint) (asked : Quantile) (budget : ℕ) (answer : QuantileAnswer) → IsWellFormed schema → AllPass (in_domain schema) observed → AreConstraints schema constraints → Owes schema observed constraints asked budget answer → IsShownAnswer schema (least_of asked) (shown answer) }
+    ensures { (schema : Schema) (observed : List Row) (constraints : List Constraint) (asked : Quantile) (budget : ℕ) (answer : QuantileAnswer) → IsWellFormed schema → AllPass (in_domain schema) observed → AreConstraints schema constraints → Owes schema observed constraints asked budget answer → IsShownAnswer schema (least_of asked) (plain_answer (shown answer)) }
 {}
 
 /// One text over one schema is that of one question and one answer: its ends with their values, the marks and all runs.
 pub fn texts_tell_their_quantiles()
-    ensures { (schema : Schema) (asked other : Quantile) (one two : QuantileAnswer) → IsWellFormed schema → IsQuantile schema asked → IsQuantile schema other → IsShownAnswer schema (least_of asked) (shown one) → IsShownAnswer schema (least_of other) (shown two) → block_text schema (quantile_text schema asked) asked one ≡ block_text schema (quantile_text schema other) other two → (asked ≡ other) × (one ≡ two) }
+    ensures { (schema : Schema) (asked other : Quantile) (one two : QuantileAnswer) → IsWellFormed schema → IsQuantile schema asked → IsQuantile schema other → IsShownAnswer schema (least_of asked) (plain_answer (shown one)) → IsShownAnswer schema (least_of other) (plain_answer (shown two)) → block_text schema (quantile_text schema asked) asked one ≡ block_text schema (quantile_text schema other) other two → (asked ≡ other) × (one ≡ two) }
 {}

@@ -5,6 +5,7 @@ pub mod Documents
 pub mod Following
 pub mod MadeCases
 pub mod Meanings
+pub mod MeasuredTexts
 pub mod Promises
 pub mod Reported
 pub mod StopReplies

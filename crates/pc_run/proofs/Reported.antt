@@ -1,6 +1,7 @@
 -- The bytes of a report determine what its answers say.
-use Rattle.std.proofs.Common.{◌≡◌, ℕ, ℤ, List, [], ◌∷◌, All, Option, Some, None, sym, ◌∙◌, ap, subst, arith}
+use Rattle.std.proofs.Common.{◌≡◌, ℕ, ℤ, List, [], ◌∷◌, All, Option, Some, None, refl, sym, ◌∙◌, ap, subst, arith}
 use Rattle.std.specs.List.{AllZip}
+use Rattle.std.specs.Option.{is_none}
 use Rattle.std.proofs.lemmas.Int.{ints}
 use Rattle.std.proofs.lemmas.List.Elements.{All-weaker}
 use Rattle.pc_num.specs.declared.Frac.{Frac}
@@ -24,6 +25,7 @@ use Rattle.pc_proof.specs.declared.answer.Answer.{Answer}
 use Rattle.pc_proof.specs.declared.document.Block.{Block}
 use Rattle.pc_proof.specs.declared.document.Document.{Document}
 use Rattle.pc_proof.specs.Form.{IsFormedCell, IsFormedCellOf, IsFormedRun, AreFormedRuns, IsFormedRelation, IsFormedLack, IsFormedValue, IsFormedWhole, IsFormedMark, IsFormedEnd, AreFormedEnds, IsFormedAnswer, IsFormedBlock, IsInForm}
+use Rattle.pc_proof.specs.Unbroken.{plain_answer, plain_end, plain_ends, plain_lack, plain_mark, plain_relation}
 use Rattle.pc_report.specs.Report.{report_text}
 use Rattle.pc_report.specs.Shown.{IsCell, IsCellOf, IsShownRun, AreShownRuns, IsShownRelation, IsShownLack, IsShownMark, IsWhole, IsShownValue, IsShownEnd, AreShownEnds, IsShownAnswer, IsShown, SaysAlike}
 use Rattle.pc_report.proofs.BlocksBack.{reports_tell_their_blocks}
@@ -49,19 +51,19 @@ shown_run schema run formed = record { few = omega (arith, formed.times); cells 
 shown_runs : (schema : Schema) (runs : List Run) → AreFormedRuns schema runs → AreShownRuns schema runs
 shown_runs schema runs formed = All-weaker (IsFormedRun schema) (IsShownRun schema) (shown_run schema) runs formed
 
-shown_relation : (schema : Schema) (agg : Agg) (relation : Relation) → IsFormedRelation schema agg relation → IsShownRelation schema relation
+shown_relation : (schema : Schema) (agg : Agg) (relation : Relation) → IsFormedRelation schema agg relation → IsShownRelation schema (plain_relation relation)
 shown_relation schema agg (relations.Possible runs) formed = shown_runs schema runs formed
 shown_relation schema agg (relations.Impossible why) formed = tt
 shown_relation schema agg relations.Undecided formed = tt
 
-shown_lack : (schema : Schema) (agg : Agg) (lack : Lack) → IsFormedLack schema agg lack → IsShownLack schema lack
+shown_lack : (schema : Schema) (agg : Agg) (lack : Lack) → IsFormedLack schema agg lack → IsShownLack schema (plain_lack lack)
 shown_lack schema agg lacks.Silent formed = tt
 shown_lack schema agg (lacks.Never by') formed = tt
 shown_lack schema agg (lacks.Sometimes without with') formed = (shown_runs schema without formed.0, shown_runs schema with' formed.1)
 shown_lack schema agg (lacks.Always by') formed = tt
 shown_lack schema agg lacks.Undecided formed = tt
 
-shown_mark : (schema : Schema) (mark : Mark) → IsFormedMark schema mark → IsShownMark schema mark
+shown_mark : (schema : Schema) (mark : Mark) → IsFormedMark schema mark → IsShownMark schema (plain_mark mark)
 shown_mark schema (marks.Exact runs) formed = shown_runs schema runs formed
 shown_mark schema marks.Outer formed = tt
 
@@ -75,20 +77,24 @@ shown_value aggs.Min value formed = shown_whole value formed
 shown_value aggs.Max value formed = shown_whole value formed
 shown_value aggs.Avg value formed = formed.reduced
 
-shown_end : (schema : Schema) (agg : Agg) (end : End) → IsFormedEnd schema agg end → IsShownEnd schema agg end
+shown_end : (schema : Schema) (agg : Agg) (end : End) → IsFormedEnd schema agg end → IsShownEnd schema agg (plain_end end)
 shown_end schema agg end formed = record { value = shown_value agg end.value formed.value; mark = shown_mark schema end.mark formed.mark }
 
-shown_ends : (schema : Schema) (agg : Agg) (ends : Option (End × End)) → AreFormedEnds schema agg ends → AreShownEnds schema agg ends
+shown_ends : (schema : Schema) (agg : Agg) (ends : Option (End × End)) → AreFormedEnds schema agg ends → AreShownEnds schema agg (plain_ends ends)
 shown_ends schema agg None formed = tt
 shown_ends schema agg (Some ends) formed = (shown_end schema agg ends.0 formed.0, shown_end schema agg ends.1 formed.1)
 
-shown_answer : (schema : Schema) (query : Query) (answer : Answer) → IsFormedAnswer schema query.agg answer → IsShownAnswer schema query answer
+same_absence : (ends : Option (End × End)) → is_none ends ≡ is_none (plain_ends ends)
+same_absence None = refl
+same_absence (Some ends) = refl
+
+shown_answer : (schema : Schema) (query : Query) (answer : Answer) → IsFormedAnswer schema query.agg answer → IsShownAnswer schema query (plain_answer answer)
 shown_answer schema query answer formed = record {
   relation = shown_relation schema query.agg answer.relation formed.relation;
   lack = shown_lack schema query.agg answer.lack formed.lack;
   ends = shown_ends schema query.agg answer.ends formed.ends;
   silent = formed.silent;
-  absent = formed.absent;
+  absent = sym (same_absence answer.ends) ∙ formed.absent;
 }
 
 shown_block : (schema : Schema) (block : Block) → IsFormedBlock schema block → IsShown schema block
