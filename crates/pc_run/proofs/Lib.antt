@@ -7,6 +7,7 @@ pub mod FaultFiles
 pub mod Files
 pub mod Following
 pub mod MadeCases
+pub mod MeasuredTexts
 pub mod Meanings
 pub mod Promises
 pub mod ReadFiles

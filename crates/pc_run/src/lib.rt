@@ -17,7 +17,7 @@ mod show;
 mod stop;
 mod verdict;
 
-pub use laws::reports_tell_their_answers;
+pub use laws::{quantiles_tell_their_answers, reports_tell_their_answers};
 use pc_base::{Put, Shelf, Sink, Status};
 use reply::respond;
 use std::alloc::Global;
