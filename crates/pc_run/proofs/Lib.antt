@@ -4,6 +4,7 @@ pub mod Chains
 pub mod Documents
 pub mod Following
 pub mod MadeCases
+pub mod MeasuredTexts
 pub mod Meanings
 pub mod MeasuredTexts
 pub mod Promises
