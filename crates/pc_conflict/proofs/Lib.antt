@@ -3,8 +3,10 @@ pub mod Determined
 pub mod LeavingOut
 pub mod Nested
 pub mod Parts
+pub mod RulesBack
 pub mod Settled
 pub mod Steps
 pub mod Tested
+pub mod TextsBack
 pub mod Thinned
 pub mod Withouts

@@ -23,7 +23,7 @@ use Rattle.pc_conflict.proofs.Thinned.{stand_still}
 
 -- ---- lists
 
-AllZip-weaker : {A B : Type 0} (P : A → Type 0) (R S : A → B → Type 0) → ((a : A) (b : B) → P a → R a b → S a b) → (as' : List A) (bs : List B) → All P as' → AllZip R as' bs → AllZip S as' bs
+pub AllZip-weaker : {A B : Type 0} (P : A → Type 0) (R S : A → B → Type 0) → ((a : A) (b : B) → P a → R a b → S a b) → (as' : List A) (bs : List B) → All P as' → AllZip R as' bs → AllZip S as' bs
 AllZip-weaker P R S so [] [] each zip = tt
 AllZip-weaker P R S so [] (b ∷ bs) each zip = absurd zip
 AllZip-weaker P R S so (a ∷ as') [] each zip = absurd zip

@@ -7,16 +7,16 @@ use Rattle.pc_model.proofs.Pieces.{pieces_step, pieces_past, pieces_spent}
 use Rattle.pc_conflict.specs.Texts.{without_text, withouts_text}
 
 module _ (schema : Schema) (constraints : List Constraint) where
-  next_member : (member : ℕ) (members : List ℕ) (runs : List Run) (lists : List (List Run)) →
+  pub next_member : (member : ℕ) (members : List ℕ) (runs : List Run) (lists : List (List Run)) →
       withouts_text schema constraints (member ∷ members) (runs ∷ lists) ≡ without_text schema constraints member runs ++ withouts_text schema constraints members lists
   unfolding withouts_text
   next_member member members runs lists = refl
 
-  no_members : (lists : List (List Run)) → withouts_text schema constraints [] lists ≡ []
+  pub no_members : (lists : List (List Run)) → withouts_text schema constraints [] lists ≡ []
   unfolding withouts_text
   no_members lists = refl
 
-  no_lists : (members : List ℕ) → withouts_text schema constraints members [] ≡ []
+  pub no_lists : (members : List ℕ) → withouts_text schema constraints members [] ≡ []
   unfolding withouts_text
   no_lists [] = refl
   no_lists (member ∷ members) = refl

@@ -12,4 +12,5 @@ mod thinning;
 
 pub use conflict::Conflict;
 pub use deletion::find;
+pub use laws::texts_tell_their_answers;
 pub use text::put_conflict;

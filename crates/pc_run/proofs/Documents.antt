@@ -1,19 +1,22 @@
 -- What a document that answers a case has for the texts of its answers.
-use Rattle.std.proofs.Common.{ℕ, List, [], ◌∷◌, map, flat_map, Option, Some, None, IfSome, All, sym, ap, subst, ◌∙◌}
+use Rattle.std.proofs.Common.{◌≡◌, ℕ, suc, List, [], ◌∷◌, length, map, flat_map, Option, Some, None, IfSome, All, refl, sym, ap, subst, ◌∙◌}
 use Rattle.std.specs.List.{AllZip}
 use Rattle.std.proofs.lemmas.List.Elements.{All-nil, All-cons, All-head, All-tail, All-append}
+use Rattle.std.proofs.lemmas.Slice.Zip.{AllZip-long}
 use Rattle.pc_num.specs.declared.fraction.Frac.{Frac}
 use Rattle.pc_model.specs.declared.schema.Schema.{Schema}
 use Rattle.pc_model.specs.declared.query.Query.{Query}
+use Rattle.pc_model.specs.declared.tree.CutNode.{CutNode}
 use Rattle.pc_model.specs.Accepted.{IsQuery}
 use Rattle.pc_rows.specs.declared.case.Case.{Case}
 use Rattle.pc_proof.specs.declared.answer.End.{End}
 use Rattle.pc_proof.specs.declared.document.Block.{Block}
 use Rattle.pc_proof.specs.declared.document.Document.{Document}
+use Rattle.pc_proof.specs.Documents.{nodes_after}
 use Rattle.pc_report.specs.Units.{IsAverage, HasAverages}
 use Rattle.pc_avg.specs.Averages.{IsShort, IsShortEnd}
 use Rattle.pc_group.specs.Answers.{AnswersWanted}
-use Rattle.pc_group.specs.Trees.{Told, told}
+use Rattle.pc_group.specs.Trees.{Told, told, told_after, told_with}
 use Rattle.pc_group.proofs.FormedBlocks.{all_blocks}
 use Rattle.pc_group.specs.Wanted.{Wanted, wanted_in, wanted_by, wanted_of, wanted, allowed_names}
 use Rattle.pc_run.specs.Answers.{AnswersCase}
@@ -43,6 +46,17 @@ all_wanted P schema (query ∷ queries) each =
     All-append (λ (w : Wanted). P w.query) (wanted_by schema query) (flat_map (wanted_by schema) queries)
     (all_wanted_in P schema query query.group (All-head P query queries each)) (all_wanted P schema queries (All-tail P query queries each))
 
+-- ---- blocks as they are told
+
+told_one : (block : Block) (blocks : List Block) (nodes : Option (List CutNode)) → ((before : Option (List CutNode)) → length (told_after blocks before) ≡ length blocks) → length (told_with block nodes (told_after blocks)) ≡ length (block ∷ blocks)
+told_one block blocks None later = ap suc (later None)
+told_one block blocks (Some nodes) later = ap suc (later (Some nodes))
+
+told_length : (blocks : List Block) (before : Option (List CutNode)) → length (told_after blocks before) ≡ length blocks
+unfolding told_after
+told_length [] before = refl
+told_length (block ∷ blocks) before = told_one block blocks (nodes_after before block.tree) (told_length blocks)
+
 -- ---- what is printed
 
 short_average : (value : Frac) → IsShort value → IsAverage value
@@ -60,11 +74,18 @@ module _ (budget : ℕ) (case : Case) (document : Document) (answers : AnswersCa
       (second_of (AnswersWanted budget case.schema case.rows case.constraints) (λ (w : Wanted). Unit {0}) (λ (t : Told). P t.block)
       (λ w t none is. gives w t is) (wanted case.schema case.queries) (told document.blocks) (λ place d inside. tt) answers.answers)
 
+  -- what holds of the queries holds of those of the blocks
+  pub blocks_are_of : (P : Query → Type 0) → All P case.queries → All (λ (block : Block). P block.query) document.blocks
+  blocks_are_of P each =
+      all_blocks (λ (block : Block). P block.query) document.blocks None
+      (second_of (AnswersWanted budget case.schema case.rows case.constraints) (λ (w : Wanted). P w.query) (λ (t : Told). P t.block.query)
+      (λ w t is answered. subst P (sym answered.query_is) is) (wanted case.schema case.queries) (told document.blocks) (all_wanted P case.schema case.queries each) answers.answers)
+
   pub blocks_are_accepted : All (IsQuery case.schema) case.queries → All (λ (block : Block). IsQuery case.schema block.query) document.blocks
-  blocks_are_accepted accepted =
-      all_blocks (λ (block : Block). IsQuery case.schema block.query) document.blocks None
-      (second_of (AnswersWanted budget case.schema case.rows case.constraints) (λ (w : Wanted). IsQuery case.schema w.query) (λ (t : Told). IsQuery case.schema t.block.query)
-      (λ w t is answered. subst (IsQuery case.schema) (sym answered.query_is) is) (wanted case.schema case.queries) (told document.blocks) (all_wanted (IsQuery case.schema) case.schema case.queries accepted) answers.answers)
+  blocks_are_accepted accepted = blocks_are_of (IsQuery case.schema) accepted
+
+  pub as_many_blocks : length document.blocks ≡ length (wanted case.schema case.queries)
+  as_many_blocks = sym (told_length document.blocks None) ∙ AllZip-long (AnswersWanted budget case.schema case.rows case.constraints) (wanted case.schema case.queries) (told document.blocks) answers.answers
 
   pub ends_can_be_printed : All HasAverages document.blocks
   ends_can_be_printed =

@@ -4,10 +4,11 @@ pub mod Chains
 pub mod Documents
 pub mod Following
 pub mod MadeCases
-pub mod MeasuredTexts
 pub mod Meanings
 pub mod MeasuredTexts
 pub mod Promises
 pub mod Reported
+pub mod Sessions
 pub mod StopReplies
 pub mod Unbroken
+pub mod WantedBlocks

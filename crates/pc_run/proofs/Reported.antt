@@ -105,7 +105,7 @@ shown_block schema block formed = record {
   answer = shown_answer schema block.query block.answer formed.answer;
 }
 
-all_shown : (schema : Schema) (doc : Document) → IsInForm schema doc → All (IsShown schema) doc.blocks
+pub all_shown : (schema : Schema) (doc : Document) → IsInForm schema doc → All (IsShown schema) doc.blocks
 all_shown schema doc formed = All-weaker (IsFormedBlock schema) (IsShown schema) (shown_block schema) doc.blocks formed
 
 -- ---- two reports of the same bytes

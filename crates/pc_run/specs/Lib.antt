@@ -4,3 +4,4 @@ pub mod Meaning
 pub mod Outcome
 pub mod Reports
 pub mod Replies
+pub mod Said

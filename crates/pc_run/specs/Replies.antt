@@ -46,6 +46,7 @@ use Rattle.pc_run.specs.declared.input.Claim.{Claim}
 use Rattle.pc_run.specs.declared.input.Input.{Input}
 use Rattle.pc_run.specs.declared.input.Input.TheVariants.{Asks, Proves, Claims, Shows, Contradicts, Measures, Follows, Makes}
 use Rattle.pc_run.specs.declared.input.Measured.{Measured}
+use Rattle.pc_run.specs.declared.input.Scripted.{Scripted}
 
 -- the reply where files give nothing
 abbrev pub RepliesToStop : Stop → Status → List ℕ → Type 0
@@ -159,6 +160,10 @@ pub record SaysReports (nodes : ℕ) (cases : List Case) (text : List ℕ) : Typ
   pub each : AllZip (SaysReport nodes) cases texts
   pub joined : text ≡ concat texts
 
+-- .. of the cases that the lines of a session ask about
+abbrev pub SaysSession : ℕ → Scripted → List ℕ → Type 0
+SaysSession nodes scripted text = SaysReports nodes (cases_of scripted.observed.schema (start_of scripted) scripted.lines) text
+
 abbrev pub SaysInput : Input → Status → List ℕ → Type 0
 SaysInput (Asks nodes case) status text = (status ≡ ended.Done) × SaysReport nodes case text
 SaysInput (Proves nodes case) status text = (status ≡ ended.Done) × SaysProof nodes case text
@@ -166,7 +171,7 @@ SaysInput (Claims claim) status text = SaysVerdict claim status text
 SaysInput (Shows listing) status text = (status ≡ ended.Done) × SaysListing listing text
 SaysInput (Contradicts nodes listing) status text = (status ≡ ended.Done) × SaysConflict nodes listing text
 SaysInput (Measures nodes measured) status text = (status ≡ ended.Done) × SaysQuantile nodes measured text
-SaysInput (Follows nodes scripted) status text = (status ≡ ended.Done) × SaysReports nodes (cases_of scripted.observed.schema (start_of scripted) scripted.lines) text
+SaysInput (Follows nodes scripted) status text = (status ≡ ended.Done) × SaysSession nodes scripted text
 SaysInput (Makes numbers) status text = (status ≡ ended.Done) × SaysSummary (made_case numbers) text
 
 -- the reply to files that are accepted, or refused

@@ -3,8 +3,8 @@ ghost use Rattle.pc_model.specs.Accepted.{IsQuery};
 ghost use Rattle.pc_session.specs.Edited.{CanFollow, CanFollowAll, after_line, asked_case, case_at, cases_of};
 ghost use Rattle.pc_session.specs.Sessions.{IsSession, held_by};
 ghost use Rattle.pc_run_words.specs.Words.{IsBudget};
-ghost use Rattle.pc_run.specs.Inputs.{IsFollowable, start_of};
-ghost use Rattle.pc_run.specs.Replies.{SaysReport, SaysReports};
+ghost use Rattle.pc_run.specs.Inputs.{IsFollowable};
+ghost use Rattle.pc_run.specs.Replies.{SaysReport, SaysReports, SaysSession};
 
 use crate::input::Scripted;
 use pc_files::Observed;
@@ -25,7 +25,7 @@ pub(crate) fn report_script(
 ) -> Result<Vec<u8>, Memory>
     requires followable { IsFollowable scripted }
     requires budget { IsBudget nodes }
-    ensures { IfOk result (λ text. SaysReports nodes (cases_of scripted.observed.schema (start_of scripted) scripted.lines) text.items) }
+    ensures { IfOk result (λ text. SaysSession nodes scripted text.items) }
 {
     let Scripted { observed, lines } = scripted;
     let Observed {

@@ -16,7 +16,10 @@ mod reply;
 mod show;
 mod verdict;
 
-pub use laws::{quantiles_tell_their_answers, reports_tell_their_answers};
+pub use laws::{
+    conflicts_tell_their_answers, quantiles_tell_their_answers, reports_tell_their_answers,
+    sessions_tell_their_answers,
+};
 use pc_base::{Put, Shelf, Sink, Status};
 use pc_files::put_text;
 use reply::respond;
