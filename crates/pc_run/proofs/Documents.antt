@@ -13,7 +13,9 @@ use Rattle.pc_proof.specs.declared.answer.End.{End}
 use Rattle.pc_proof.specs.declared.document.Block.{Block}
 use Rattle.pc_proof.specs.declared.document.Document.{Document}
 use Rattle.pc_proof.specs.Documents.{nodes_after}
-use Rattle.pc_report.specs.Units.{IsAverage, HasAverages}
+use Rattle.pc_proof.specs.Table.{ratio_of}
+use Rattle.pc_proof.specs.Unbroken.{plain_ends}
+use Rattle.pc_report.specs.Units.{AreAverages, HasAverages, IsAverage, frac_of}
 use Rattle.pc_avg.specs.Averages.{IsShort, IsShortEnd}
 use Rattle.pc_group.specs.Answers.{AnswersWanted}
 use Rattle.pc_group.specs.Trees.{Told, told, told_after, told_with}
@@ -59,10 +61,10 @@ told_length (block ∷ blocks) before = told_one block blocks (nodes_after befor
 
 -- ---- what is printed
 
-short_average : (value : Frac) → IsShort value → IsAverage value
+short_average : (value : Frac) → IsShort value → IsAverage (frac_of (ratio_of value))
 short_average value short = record { above = short.lowest.above; small = short.small; fits = short.lowest.num_fits }
 
-averages_of : (ends : Option (End × End)) → IfSome ends (λ both. IsShortEnd both.0 × IsShortEnd both.1) → IfSome ends (λ both. IsAverage both.0.value × IsAverage both.1.value)
+averages_of : (ends : Option (End × End)) → IfSome ends (λ both. IsShortEnd both.0 × IsShortEnd both.1) → AreAverages (plain_ends ends)
 averages_of None short = tt
 averages_of (Some both) short = (short_average both.0.value short.0.0, short_average both.1.value short.1.0)
 
