@@ -1,5 +1,6 @@
 ghost use Rattle.std.specs.Prelude.{IsTrue};
 ghost use Rattle.pc_model.specs.WellFormed.{IsWellFormed};
+ghost use Rattle.pc_proof.specs.Unbroken.{plain_ends};
 ghost use Rattle.pc_report.specs.Units.{AreAverages, IsAverage};
 
 use super::{SCHEMA, run_of};
@@ -36,7 +37,7 @@ fn written(
     answer: Answer,
 ) -> Result<Vec<u8>, Refusal>
     requires well_formed { IsWellFormed schema.now }
-    requires averages { AreAverages answer.ends }
+    requires averages { AreAverages (plain_ends answer.ends) }
 {
     let query = read_query(alloc, schema, query, 1)?;
     let mut blocks = Seq::new(alloc);
@@ -65,7 +66,7 @@ fn is_written(written: Result<Vec<u8>, Refusal>, want: &str) -> bool {
 
 // Whether each end can be printed as an average.
 fn are_averages(ends: &Option<(End, End)>) -> bool
-    ensures { IsTrue result → AreAverages ends.now }
+    ensures { IsTrue result → AreAverages (plain_ends ends.now) }
 {
     match ends {
         Some((low, high)) => is_average(&low.value) && is_average(&high.value),
