@@ -4,7 +4,7 @@ ghost use Rattle.pc_base.specs.Puts.{Leaves};
 
 use crate::writing::write_whole;
 use pc_base::{Put, Sink};
-use std::io::{Printer, Write};
+use std::io::{Printer, Stderr, Write};
 
 /// A writer that tells what it took always or never.
 pub trait Steady: Write {
@@ -16,6 +16,10 @@ impl Steady for Vec<u8> {
 }
 
 impl<P: Print> Steady for Printer<'_, P> {
+    ghost steady = { λ a b. refl };
+}
+
+impl Steady for Stderr {
     ghost steady = { λ a b. refl };
 }
 
