@@ -1,0 +1,4 @@
+mod Asked
+mod Between
+mod Repeats
+pub mod Shown

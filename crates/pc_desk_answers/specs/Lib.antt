@@ -1,0 +1,6 @@
+pub mod Blocks
+pub mod Entries
+pub mod Questions
+pub mod Rounded
+pub mod Texts
+pub mod Values

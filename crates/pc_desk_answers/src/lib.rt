@@ -1,0 +1,16 @@
+//! What is asked of a case, and what is shown of the answers, beside what the rows that are left come to.
+#![tactic(auto)]
+
+mod answers;
+mod blocks;
+mod entry;
+mod question;
+mod range;
+mod refining;
+mod repeated;
+mod rounding;
+mod text;
+mod value;
+
+pub use answers::{answer_questions, ask_session};
+pub use question::{Question, read_questions};

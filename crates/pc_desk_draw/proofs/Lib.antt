@@ -1,0 +1,13 @@
+pub mod Escaping
+pub mod Growing
+pub mod Holding
+pub mod Hulls
+pub mod Parting
+pub mod Placing
+pub mod Rowing
+pub mod Ruling
+pub mod Runs
+pub mod Stacking
+pub mod Stepping
+pub mod Tables
+pub mod Widths

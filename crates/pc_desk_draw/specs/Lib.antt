@@ -1,0 +1,16 @@
+pub mod Axes
+pub mod Bars
+pub mod Charts
+pub mod Elements
+pub mod Escapes
+pub mod Laws
+pub mod Layouts
+pub mod Names
+pub mod Numbers
+pub mod Pictures
+pub mod Places
+pub mod Questions
+pub mod Rows
+pub mod Shapes
+pub mod Sizes
+pub mod Texts

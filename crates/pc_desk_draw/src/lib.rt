@@ -1,0 +1,26 @@
+//! Answers drawn: as a chart in characters, and as one SVG picture.
+#![tactic(auto)]
+
+mod axis;
+mod bar;
+mod chart;
+mod elements;
+mod escape;
+mod grid;
+mod laws;
+mod layout;
+mod names;
+mod numbers;
+mod picture;
+mod place;
+mod question;
+mod rows;
+mod scale;
+mod shapes;
+mod size;
+mod span;
+mod texts;
+
+pub use chart::chart_of;
+pub use laws::{all_on_axis, places_rise, ticks_are_round};
+pub use picture::picture_of;

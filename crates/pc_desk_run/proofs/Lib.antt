@@ -1,0 +1,4 @@
+mod FaultFiles
+mod Following
+mod Replies
+mod Promises

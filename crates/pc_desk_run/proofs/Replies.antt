@@ -1,0 +1,32 @@
+-- What was read, and what is said of it, is the reply to a call.
+use Rattle.std.proofs.Common.{◌≡◌, Result, Ok, Err, refl}
+use Rattle.pc_files.specs.declared.stop.Stop.{Stop}
+use Rattle.pc_files.specs.declared.stop.Stop.TheVariants as stops
+use Rattle.pc_files.specs.Loading.{IsRead, Reading}
+use Rattle.pc_desk_words.specs.Words.{Asked}
+use Rattle.pc_desk_run.specs.declared.reply.Reply.{Reply}
+use Rattle.pc_desk_run.specs.declared.reply.Reply.TheVariants as replies
+use Rattle.pc_desk_run.specs.Inputs.{IsSoundInput}
+use Rattle.pc_desk_run.specs.Outcome.{Input, files_of, form_of, input_in}
+use Rattle.pc_desk_run.specs.Replies.{IsStopReply, RepliesTo, SaysInput}
+use Rattle.pc_desk_run.specs.Texts.{named_in}
+
+module _ (reading : Reading) (asked : Asked) where
+  pub says_input : (input : Input) → IsRead reading (files_of asked) (input_in asked) (Ok input) → IsSoundInput input → (reply : Reply) → SaysInput (form_of asked) input reply → RepliesTo reading asked reply
+  says_input input read sound (replies.Says ended text note) says = record {
+    input = input;
+    agrees = read.agrees;
+    sound = sound;
+    loads = read.loads;
+    entries = says.0;
+    answers = says.1;
+    status = says.2.0;
+    spelled = says.2.1;
+    noted = says.2.2;
+  }
+  says_input input read sound (replies.Refuses ended text) says = absurd says.2
+
+  pub says_stop : (stop : Stop) → IsRead {X = Input} reading (files_of asked) (input_in asked) (Err stop) → (reply : Reply) → IsStopReply (named_in asked) stop reply → RepliesTo reading asked reply
+  says_stop (stops.Refused fault) read reply is = rw is (record { fault = fault; agrees = read.agrees; loads = read.loads; told = refl })
+  says_stop (stops.Unread kind) read reply is = rw is (record { kind = kind; unread = read.loads; told = refl })
+  says_stop stops.Memory read reply is = absurd is

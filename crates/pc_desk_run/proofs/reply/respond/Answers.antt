@@ -1,0 +1,21 @@
+use Rattle.std.proofs.Common.{inl, inr, map, string_bytes, refl}
+use Rattle.std.proofs.lemmas.Result.{IfOk-weaker}
+use Rattle.pc_desk_words.specs.Calls.{ask_names, session_names}
+use Rattle.pc_desk_words.specs.Words.{ask, session}
+use Rattle.pc_desk_run.proofs.reply.respond.Goals as goal
+
+pub reply_to_ask-requires : goal.reply_to_ask-requires
+reply_to_ask-requires g c = let numbers = rw c.in-Ask.is at c.in_ok-call.ensures.numbers in numbers.0
+
+pub returns-in-Ask : goal.returns-in-Ask
+returns-in-Ask g c =
+    let reads = rw c.in-Ask.is at c.in_ok-call.ensures.reads in
+    IfOk-weaker c.reply_to_ask.result _ _ (λ reply replies. inl (ask (ask_names c.in-Ask.ask), reads, replies)) c.reply_to_ask.ensures
+
+pub reply_to_session-requires : goal.reply_to_session-requires
+reply_to_session-requires g c = rw c.in-Session.is at c.in_ok-call.ensures.numbers
+
+pub returns-in-Session : goal.returns-in-Session
+returns-in-Session g c =
+    let reads = rw c.in-Session.is at c.in_ok-call.ensures.reads in
+    IfOk-weaker c.reply_to_session.result _ _ (λ reply replies. inl (session (session_names c.in-Session.session), reads, replies)) c.reply_to_session.ensures

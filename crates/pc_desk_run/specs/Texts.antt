@@ -1,0 +1,97 @@
+-- The texts that a run writes.
+use Rattle.std.specs.Prelude.{ℕ, ◌-◌, ◌==◌, ◌||◌, Bool, true, false, List, [], ◌∷◌, ◌++◌, codes, decimal, get_or, length, map, if◌then◌else◌}
+use Rattle.std.specs.List.{concat}
+use Rattle.pc_model.specs.declared.constraint.Constraint.{Constraint}
+use Rattle.pc_model.specs.declared.fault.Fault.{Fault}
+use Rattle.pc_model.specs.declared.fault.FileKind.{FileKind}
+use Rattle.pc_model.specs.declared.fault.FileKind.TheVariants as kinds
+use Rattle.pc_model.specs.FaultTexts.{file_name_of}
+use Rattle.pc_files.specs.Texts.{line_break, malformed_line}
+use Rattle.pc_desk_draw.specs.Charts.{chart_text}
+use Rattle.pc_desk_draw.specs.Pictures.{picture_text}
+use Rattle.pc_desk_table.specs.declared.entry.Entry.{Entry}
+use Rattle.pc_desk_table.specs.Json.{json_text}
+use Rattle.pc_desk_table.specs.Lines.{lines_text}
+use Rattle.pc_desk_table.specs.Table.{table_text}
+use Rattle.pc_desk_words.specs.Calls.{file_names}
+use Rattle.pc_desk_words.specs.Words.{Asked, FileNames, ask, session}
+use Rattle.pc_desk_words.specs.declared.form.Form.{Form}
+use Rattle.pc_desk_words.specs.declared.form.Form.TheVariants as forms
+use Rattle.pc_desk_run.specs.declared.line.Sources.{Sources}
+
+-- what is shown, in a form
+abbrev pub text_of : Form → List Entry → List ℕ
+text_of forms.Text entries = lines_text entries
+text_of forms.Table entries = table_text entries
+text_of forms.Json entries = json_text entries
+text_of forms.Chart entries = chart_text entries
+text_of forms.Picture entries = picture_text entries
+
+-- ---- why nothing is shown
+
+-- what a call reads: the names of its files, its script and its queries
+pub record Named : Type 0 where
+  pub files : FileNames
+  pub script : List ℕ
+  pub queries : List (List ℕ)
+
+abbrev pub named_in : Asked → Named
+named_in (ask names) = record { files = names.files; script = []; queries = names.queries }
+named_in (session names) = record { files = names.files; script = names.script; queries = [] }
+
+abbrev pub named_of : Sources → Named
+named_of sources = record { files = file_names sources.files; script = sources.script.now; queries = map (λ text. text.now) sources.queries.now }
+
+-- a file as it was named, or the text of the query at a place
+abbrev pub name_of : Named → FileKind → ℕ → List ℕ
+name_of named kinds.Schema place = named.files.schema
+name_of named kinds.Rows place = named.files.rows
+name_of named kinds.Constraints place = named.files.constraints
+name_of named kinds.Query place = get_or named.queries (place - 1) []
+name_of named kinds.Script place = named.script
+name_of named kinds.Document place = []
+
+-- what the places of a file count, which is asked of those that have places
+abbrev pub part_name : FileKind → List ℕ
+part_name kinds.Rows = codes "record"
+part_name kinds.Schema = codes "line"
+part_name kinds.Constraints = codes "line"
+part_name kinds.Script = codes "line"
+part_name kinds.Document = codes "line"
+part_name kinds.Query = codes "line"
+
+abbrev pub is_query : FileKind → Bool
+is_query kinds.Query = true
+is_query kinds.Schema = false
+is_query kinds.Rows = false
+is_query kinds.Constraints = false
+is_query kinds.Script = false
+is_query kinds.Document = false
+
+-- the file, with the line or record where it has one; or the query
+abbrev pub place_line : Named → FileKind → ℕ → List ℕ
+place_line named kind place =
+    if is_query kind || (place == 0) then concat (codes "  " ∷ name_of named kind place ∷ line_break ∷ [])
+    else concat (codes "  " ∷ name_of named kind place ∷ codes ", " ∷ part_name kind ∷ codes " " ∷ decimal place ∷ line_break ∷ [])
+
+-- the line of a refusal, and below it what it speaks of
+abbrev pub refused_lines : Named → Fault → List ℕ
+refused_lines named fault = malformed_line fault ++ place_line named fault.file fault.place
+
+abbrev pub unread_line : Named → FileKind → List ℕ
+unread_line named kind = concat (codes "read fault: " ∷ file_name_of kind ∷ codes ": " ∷ name_of named kind 0 ∷ line_break ∷ [])
+
+-- ---- what is said beside
+
+abbrev pub note_if : Bool → List ℕ
+note_if true = codes "no constraints: no row is taken as lost" ++ line_break
+note_if false = []
+
+abbrev pub note_on : List Constraint → List ℕ
+note_on constraints = note_if (length constraints == 0)
+
+abbrev pub write_fault_line : List ℕ
+write_fault_line = codes "write fault: standard output" ++ line_break
+
+abbrev pub memory_line : List ℕ
+memory_line = codes "out of memory" ++ line_break

@@ -1,0 +1,55 @@
+ghost use Rattle.std.specs.Prelude.{IfOk};
+ghost use Rattle.pc_files.specs.Loading.{reading_of};
+ghost use Rattle.pc_desk_words.specs.Calls.{ask_names, session_names};
+ghost use Rattle.pc_desk_run.specs.Inputs.{IsAsking, IsScripted, ReadsAsking, ReadsScripted};
+
+use pc_base::Shelf;
+use pc_desk_answers::{Question, read_questions};
+use pc_desk_words::{Ask, Session};
+use pc_files::{Observed, Stop, load_script, read_observed};
+use pc_list::Seq;
+use pc_session::Line;
+use std::alloc::Global;
+
+/// What is asked, and of what.
+#[derive(Debug, Drop)]
+pub(crate) struct Asking {
+    pub observed: Observed,
+    pub questions: Seq<Question>,
+}
+
+/// What a session begins with, and the lines that it follows.
+#[derive(Debug, Drop)]
+pub(crate) struct Scripted {
+    pub observed: Observed,
+    pub lines: Seq<Line>,
+}
+
+/// Reads the files of `ask`, and then its queries.
+pub(crate) fn read_asking<F: Shelf>(alloc: Global, files: &mut F, ask: &Ask) -> Result<Asking, Stop>
+    ensures read { ReadsAsking (reading_of F.told F.leads files.old files.new) (ask_names ask.now) result }
+    ensures sound { IfOk result IsAsking }
+{
+    let names = ask.files;
+    let observed = read_observed(alloc, files, names.schema, names.rows, names.constraints)?;
+    let questions = read_questions(alloc, &observed.schema, ask.queries.as_slice())?;
+    Ok(Asking {
+        observed,
+        questions,
+    })
+}
+
+/// Reads the files of `session`, the last of which is the script.
+pub(crate) fn read_scripted<F: Shelf>(
+    alloc: Global,
+    files: &mut F,
+    session: &Session,
+) -> Result<Scripted, Stop>
+    ensures read { ReadsScripted (reading_of F.told F.leads files.old files.new) (session_names session.now) result }
+    ensures sound { IfOk result IsScripted }
+{
+    let names = session.files;
+    let observed = read_observed(alloc, files, names.schema, names.rows, names.constraints)?;
+    let lines = load_script(alloc, files, session.script, &observed)?;
+    Ok(Scripted { observed, lines })
+}

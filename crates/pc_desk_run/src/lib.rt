@@ -1,0 +1,15 @@
+//! The run of `pc_desk`, from the bytes of its files to those on standard output and on standard error.
+#![tactic(auto)]
+
+mod ended;
+mod form;
+mod input;
+mod line;
+mod note;
+mod reply;
+mod run;
+mod session;
+mod settled;
+
+pub use ended::Ended;
+pub use run::desk;

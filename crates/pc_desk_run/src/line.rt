@@ -1,0 +1,119 @@
+ghost use Rattle.std.specs.Prelude.{◌≡◌, ◌-◌, [], IfOk, get_or, map, string_bytes};
+ghost use Rattle.pc_desk_words.specs.Calls.{ask_names, session_names};
+ghost use Rattle.pc_desk_words.specs.Words as words;
+ghost use Rattle.pc_desk_run.specs.Texts.{is_query, name_of, named_in, named_of, part_name, place_line, refused_lines, unread_line};
+
+use pc_desk_words::{Ask, Files, Session};
+use pc_files::{Stop, malformed_line};
+use pc_list::Seq;
+use pc_model::{Fault, FileKind};
+use pc_num::Memory;
+use std::alloc::Global;
+
+/// The names of what a verb reads: its files, and its queries or its script.
+#[derive(Clone, Copy, Debug)]
+pub(crate) struct Sources<'a> {
+    pub files: Files<'a>,
+    pub script: &'a str,
+    pub queries: &'a [&'a str],
+}
+
+/// What `ask` reads.
+pub(crate) fn sources_of_ask<'a>(ask: &'a Ask<'a>) -> Sources<'a>
+    ensures { named_of result ≡ named_in (words.ask (ask_names ask.now)) }
+{
+    Sources {
+        files: ask.files,
+        script: "",
+        queries: ask.queries.as_slice(),
+    }
+}
+
+/// What `session` reads.
+pub(crate) fn sources_of_session<'a>(session: &Session<'a>) -> Sources<'a>
+    ensures { named_of result ≡ named_in (words.session (session_names session.now)) }
+{
+    Sources {
+        files: session.files,
+        script: session.script,
+        queries: &[],
+    }
+}
+
+/// The lines that tell of a file or a query that is refused: that of `pc`, and below it where the fault is.
+pub(crate) fn refused_lines(
+    alloc: Global,
+    sources: &Sources,
+    fault: Fault,
+) -> Result<Seq<u8>, Memory>
+    ensures { IfOk result (λ text. text ≡ refused_lines (named_of sources.now) fault) }
+{
+    let mut text = malformed_line(alloc, fault)?.into_bytes();
+    let below = place_line(alloc, sources, fault.file, fault.place)?;
+    text.extend_from_slice(below.as_bytes())?;
+    Ok(Seq::from_vec(text))
+}
+
+// The file, with the line or record where it has one; or the query.
+fn place_line(
+    alloc: Global,
+    sources: &Sources,
+    kind: FileKind,
+    place: u64,
+) -> Result<String, Memory>
+    ensures { IfOk result (λ text. string_bytes text ≡ place_line (named_of sources.now) kind place) }
+{
+    let name = name_of(sources, kind, place);
+    if kind == FileKind::Query || place == 0 {
+        return Ok(format!(in alloc; "  {name}\n")?);
+    }
+    let part = part_name(kind);
+    Ok(format!(in alloc; "  {name}, {part} {place}\n")?)
+}
+
+/// The line that tells of a file that could not be read.
+pub(crate) fn unread_line(
+    alloc: Global,
+    sources: &Sources,
+    kind: FileKind,
+) -> Result<Seq<u8>, Memory>
+    ensures { IfOk result (λ text. text ≡ unread_line (named_of sources.now) kind) }
+{
+    let file = kind.name();
+    let name = name_of(sources, kind, 0);
+    let line = format!(in alloc; "read fault: {file}: {name}\n")?;
+    Ok(Seq::from_vec(line.into_bytes()))
+}
+
+// A file as it was named, or the text of the query at a place.
+fn name_of<'a>(sources: &Sources<'a>, kind: FileKind, place: u64) -> &'a str
+    ensures { result.now ≡ name_of (named_of sources.now) kind place }
+{
+    match kind {
+        FileKind::Schema => sources.files.schema,
+        FileKind::Rows => sources.files.rows,
+        FileKind::Constraints => sources.files.constraints,
+        FileKind::Script => sources.script,
+        FileKind::Query => query_at(sources.queries, place),
+        FileKind::Document => "",
+    }
+}
+
+fn query_at<'a>(queries: &[&'a str], place: u64) -> &'a str
+    ensures { result.now ≡ get_or (map (λ text. text.now) queries.now) (place - 1) [] }
+{
+    match queries.get(place.saturating_sub(1) as usize) {
+        Some(query) => *query,
+        None => "",
+    }
+}
+
+/// What the places of a file count.
+fn part_name(kind: FileKind) -> &'static str
+    ensures { result.now ≡ part_name kind }
+{
+    match kind {
+        FileKind::Rows => "record",
+        _ => "line",
+    }
+}

@@ -1,0 +1,138 @@
+ghost use Rattle.std.specs.Prelude.{◌≡◌, IfOk, map, string_bytes};
+ghost use Rattle.pc_files.specs.Loading.{reading_of};
+ghost use Rattle.pc_desk_table.specs.declared.entry.Entry.{Entry};
+ghost use Rattle.pc_desk_words.specs.Calls.{ask_names, session_names};
+ghost use Rattle.pc_desk_words.specs.Words.{IsBudget};
+ghost use Rattle.pc_desk_words.specs.Words as words;
+ghost use Rattle.pc_desk_run.specs.Inputs.{IsAsking, IsScripted};
+ghost use Rattle.pc_desk_run.specs.Outcome.{asks, follows};
+ghost use Rattle.pc_desk_run.specs.Replies.{IsStopReply, RepliesTo, Responds, SaysInput, Shows};
+ghost use Rattle.pc_desk_run.specs.Texts.{named_of};
+
+use crate::ended::Ended;
+use crate::form::text_of;
+use crate::input::{Asking, Scripted, read_asking, read_scripted};
+use crate::line::{Sources, refused_lines, sources_of_ask, sources_of_session, unread_line};
+use crate::note::note_on;
+use crate::session::follow_script;
+use crate::settled::ended_of;
+use pc_base::Shelf;
+use pc_desk_answers::answer_questions;
+use pc_desk_table::Entry;
+use pc_desk_words::{Ask, Call, Form, Session, read_call};
+use pc_files::Stop;
+use pc_list::Seq;
+use pc_num::Memory;
+use std::alloc::Global;
+
+/// What is replied to words: what was asked for, with a note that goes beside it; or why it is not given.
+#[derive(Debug, Drop)]
+pub(crate) enum Reply {
+    Says {
+        ended: Ended,
+        text: Seq<u8>,
+        note: &'static str,
+    },
+    Refuses {
+        ended: Ended,
+        text: Seq<u8>,
+    },
+}
+
+/// The reply to any words.
+pub(crate) fn respond<F: Shelf>(
+    alloc: Global,
+    words: &[String],
+    files: &mut F,
+) -> Result<Reply, Memory>
+    ensures { IfOk result (Responds (reading_of F.told F.leads files.old files.new) (map string_bytes words.now)) }
+{
+    let call = read_call(alloc, words)?;
+    match call {
+        Call::Ask(ask) => reply_to_ask(alloc, files, &ask),
+        Call::Session(session) => reply_to_session(alloc, files, &session),
+        Call::Shows(text) => Ok(Reply::Says {
+            ended: Ended::Settled,
+            text: Seq::from_vec(text.into_bytes()),
+            note: "",
+        }),
+        Call::Refused(text) => Ok(Reply::Refuses {
+            ended: Ended::Refused,
+            text: Seq::from_vec(text.into_bytes()),
+        }),
+    }
+}
+
+fn reply_to_ask<F: Shelf>(alloc: Global, files: &mut F, ask: &Ask) -> Result<Reply, Memory>
+    requires { IsBudget ask.now.nodes }
+    ensures { IfOk result (RepliesTo (reading_of F.told F.leads files.old files.new) (words.ask (ask_names ask.now))) }
+{
+    match read_asking(alloc, files, ask) {
+        Ok(asking) => answered(alloc, &asking, ask.form, ask.nodes),
+        Err(stop) => stopped(alloc, &sources_of_ask(ask), stop),
+    }
+}
+
+fn reply_to_session<F: Shelf>(
+    alloc: Global,
+    files: &mut F,
+    session: &Session,
+) -> Result<Reply, Memory>
+    requires { IsBudget session.now.nodes }
+    ensures { IfOk result (RepliesTo (reading_of F.told F.leads files.old files.new) (words.session (session_names session.now))) }
+{
+    match read_scripted(alloc, files, session) {
+        Ok(scripted) => followed(alloc, scripted, session.form, session.nodes),
+        Err(stop) => stopped(alloc, &sources_of_session(session), stop),
+    }
+}
+
+fn answered(alloc: Global, asking: &Asking, form: Form, nodes: u32) -> Result<Reply, Memory>
+    requires asking { IsAsking asking.now }
+    requires budget { IsBudget nodes }
+    ensures says { IfOk result (SaysInput form (asks nodes asking.now)) }
+{
+    let questions = asking.questions.as_slice();
+    let entries = answer_questions(alloc, &asking.observed, questions, nodes)?;
+    shown(
+        alloc,
+        form,
+        entries.as_slice(),
+        note_on(asking.observed.constraints.as_slice()),
+    )
+}
+
+fn followed(alloc: Global, scripted: Scripted, form: Form, nodes: u32) -> Result<Reply, Memory>
+    requires scripted { IsScripted scripted }
+    requires budget { IsBudget nodes }
+    ensures { IfOk result (SaysInput form (follows nodes scripted)) }
+{
+    let entries = follow_script(alloc, scripted, nodes)?;
+    shown(alloc, form, entries.as_slice(), "")
+}
+
+fn shown(alloc: Global, form: Form, entries: &[Entry], note: &'static str) -> Result<Reply, Memory>
+    ensures { IfOk result (λ reply. Shows form entries.now note.now reply) }
+{
+    Ok(Reply::Says {
+        ended: ended_of(entries),
+        text: Seq::from_vec(text_of(alloc, form, entries)?),
+        note,
+    })
+}
+
+fn stopped(alloc: Global, sources: &Sources, stop: Stop) -> Result<Reply, Memory>
+    ensures { IfOk result (IsStopReply (named_of sources.now) stop) }
+{
+    match stop {
+        Stop::Refused(fault) => Ok(Reply::Refuses {
+            ended: Ended::Refused,
+            text: refused_lines(alloc, sources, fault)?,
+        }),
+        Stop::Unread(kind) => Ok(Reply::Refuses {
+            ended: Ended::ReadFault,
+            text: unread_line(alloc, sources, kind)?,
+        }),
+        Stop::Memory => Err(Memory),
+    }
+}

@@ -1,0 +1,64 @@
+ghost use Rattle.std.specs.Prelude.{◌≡◌};
+ghost use Rattle.std.specs.List.{list_any};
+ghost use Rattle.pc_desk_run.specs.Endings.{ended_of, has_outer, is_impossible, is_open, is_outer};
+
+use crate::ended::Ended;
+use pc_desk_table::{End, Entry, Mark, Range, Said, SaidLack};
+
+/// How much of what is shown is settled.
+pub(crate) fn ended_of(entries: &[Entry]) -> Ended
+    ensures ended { result ≡ ended_of entries.now }
+{
+    if has_impossible(entries) {
+        return Ended::Impossible;
+    }
+    if has_open(entries) {
+        return Ended::Open;
+    }
+    Ended::Settled
+}
+
+fn has_impossible(entries: &[Entry]) -> bool
+    ensures { result ≡ list_any is_impossible entries.now }
+{
+    entries.iter().any(|entry| is_impossible(entry))
+}
+
+fn has_open(entries: &[Entry]) -> bool
+    ensures { result ≡ list_any is_open entries.now }
+{
+    entries.iter().any(|entry| is_open(entry))
+}
+
+fn is_impossible(entry: &Entry) -> bool
+    ensures { result ≡ is_impossible entry.now }
+{
+    matches!(entry.relation, Said::Impossible)
+}
+
+fn is_open(entry: &Entry) -> bool
+    ensures { result ≡ is_open entry.now }
+{
+    if matches!(entry.relation, Said::Undecided) {
+        return true;
+    }
+    if matches!(entry.lack, Some(SaidLack::Undecided)) {
+        return true;
+    }
+    has_outer(&entry.range)
+}
+
+fn has_outer(range: &Option<Range>) -> bool
+    ensures { result ≡ has_outer range.now }
+{
+    match range {
+        Some(range) => is_outer(&range.low) || is_outer(&range.high),
+        None => false,
+    }
+}
+
+fn is_outer(end: &End) -> bool
+    ensures { result ≡ is_outer end.now.mark }
+{
+    matches!(end.mark, Mark::Outer)
+}

@@ -1,0 +1,5 @@
+pub mod TableBack
+pub mod Shallow
+pub mod LineFeed
+pub mod JsonBack
+pub mod Fitting

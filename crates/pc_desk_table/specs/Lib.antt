@@ -1,0 +1,6 @@
+pub mod Names
+pub mod Table
+pub mod Reading
+pub mod Json
+pub mod Remarks
+pub mod Lines

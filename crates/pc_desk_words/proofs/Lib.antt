@@ -1,0 +1,4 @@
+mod Budgets
+mod PlainWords
+mod Tellings
+mod Verbs

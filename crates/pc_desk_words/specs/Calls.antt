@@ -1,0 +1,66 @@
+-- What the code of a call holds, and what words come to.
+use Rattle.std.specs.Prelude.{◌≡◌, ◌≢◌, ◌≤◌, ⊤, ℕ, true, false, List, map, length, Option, Some, None}
+use Rattle.clap.specs.Words.{fault_of}
+use Rattle.clap.specs.declared.error.kind.ErrorKind.{ErrorKind}
+use Rattle.clap.specs.declared.error.kind.ErrorKind.TheVariants.{OutOfMemory}
+use Rattle.pc_desk_words.specs.Program.{desk_app}
+use Rattle.pc_desk_words.specs.Words.{Asked, AskNames, FileNames, HeadNames, IsBudget, SessionNames, ask, asked_of, is_request, may_show, only_shows, session}
+use Rattle.pc_desk_words.specs.declared.call.Ask.{Ask}
+use Rattle.pc_desk_words.specs.declared.call.Call.{Call}
+use Rattle.pc_desk_words.specs.declared.call.Call.TheVariants as calls
+use Rattle.pc_desk_words.specs.declared.call.Files.{Files}
+use Rattle.pc_desk_words.specs.declared.call.Head.{Head}
+use Rattle.pc_desk_words.specs.declared.call.Session.{Session}
+
+abbrev pub file_names : Files → FileNames
+file_names files = record { schema = files.schema.now; rows = files.rows.now; constraints = files.constraints.now }
+
+abbrev pub head_names : Head → HeadNames
+head_names head = record { form = head.form; nodes = head.nodes; files = file_names head.files }
+
+abbrev pub ask_names : Ask → AskNames
+ask_names call =
+    record { form = call.form; nodes = call.nodes; files = file_names call.files; queries = map (λ text. text.now) call.queries.items }
+
+abbrev pub session_names : Session → SessionNames
+session_names call =
+    record { form = call.form; nodes = call.nodes; files = file_names call.files; script = call.script.now }
+
+-- what was found is this call
+abbrev pub Holds : Option Asked → Call → Type 0
+Holds asked (calls.Ask call) = asked ≡ Some (ask (ask_names call))
+Holds asked (calls.Session call) = asked ≡ Some (session (session_names call))
+Holds asked (calls.Shows text) = ⊥
+Holds asked (calls.Refused text) = ⊥
+
+-- or no call
+abbrev pub HoldsIf : Option Asked → Option Call → Type 0
+HoldsIf asked None = asked ≡ None
+HoldsIf asked (Some call) = Holds asked call
+
+-- what is told of an error of this kind: want of memory is told elsewhere
+abbrev pub Tells : ErrorKind → Call → Type 0
+Tells kind (calls.Ask call) = ⊥
+Tells kind (calls.Session call) = ⊥
+Tells kind (calls.Shows text) = is_request kind ≡ true
+Tells kind (calls.Refused text) = (is_request kind ≡ false) × (kind ≢ OutOfMemory)
+
+abbrev pub IsRefusal : Call → Type 0
+IsRefusal (calls.Ask call) = ⊥
+IsRefusal (calls.Session call) = ⊥
+IsRefusal (calls.Shows text) = ⊥
+IsRefusal (calls.Refused text) = ⊤
+
+-- the words are this call; or they are none, and help or a refusal is told as they ask for it
+abbrev pub Reads : List (List ℕ) → Call → Type 0
+Reads words (calls.Ask call) = asked_of words ≡ Some (ask (ask_names call))
+Reads words (calls.Session call) = asked_of words ≡ Some (session (session_names call))
+Reads words (calls.Shows text) = (asked_of words ≡ None) × (may_show (fault_of desk_app words) ≡ true)
+Reads words (calls.Refused text) = (asked_of words ≡ None) × (only_shows (fault_of desk_app words) ≡ false)
+
+-- the numbers of a call are ones that words may ask for, and something is asked
+abbrev pub HasBudget : Call → Type 0
+HasBudget (calls.Ask call) = IsBudget call.nodes × (1 ≤ length call.queries.items)
+HasBudget (calls.Session call) = IsBudget call.nodes
+HasBudget (calls.Shows text) = ⊤
+HasBudget (calls.Refused text) = ⊤

@@ -1,0 +1,85 @@
+-- The program as `clap` reads it: which verbs it has, and which options and words each takes.
+use Rattle.std.specs.Prelude.{ℕ, pos, true, false, [], ◌∷◌, codes, Some}
+use Rattle.clap.specs.Words.{App, Rule, Shape, Text, new_app, new_rule, with_rule}
+use Rattle.clap.specs.Simple.{new_shape}
+use Rattle.clap.specs.declared.builder.action.ArgAction.TheVariants.{Append}
+use Rattle.clap.specs.declared.builder.value_parser.ValueParser.{ValueParser}
+use Rattle.clap.specs.declared.builder.value_parser.ValueParser.TheVariants as parsers
+
+-- the most nodes of one search that words may ask for
+abbrev pub most_nodes : ℕ
+most_nodes = 100_000
+
+-- the most queries of a call
+abbrev pub most_queries : ℕ
+most_queries = 16
+
+-- what its value has to be is asked of the parser
+abbrev pub form_rule : ValueParser → Rule
+form_rule forms = record (new_rule (codes "as")) {
+  long = Some (codes "as");
+  value_names = 1;
+  parser = Some forms;
+  defaults = codes "text" ∷ [];
+}
+
+abbrev pub nodes_rule : Rule
+nodes_rule = record (new_rule (codes "nodes")) {
+  long = Some (codes "nodes");
+  value_names = 1;
+  parser = Some (parsers.Signed (pos 1) (pos most_nodes));
+  defaults = codes "10000" ∷ [];
+}
+
+-- a word that has to be there
+abbrev pub file_rule : Text → Rule
+file_rule id = record (new_rule id) { value_names = 1; required = true }
+
+abbrev pub query_rule : Rule
+query_rule = record (new_rule (codes "query")) {
+  value_names = 1;
+  range = Some (record { start_inclusive = 1; end_inclusive = most_queries });
+  action = Some Append;
+  required = true;
+}
+
+-- the options of both verbs
+abbrev pub with_options : App → ValueParser → App
+with_options app forms = with_rule (with_rule app (form_rule forms)) nodes_rule
+
+-- the first two of their files
+abbrev pub with_rows : App → App
+with_rows app = with_rule (with_rule app (file_rule (codes "schema"))) (file_rule (codes "rows"))
+
+-- the third, and what stands last
+abbrev pub with_ends : App → Rule → App
+with_ends app last = with_rule (with_rule app (file_rule (codes "constraints"))) last
+
+abbrev pub with_words : App → ValueParser → Rule → App
+with_words app forms last = with_ends (with_rows (with_options app forms)) last
+
+abbrev pub verb : ValueParser → Text → Rule → Shape
+verb forms name last = (with_words (new_app name) forms last).top
+
+abbrev pub ask_verb : ValueParser → Shape
+ask_verb forms = verb forms (codes "ask") query_rule
+
+abbrev pub session_verb : ValueParser → Shape
+session_verb forms = verb forms (codes "session") (file_rule (codes "script"))
+
+-- a verb has to be named, and without a word help is told
+abbrev pub desk_shape : Shape
+desk_shape = record (new_shape (codes "pc_desk")) {
+  is_leaf = false;
+  no_binary_name = true;
+  has_version = true;
+  subcommand_required = true;
+  arg_required_else_help = true;
+}
+
+abbrev pub desk_with : ValueParser → App
+desk_with forms = record { top = desk_shape; subs = ask_verb forms ∷ session_verb forms ∷ [] }
+
+-- any text may stand as a form here: which it names is told by `form_named`
+abbrev pub desk_app : App
+desk_app = desk_with parsers.String

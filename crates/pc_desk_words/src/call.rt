@@ -1,0 +1,121 @@
+ghost use Rattle.std.specs.Prelude.{◌≡◌, ◌≢◌, map, string_bytes, IfOk};
+ghost use Rattle.clap.specs.Words.{app_of};
+ghost use Rattle.clap.specs.Values.{kind_of};
+ghost use Rattle.clap.specs.declared.error.kind.ErrorKind.TheVariants.{OutOfMemory};
+ghost use Rattle.pc_desk_words.specs.Calls.{HasBudget, IsRefusal, Reads, Tells};
+ghost use Rattle.pc_desk_words.specs.Program.{desk_app};
+ghost use Rattle.pc_desk_words.specs.Words.{is_request};
+
+use crate::form::Form;
+use crate::found::call_in;
+use crate::parser::{desk, strict_desk};
+use clap::error::ErrorKind;
+use clap::{Command, Error};
+use pc_num::Memory;
+use std::alloc::Global;
+
+/// The names of the three files.
+#[derive(Clone, Copy, Debug)]
+pub struct Files<'a> {
+    pub schema: &'a str,
+    pub rows: &'a str,
+    pub constraints: &'a str,
+}
+
+/// The verb `ask`: how answers are shown, how many nodes each search may have, the files, and the queries.
+#[derive(Debug, Drop)]
+pub struct Ask<'a> {
+    pub form: Form,
+    pub nodes: u32,
+    pub files: Files<'a>,
+    pub queries: Vec<&'a str>,
+}
+
+/// The verb `session`: how answers are shown, how many nodes each search may have, and the files.
+#[derive(Clone, Copy, Debug)]
+pub struct Session<'a> {
+    pub form: Form,
+    pub nodes: u32,
+    pub files: Files<'a>,
+    pub script: &'a str,
+}
+
+/// What words come to.
+#[derive(Debug, Drop)]
+pub enum Call<'a> {
+    Ask(Ask<'a>),
+    Session(Session<'a>),
+    /// The help or version that was asked for.
+    Shows(String),
+    /// What is wrong with the words, as `clap` tells it.
+    Refused(String),
+}
+
+/// What both verbs have.
+#[derive(Clone, Copy, Debug)]
+pub(crate) struct Head<'a> {
+    pub form: Form,
+    pub nodes: u32,
+    pub files: Files<'a>,
+}
+
+/// The call that the words after the program's name are.
+pub fn read_call<'a>(alloc: Global, words: &'a [String]) -> Result<Call<'a>, Memory>
+    ensures reads { IfOk result (Reads (map string_bytes words.now)) }
+    ensures numbers { IfOk result HasBudget }
+{
+    read_by(alloc, desk(alloc)?, words)
+}
+
+fn read_by<'a>(alloc: Global, command: Command<'a>, words: &'a [String]) -> Result<Call<'a>, Memory>
+    requires { app_of command ≡ desk_app }
+    ensures reads { IfOk result (Reads (map string_bytes words.now)) }
+    ensures numbers { IfOk result HasBudget }
+{
+    match command.try_get_matches_from(words) {
+        Ok(found) => match call_in(alloc, &found)? {
+            Some(call) => Ok(call),
+            None => form_refused(alloc, words),
+        },
+        Err(error) => told(alloc, &error),
+    }
+}
+
+/// What `clap` says in place of matches: want of memory alone is an error.
+fn told<'a>(alloc: Global, error: &Error) -> Result<Call<'a>, Memory>
+    ensures tells { IfOk result (Tells (kind_of error.now)) }
+    ensures numbers { IfOk result HasBudget }
+{
+    let text = text_of(alloc, error)?;
+    if is_request(error.kind()) {
+        return Ok(Call::Shows(text));
+    }
+    Ok(Call::Refused(text))
+}
+
+fn text_of(alloc: Global, error: &Error) -> Result<String, Memory>
+    ensures { IfOk result (λ text. kind_of error.now ≢ OutOfMemory) }
+{
+    if error.kind() == ErrorKind::OutOfMemory {
+        return Err(Memory);
+    }
+    Ok(format!(in alloc; "{error}")?)
+}
+
+/// What `clap` says of words whose form is none: it takes no others in which something of a call is missing.
+fn form_refused<'a>(alloc: Global, words: &'a [String]) -> Result<Call<'a>, Memory>
+    ensures refuses { IfOk result IsRefusal }
+    ensures numbers { IfOk result HasBudget }
+{
+    match strict_desk(alloc)?.try_get_matches_from(words) {
+        Ok(_) => Ok(Call::Refused(String::new(alloc))),
+        Err(error) => Ok(Call::Refused(text_of(alloc, &error)?)),
+    }
+}
+
+/// Whether help or the version was asked for.
+fn is_request(kind: ErrorKind) -> bool
+    ensures { result ≡ is_request kind }
+{
+    matches!(kind, ErrorKind::DisplayHelp | ErrorKind::DisplayVersion)
+}

@@ -1,0 +1,158 @@
+//! What `clap` found of a verb, read as a call.
+ghost use Rattle.std.specs.Prelude.{◌≡◌, ◌≤◌, map, length, IfOk, IfSome, option_map};
+ghost use Rattle.clap.specs.Words.{found_of, rows_of, subcommand_rows_of};
+ghost use Rattle.clap.specs.Walk.{all_of, first_of};
+ghost use Rattle.pc_desk_words.specs.Calls.{ask_names, file_names, head_names, session_names, HasBudget, HoldsIf};
+ghost use Rattle.pc_desk_words.specs.Words.{ask_in, asked_by, asked_in, asking, budget_of, files_in, form_in, head_in, nodes_in, session_in, within, IsBudget};
+
+use crate::call::{Ask, Call, Files, Head, Session};
+use crate::form::Form;
+use clap::ArgMatches;
+use pc_num::Memory;
+use std::alloc::Global;
+
+const MOST_NODES: u32 = 100_000;
+
+/// The call of the verb that was found, if its form is one and nothing is missing.
+pub(crate) fn call_in<'a>(alloc: Global, found: &ArgMatches<'a>) -> Result<Option<Call<'a>>, Memory>
+    ensures holds { IfOk result (HoldsIf (asked_by (subcommand_rows_of found.now))) }
+    ensures numbers { IfOk result (λ call. IfSome call HasBudget) }
+{
+    match verb_in(found) {
+        Some((name, found)) => call_of(alloc, name, found),
+        None => Ok(None),
+    }
+}
+
+fn verb_in<'b, 'a>(found: &'b ArgMatches<'a>) -> Option<(&'a str, &'b ArgMatches<'a>)>
+    ensures { option_map (λ p. (p.0.now, rows_of (found_of p.1.now))) result ≡ subcommand_rows_of found.now }
+{
+    found.subcommand()
+}
+
+fn call_of<'a>(
+    alloc: Global,
+    name: &str,
+    found: &ArgMatches<'a>,
+) -> Result<Option<Call<'a>>, Memory>
+    ensures holds { IfOk result (HoldsIf (asked_in name.now (rows_of (found_of found.now)))) }
+    ensures numbers { IfOk result (λ call. IfSome call HasBudget) }
+{
+    match name {
+        "ask" => Ok(ask_in(alloc, found)?.map(Call::Ask)),
+        "session" => Ok(session_in(found).map(Call::Session)),
+        _ => Ok(None),
+    }
+}
+
+fn ask_in<'a>(alloc: Global, found: &ArgMatches<'a>) -> Result<Option<Ask<'a>>, Memory>
+    ensures reads { IfOk result (λ call. option_map ask_names call ≡ ask_in (rows_of (found_of found.now))) }
+    ensures numbers { IfOk result (λ call. IfSome call (λ ask. IsBudget ask.nodes × (1 ≤ length ask.queries.items))) }
+{
+    let Some(head) = head_in(found) else {
+        return Ok(None);
+    };
+    let Some(queries) = texts_in(found, "query") else {
+        return Ok(None);
+    };
+    asking(alloc, head, queries)
+}
+
+/// At least one query has to stand there.
+fn asking<'a>(alloc: Global, head: Head<'a>, queries: &[&'a str]) -> Result<Option<Ask<'a>>, Memory>
+    requires { IsBudget head.nodes }
+    ensures reads { IfOk result (λ call. option_map ask_names call ≡ asking (head_names head.entry) (map (λ text. text.now) queries.now)) }
+    ensures numbers { IfOk result (λ call. IfSome call (λ ask. IsBudget ask.nodes × (1 ≤ length ask.queries.items))) }
+{
+    if queries.is_empty() {
+        return Ok(None);
+    }
+    Ok(Some(Ask {
+        form: head.form,
+        nodes: head.nodes,
+        files: head.files,
+        queries: queries.to_vec(alloc)?,
+    }))
+}
+
+fn session_in<'a>(found: &ArgMatches<'a>) -> Option<Session<'a>>
+    ensures reads { option_map session_names result ≡ session_in (rows_of (found_of found.now)) }
+    ensures numbers { IfSome result (λ session. IsBudget session.nodes) }
+{
+    let head = head_in(found)?;
+    let script = text_in(found, "script")?;
+    Some(Session {
+        form: head.form,
+        nodes: head.nodes,
+        files: head.files,
+        script,
+    })
+}
+
+fn head_in<'a>(found: &ArgMatches<'a>) -> Option<Head<'a>>
+    ensures reads { option_map head_names result ≡ head_in (rows_of (found_of found.now)) }
+    ensures numbers { IfSome result (λ head. IsBudget head.nodes) }
+{
+    let form = form_in(found)?;
+    let nodes = nodes_in(found)?;
+    let files = files_in(found)?;
+    Some(Head { form, nodes, files })
+}
+
+fn files_in<'a>(found: &ArgMatches<'a>) -> Option<Files<'a>>
+    ensures { option_map file_names result ≡ files_in (rows_of (found_of found.now)) }
+{
+    let schema = text_in(found, "schema")?;
+    let rows = text_in(found, "rows")?;
+    let constraints = text_in(found, "constraints")?;
+    Some(Files {
+        schema,
+        rows,
+        constraints,
+    })
+}
+
+fn form_in(found: &ArgMatches<'_>) -> Option<Form>
+    ensures { result ≡ form_in (rows_of (found_of found.now)) }
+{
+    Form::named(text_in(found, "as")?)
+}
+
+#[tactic(auto, using(crate::proofs::Budgets::is_budget))]
+fn nodes_in(found: &ArgMatches<'_>) -> Option<u32>
+    ensures reads { result ≡ nodes_in (rows_of (found_of found.now)) }
+    ensures within { IfSome result IsBudget }
+{
+    budget_of(text_in(found, "nodes")?)
+}
+
+fn budget_of(text: &str) -> Option<u32>
+    ensures { result ≡ budget_of text.now }
+{
+    match text.parse::<u32>() {
+        Ok(number) => within(number),
+        Err(_) => None,
+    }
+}
+
+fn within(number: u32) -> Option<u32>
+    ensures { result ≡ within number }
+{
+    if number < 1 || MOST_NODES < number {
+        return None;
+    }
+    Some(number)
+}
+
+/// The value of an option, or a word that is one.
+fn text_in<'a>(found: &ArgMatches<'a>, id: &str) -> Option<&'a str>
+    ensures { option_map (λ text. text.now) result ≡ first_of id.now (rows_of (found_of found.now)) }
+{
+    found.get_str(id)
+}
+
+fn texts_in<'b, 'a>(found: &'b ArgMatches<'a>, id: &str) -> Option<&'b [&'a str]>
+    ensures { option_map (λ all. map (λ text. text.now) all.now) result ≡ all_of id.now (rows_of (found_of found.now)) }
+{
+    found.get_strs(id)
+}

@@ -1,0 +1,15 @@
+ghost use Rattle.std.specs.Prelude.{◌≡◌, ◌<◌, ◌∷◌, [], ℕ, List, All, Some, codes, false, length};
+ghost use Rattle.pc_desk_words.specs.Program.{most_queries};
+ghost use Rattle.pc_desk_words.specs.Words.{ask, asked_of, is_dashed, session, usual_nodes, with_files};
+ghost use Rattle.pc_desk_words.specs.declared.form.Form.TheVariants.{Text};
+
+/// After `ask`, words of which none begins with `-` are the three files and the queries, as they stand: from one to
+/// sixteen, answered as text, with the usual number of nodes.
+pub fn plain_words_are_asked()
+    ensures { (schema rows constraints query : List ℕ) (queries : List (List ℕ)) → All (λ word. is_dashed word ≡ false) (schema ∷ rows ∷ constraints ∷ query ∷ queries) → length queries < most_queries → asked_of (codes "ask" ∷ schema ∷ rows ∷ constraints ∷ query ∷ queries) ≡ Some (ask (record { form = Text; nodes = usual_nodes; files = with_files schema rows constraints; queries = query ∷ queries })) }
+{}
+
+/// After `session`, four such words are the three files and the script.
+pub fn plain_words_are_a_session()
+    ensures { (schema rows constraints script : List ℕ) → All (λ word. is_dashed word ≡ false) (schema ∷ rows ∷ constraints ∷ script ∷ []) → asked_of (codes "session" ∷ schema ∷ rows ∷ constraints ∷ script ∷ []) ≡ Some (session (record { form = Text; nodes = usual_nodes; files = with_files schema rows constraints; script = script })) }
+{}

@@ -1,0 +1,13 @@
+//! The words of a call of `pc_desk`, read as what is asked, or told as `clap` tells them; with laws on how plain words are read.
+#![tactic(auto)]
+
+mod call;
+mod form;
+mod found;
+mod laws;
+mod parser;
+mod texts;
+
+pub use call::{Ask, Call, Files, Session, read_call};
+pub use form::Form;
+pub use laws::{plain_words_are_a_session, plain_words_are_asked};
