@@ -1,4 +1,4 @@
-# Completions of pc, pc_view and pc_draft for bash: source this file.
+# Completions of pc, pc_desk, pc_view and pc_draft for bash: source this file.
 _pc() {
   local word=${COMP_WORDS[COMP_CWORD]} command=${COMP_WORDS[1]} previous=${COMP_WORDS[COMP_CWORD - 1]}
   COMPREPLY=()
@@ -9,6 +9,24 @@ _pc() {
   elif [[ $word == -* && $command =~ ^(bound|prove|conflict|quantile|session)$ ]]; then
     mapfile -t COMPREPLY < <(compgen -W "--nodes" -- "$word")
   elif [ "$command" != gen ]; then
+    compopt -o filenames
+    mapfile -t COMPREPLY < <(compgen -f -- "$word")
+  fi
+}
+_pc_desk() {
+  local word=${COMP_WORDS[COMP_CWORD]} previous=${COMP_WORDS[COMP_CWORD - 1]}
+  COMPREPLY=()
+  if [ "$COMP_CWORD" -eq 1 ]; then
+    mapfile -t COMPREPLY < <(compgen -W "ask session help --help --version" -- "$word")
+  elif [ "${COMP_WORDS[1]}" = help ]; then
+    mapfile -t COMPREPLY < <(compgen -W "ask session" -- "$word")
+  elif [ "$previous" = --as ]; then
+    mapfile -t COMPREPLY < <(compgen -W "text table json chart svg" -- "$word")
+  elif [ "$previous" = --nodes ]; then
+    mapfile -t COMPREPLY < <(compgen -W "1 1000 10000 100000" -- "$word")
+  elif [[ $word == -* ]]; then
+    mapfile -t COMPREPLY < <(compgen -W "--as --nodes --help" -- "$word")
+  else
     compopt -o filenames
     mapfile -t COMPREPLY < <(compgen -f -- "$word")
   fi
@@ -39,5 +57,6 @@ _pc_draft() {
   fi
 }
 complete -F _pc pc ./pc
+complete -F _pc_desk pc_desk ./pc_desk
 complete -F _pc_view pc_view ./pc_view
 complete -F _pc_draft pc_draft ./pc_draft
