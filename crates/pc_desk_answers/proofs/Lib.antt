@@ -1,4 +1,5 @@
 mod Asked
 mod Between
+mod LeftRows
 mod Repeats
 pub mod Shown

@@ -1,7 +1,7 @@
 -- The entries of a query's blocks show their answers.
 use Rattle.std.proofs.Common.{◌≡◌, ◌<◌, ◌≤◌, ℕ, ◌+◌, List, [], ◌∷◌, ◌++◌, length, map, flat_map, take, get_or, Option, Some, None, IfSome, Result, IfOk, All, refl, sym, ap, subst, ◌∙◌}
 use Rattle.std.specs.List.{AllZip}
-use Rattle.std.proofs.lemmas.List.{append-nil, flat_map_more, take_all, take_more}
+use Rattle.std.proofs.lemmas.List.{flat_map_more, take_all, take_more}
 use Rattle.std.proofs.lemmas.List.Elements.{All-nil, All-cons, All-head, All-tail}
 use Rattle.pc_num.specs.declared.fraction.Frac.{Frac}
 use Rattle.pc_num.specs.declared.memory.Memory.{Memory}
@@ -20,15 +20,12 @@ use Rattle.pc_avg.specs.Averages.{IsShort, IsShortEnd}
 use Rattle.pc_group.specs.Answers.{AnswersWanted}
 use Rattle.pc_group.specs.Trees.{Told, told, told_after, told_with}
 use Rattle.pc_group.specs.Wanted.{Wanted, allowed_names, wanted, wanted_as, wanted_by, wanted_in, wanted_of}
+use Rattle.pc_group.proofs.Areas.{one_wanted}
 use Rattle.pc_desk_table.specs.declared.entry.Entry.{Entry}
 use Rattle.pc_desk_answers.specs.declared.question.Question.{Question}
 use Rattle.pc_desk_answers.specs.Blocks.{AreShown, Asked, Ground, IsPrinted, Shows, ShowsBlock, asked, asked_by, block, block_entry, entries_between, ground_held}
 
 -- ---- what one query wants
-
-pub one_wanted : (schema : Schema) (query : Query) → wanted schema (query ∷ []) ≡ wanted_by schema query
-unfolding wanted
-one_wanted schema query = append-nil (wanted_by schema query)
 
 abbrev IsOf : Query → Wanted → Type 0
 IsOf query w = w.query ≡ query
@@ -79,8 +76,8 @@ module _ (budget : ℕ) (schema : Schema) (rows : List Row) (constraints : List 
   each_answered (w ∷ ws) [] before each = absurd each
   each_answered (w ∷ ws) (b ∷ bs) before each = one_told w ws b bs (nodes_after before b.tree) (λ later. each_answered ws bs later) each
 
-  pub blocks_answer : (query : Query) (bs : List Block) → AllZip (AnswersWanted budget schema rows constraints) (wanted schema (query ∷ [])) (told bs) → AllZip IsAnswered (wanted_by schema query) bs
-  blocks_answer query bs each = each_answered (wanted_by schema query) bs None (rw (one_wanted schema query) at each)
+  pub blocks_answer : (query : Query) (bs : List Block) → AllZip (AnswersWanted budget schema rows constraints) (wanted_by schema query) (told bs) → AllZip IsAnswered (wanted_by schema query) bs
+  blocks_answer query bs each = each_answered (wanted_by schema query) bs None each
 
   printed_one : (query : Query) (w : Wanted) (b : Block) → w.query ≡ query → IsAnswered w b → IsPrinted query b
   printed_one query w b is answered = λ average. averages_of b.answer.ends (answered.1.short (ap (λ (q : Query). q.agg) is ∙ average))
@@ -92,7 +89,7 @@ module _ (budget : ℕ) (schema : Schema) (rows : List Row) (constraints : List 
   printed_all query (w ∷ ws) (b ∷ bs) of answered =
       All-cons (IsPrinted query) b bs (printed_one query w b (All-head (IsOf query) w ws of) answered.0) (printed_all query ws bs (All-tail (IsOf query) w ws of) answered.1)
 
-  pub are_printed : (query : Query) (bs : List Block) → AllZip (AnswersWanted budget schema rows constraints) (wanted schema (query ∷ [])) (told bs) → All (IsPrinted query) bs
+  pub are_printed : (query : Query) (bs : List Block) → AllZip (AnswersWanted budget schema rows constraints) (wanted_by schema query) (told bs) → All (IsPrinted query) bs
   are_printed query bs each = printed_all query (wanted_by schema query) bs (wanted_are_of schema query) (blocks_answer query bs each)
 
 -- ---- entries
@@ -125,8 +122,8 @@ module _ (ground : Ground) (query : Query) where
   shows_all (w ∷ ws) (b ∷ bs) (l ∷ ls) of answered left =
       (shows_one w b l (All-head (IsOf query) w ws of) answered.0 left.0, shows_all ws bs ls (All-tail (IsOf query) w ws of) answered.1 left.1)
 
-  pub entries_show : (bs ls : List Block) → AllZip (AnswersWanted ground.nodes ground.schema ground.rows ground.constraints) (wanted ground.schema (query ∷ [])) (told bs) →
-      AllZip (AnswersWanted ground.nodes ground.schema ground.rows []) (wanted ground.schema (query ∷ [])) (told ls) → AreShown ground (map block (wanted_by ground.schema query)) (entries_between ground query bs ls)
+  pub entries_show : (bs ls : List Block) → AllZip (AnswersWanted ground.nodes ground.schema ground.rows ground.constraints) (wanted_by ground.schema query) (told bs) →
+      AllZip (AnswersWanted ground.nodes ground.schema ground.rows []) (wanted_by ground.schema query) (told ls) → AreShown ground (map block (wanted_by ground.schema query)) (entries_between ground query bs ls)
   entries_show bs ls answers left =
       shows_all (wanted_by ground.schema query) bs ls (wanted_are_of ground.schema query) (blocks_answer ground.nodes ground.schema ground.rows ground.constraints query bs answers)
       (blocks_answer ground.nodes ground.schema ground.rows [] query ls left)
@@ -157,6 +154,13 @@ module _ (ground : Ground) (schema : Schema) where
   all_shown questions i entries past shown = subst (λ (qs : List Question). AreShown ground (asked schema qs) entries) (take_all i questions past) shown
 
 -- ---- what a session holds
+
+module _ (nodes : ℕ) (query : Query) (schema other : Schema) (rows others : List Row) (constraints more : List Constraint) (queries : List Query) (blocks written : List Block) where
+  pub answers_held : other ≡ schema → others ≡ rows → more ≡ constraints → queries ≡ query ∷ [] → written ≡ blocks →
+      AllZip (AnswersWanted nodes schema rows constraints) (wanted schema queries) (told blocks) → AllZip (AnswersWanted nodes other others more) (wanted_by other query) (told written)
+  answers_held same_schema same_rows same_constraints one same each =
+      let asked : AllZip (AnswersWanted nodes schema rows constraints) (wanted schema (query ∷ [])) (told blocks) = rw one at each in
+      rw (same_schema, same_rows, same_constraints, same) (subst (λ (ws : List Wanted). AllZip (AnswersWanted nodes schema rows constraints) ws (told blocks)) (one_wanted schema query) asked)
 
 module _ (nodes line : ℕ) (query : Query) (schema other : Schema) (rows others : List Row) (constraints more : List Constraint) (result : Result (List Entry) Memory) where
   pub shown_held : other ≡ schema → others ≡ rows → more ≡ constraints →

@@ -1,5 +1,6 @@
 pub mod Blocks
 pub mod Entries
+pub mod Left
 pub mod Questions
 pub mod Rounded
 pub mod Texts

@@ -13,7 +13,7 @@ use crate::refining::refine_for;
 use pc_cells::Shared;
 use pc_desk_table::Entry;
 use pc_files::Observed;
-use pc_group::{answer_with, ask};
+use pc_group::{answer_seen, ask, folds_of};
 use pc_list::Seq;
 use pc_model::{Constraint, Query, Schema};
 use pc_num::Memory;
@@ -113,16 +113,17 @@ fn answer_query(
     ensures tree { IsTree scope.now.schema.now shared.new.nodes }
     ensures shown { IfOk result (AreShown (ground_in scope.now) (map block (wanted_by scope.now.schema.now query.now))) }
 {
-    let document = answer_with(
+    let folds = folds_of(alloc, scope.schema, scope.rows, query)?;
+    let document = answer_seen(
         alloc,
         scope.schema,
-        scope.rows,
+        folds.as_slice(),
         scope.constraints,
-        from_ref(query),
+        query,
         shared,
         scope.nodes,
     )?;
-    block_entries(alloc, scope, query, document.blocks.as_slice())
+    block_entries(alloc, scope, query, folds.as_slice(), document.blocks.as_slice())
 }
 
 /// What is shown of the answer to a query about what a session holds, which the given line of a script asks.
@@ -142,6 +143,7 @@ pub fn ask_session(
     ensures shown { IfOk result (AreShown (ground_held session.old.schema (held_by session.old) line nodes) (map block (wanted_by session.old.schema query.now))) }
 {
     let document = ask(alloc, session, from_ref(query), nodes)?;
+    let folds = folds_of(alloc, &session.schema, &session.rows, query)?;
     let scope = Scope {
         schema: &session.schema,
         rows: &session.rows,
@@ -149,5 +151,5 @@ pub fn ask_session(
         nodes,
         line: Some(line),
     };
-    block_entries(alloc, &scope, query, document.blocks.as_slice())
+    block_entries(alloc, &scope, query, folds.as_slice(), document.blocks.as_slice())
 }

@@ -1,4 +1,4 @@
-ghost use Rattle.std.specs.Prelude.{◌≡◌, ◌∷◌, [], map, All, IfOk};
+ghost use Rattle.std.specs.Prelude.{◌≡◌, [], map, All, IfOk};
 ghost use Rattle.std.specs.List.{AllZip};
 ghost use Rattle.pc_model.specs.Accepted.{AreConstraints, IsQuery};
 ghost use Rattle.pc_model.specs.WellFormed.{IsWellFormed};
@@ -6,7 +6,8 @@ ghost use Rattle.pc_lang.specs.Canonical.{query_text};
 ghost use Rattle.pc_lang.specs.Quantiles.{IsQuantile, quantile_text};
 ghost use Rattle.pc_group.specs.Answers.{AnswersWanted};
 ghost use Rattle.pc_group.specs.Trees.{told};
-ghost use Rattle.pc_group.specs.Wanted.{wanted, wanted_by};
+ghost use Rattle.pc_group.specs.Scopes.{AreFolds, AreFoldsFor};
+ghost use Rattle.pc_group.specs.Wanted.{wanted_by};
 ghost use Rattle.pc_quantile.specs.Licensed.{Owes};
 ghost use Rattle.pc_quantile.specs.Measured.{least_of};
 ghost use Rattle.pc_desk_answers.specs.Blocks.{AreShown, IsGround, IsPrinted, ShowsQuantile, block, block_entry, entries_between, ground_in, quantile_shown};
@@ -17,30 +18,32 @@ use crate::entry::{Title, entry_of, group_of};
 use crate::text::shown;
 use pc_cells::Shared;
 use pc_desk_table::Entry;
-use pc_group::answer_with;
+use pc_group::answer_seen;
 use pc_lang::{Quantile, put_quantile_query, put_query};
 use pc_list::{Seq, Text};
-use pc_model::{Agg, Constraint, Query, Schema};
+use pc_model::{Agg, Constraint, Folded, Query, Schema};
 use pc_num::Memory;
 use pc_proof::{Block, Document};
 use pc_quantile::{QuantileAnswer, bound_quantile};
 use pc_report::Told;
 use std::alloc::Global;
-use std::slice::from_ref;
 
-/// What is shown of the blocks of a query, beside what it comes to where nothing is lost.
+/// What is shown of the blocks of a query, of which each has its fold, beside what it comes to where nothing is lost.
 pub(crate) fn block_entries(
     alloc: Global,
     scope: &Scope<'_>,
     query: &Query,
+    folds: &[Folded],
     blocks: &[Block],
 ) -> Result<Seq<Entry>, Memory>
     requires ground { IsGround (ground_in scope.now) }
     requires asked { IsQuery scope.now.schema.now query.now }
-    requires answers { AllZip (AnswersWanted scope.now.nodes scope.now.schema.now scope.now.rows.now scope.now.constraints.now) (wanted scope.now.schema.now (query.now ∷ [])) (told blocks.now) }
+    requires folds { AreFolds (wanted_by scope.now.schema.now query.now) scope.now.rows.now folds.now }
+    requires fit { AreFoldsFor (wanted_by scope.now.schema.now query.now) folds.now }
+    requires answers { AllZip (AnswersWanted scope.now.nodes scope.now.schema.now scope.now.rows.now scope.now.constraints.now) (wanted_by scope.now.schema.now query.now) (told blocks.now) }
     ensures { IfOk result (AreShown (ground_in scope.now) (map block (wanted_by scope.now.schema.now query.now))) }
 {
-    let left = where_nothing_is_lost(alloc, scope, query)?;
+    let left = where_nothing_is_lost(alloc, scope, query, folds)?;
     entries_between(alloc, scope, query, blocks, left.blocks.as_slice())
 }
 
@@ -48,18 +51,21 @@ fn where_nothing_is_lost(
     alloc: Global,
     scope: &Scope<'_>,
     query: &Query,
+    folds: &[Folded],
 ) -> Result<Document, Memory>
     requires ground { IsGround (ground_in scope.now) }
     requires asked { IsQuery scope.now.schema.now query.now }
-    ensures nothing_lost { IfOk result (λ document. AllZip (AnswersWanted scope.now.nodes scope.now.schema.now scope.now.rows.now []) (wanted scope.now.schema.now (query.now ∷ [])) (told document.blocks)) }
+    requires folds { AreFolds (wanted_by scope.now.schema.now query.now) scope.now.rows.now folds.now }
+    requires fit { AreFoldsFor (wanted_by scope.now.schema.now query.now) folds.now }
+    ensures nothing_lost { IfOk result (λ document. AllZip (AnswersWanted scope.now.nodes scope.now.schema.now scope.now.rows.now []) (wanted_by scope.now.schema.now query.now) (told document.blocks)) }
 {
     let mut whole = Shared::new(alloc, scope.schema)?;
-    answer_with(
+    answer_seen(
         alloc,
         scope.schema,
-        scope.rows,
+        folds,
         &[],
-        from_ref(query),
+        query,
         &mut whole,
         scope.nodes,
     )

@@ -36,7 +36,7 @@ pub(crate) fn entry_of(
     requires scales { HaveScales schema.now.columns }
     requires printable { ArePrintable query.now.agg (ends_in told.now.ends) }
     requires left { ArePrintable query.now.agg (ends_in left.now.ends) }
-    ensures { IfOk result (λ entry. entry ≡ entry_of schema.now query.now title (answer_in told.now) (answer_in left.now)) }
+    ensures shows { IfOk result (λ entry. entry ≡ entry_of schema.now query.now title (answer_in told.now) (answer_in left.now)) }
 {
     let observed = observed_of(alloc, schema, query, &left.ends)?;
     let range = ranged(alloc, schema, query, &told.ends)?;

@@ -4,6 +4,7 @@
 mod answers;
 mod blocks;
 mod entry;
+mod laws;
 mod question;
 mod range;
 mod refining;
@@ -13,4 +14,5 @@ mod text;
 mod value;
 
 pub use answers::{answer_questions, ask_session};
+pub use laws::left_is_the_aggregate;
 pub use question::{Question, read_questions};

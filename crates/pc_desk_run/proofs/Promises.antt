@@ -56,14 +56,14 @@ module _ (call : Call) where
   silent_note : (note : List ℕ) → note ≡ [] → IsNoted call.notes note → IsNoted call.notes []
   silent_note note is noted = rw is at noted
 
-  replied_none : (reply : Reply) (result : Ended) → IsNoCall call.reading call.words → RepliesToNone reply → Delivers call.output call.notes reply result → KeepsPromise call result
+  replied_none : (reply : Reply) (result : Ended) → IsNoCall call.reading call.words → RepliesToNone call.words reply → Delivers call.output call.notes reply result → KeepsPromise call result
   replied_none (replies.Says ended text note) result none says delivers =
-      ⊎_elim (λ whole. subst (λ (e : Ended). KeepsPromise call e) (sym (whole.0 ∙ says.0))
-      (inr (record { no_call = none; text = text; written = whole.1; noted = silent_note note.now says.1 whole.2 })))
-      (λ short. cut_off text result (inr none) short) delivers
+      ⊎_elim (λ whole. subst (λ (e : Ended). KeepsPromise call e) (sym (whole.0 ∙ says.1))
+      (inr (record { no_call = none; asked = says.0; text = text; written = whole.1; noted = silent_note note.now says.2 whole.2 })))
+      (λ short. cut_off text result (inr (none, says.0)) short) delivers
   replied_none (replies.Refuses ended text) result none is delivers =
-      subst (λ (e : Ended). KeepsPromise call e) (sym (delivers.0 ∙ is))
-      (record { text = text; refuses = inr (none, refl); silent = delivers.1; noted = delivers.2 })
+      subst (λ (e : Ended). KeepsPromise call e) (sym (delivers.0 ∙ is.1))
+      (record { text = text; refuses = inr (none, is.0, refl); silent = delivers.1; noted = delivers.2 })
 
   pub keeps : (reply : Reply) (result : Ended) → Responds call.reading call.words reply → Delivers call.output call.notes reply result → KeepsPromise call result
   keeps reply result responds delivers =

@@ -5,7 +5,7 @@ use Rattle.pc_files.specs.Loading.{Reading}
 use Rattle.pc_files.specs.Writing.{IsCutOff, IsUntouched, IsWritten, Writes, Writing}
 use Rattle.pc_desk_run.specs.declared.ended.Ended.{Ended}
 use Rattle.pc_desk_run.specs.declared.ended.Ended.TheVariants as ends
-use Rattle.pc_desk_words.specs.Words.{Asked, asked_of}
+use Rattle.pc_desk_words.specs.Words.{Asked, MayHelp, MayRefuse, asked_of}
 use Rattle.pc_desk_run.specs.declared.reply.Reply.{Reply}
 use Rattle.pc_desk_run.specs.declared.reply.Reply.TheVariants as replies
 use Rattle.pc_desk_run.specs.Replies.{IsNoCall, RefusesAsked, SaysAnswers}
@@ -38,16 +38,17 @@ pub record HasAnswered (call : Call) (ended : Ended) : Type 0 where
   pub written : IsWritten call.output text
   pub noted : IsNoted call.notes note
 
--- help is on standard output
+-- help that the words ask for is on standard output
 pub record HasHelped (call : Call) : Type 0 where
   pub no_call : IsNoCall call.reading call.words
+  pub asked : MayHelp call.words
   pub text : List ℕ
   pub written : IsWritten call.output text
   pub noted : IsNoted call.notes []
 
--- the words are a call that is refused for this text, or they are none
+-- the words are a call that is refused for this text, or they are none and ask for no help alone
 abbrev pub Refuses : Call → Ended → List ℕ → Type 0
-Refuses call ended text = ((asked : Asked) × (asked_of call.words ≡ Some asked) × RefusesAsked call.reading asked ended text) ⊎ (IsNoCall call.reading call.words × (ended ≡ ends.Refused))
+Refuses call ended text = ((asked : Asked) × (asked_of call.words ≡ Some asked) × RefusesAsked call.reading asked ended text) ⊎ (IsNoCall call.reading call.words × MayRefuse call.words × (ended ≡ ends.Refused))
 
 -- why nothing is shown is on standard error alone
 pub record HasRefused (call : Call) (ended : Ended) : Type 0 where
@@ -56,10 +57,10 @@ pub record HasRefused (call : Call) (ended : Ended) : Type 0 where
   pub silent : IsSilent call.output
   pub noted : IsNoted call.notes text
 
--- the words ask for this text
+-- the words ask for this text, or for help
 abbrev pub AsksFor : Call → List ℕ → Type 0
 AsksFor call text =
-    ((asked : Asked) × (ended : Ended) × (note : List ℕ) × (asked_of call.words ≡ Some asked) × SaysAnswers call.reading asked ended text note) ⊎ IsNoCall call.reading call.words
+    ((asked : Asked) × (ended : Ended) × (note : List ℕ) × (asked_of call.words ≡ Some asked) × SaysAnswers call.reading asked ended text note) ⊎ (IsNoCall call.reading call.words × MayHelp call.words)
 
 -- what was asked for was put, and cut off
 pub record HasWriteFault (call : Call) : Type 0 where

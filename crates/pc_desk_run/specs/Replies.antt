@@ -9,7 +9,7 @@ use Rattle.pc_files.specs.Outcome.{refused}
 use Rattle.pc_desk_answers.specs.Blocks.{ArePosed, AreShown, asked, ground_of, posed_from}
 use Rattle.pc_desk_table.specs.declared.entry.Entry.{Entry}
 use Rattle.pc_desk_words.specs.declared.form.Form.{Form}
-use Rattle.pc_desk_words.specs.Words.{Asked, asked_of}
+use Rattle.pc_desk_words.specs.Words.{Asked, MayHelp, MayRefuse, asked_of}
 use Rattle.pc_desk_run.specs.declared.ended.Ended.{Ended}
 use Rattle.pc_desk_run.specs.declared.ended.Ended.TheVariants as ends
 use Rattle.pc_desk_run.specs.declared.reply.Reply.{Reply}
@@ -90,13 +90,13 @@ pub record IsNoCall (reading : Reading) (words : List (List ℕ)) : Type 0 where
   pub loads : reading.did []
 
 -- help that was asked for has no note; else the words are refused
-abbrev pub RepliesToNone : Reply → Type 0
-RepliesToNone (replies.Says ended text note) = (ended ≡ ends.Settled) × (note.now ≡ [])
-RepliesToNone (replies.Refuses ended text) = ended ≡ ends.Refused
+abbrev pub RepliesToNone : List (List ℕ) → Reply → Type 0
+RepliesToNone words (replies.Says ended text note) = MayHelp words × (ended ≡ ends.Settled) × (note.now ≡ [])
+RepliesToNone words (replies.Refuses ended text) = MayRefuse words × (ended ≡ ends.Refused)
 
 abbrev pub RespondsTo : Reading → List (List ℕ) → Reply → Type 0
 RespondsTo reading words reply = (asked : Asked) × (asked_of words ≡ Some asked) × RepliesTo reading asked reply
 
 -- the reply to any words
 abbrev pub Responds : Reading → List (List ℕ) → Reply → Type 0
-Responds reading words reply = RespondsTo reading words reply ⊎ (IsNoCall reading words × RepliesToNone reply)
+Responds reading words reply = RespondsTo reading words reply ⊎ (IsNoCall reading words × RepliesToNone words reply)

@@ -1,12 +1,12 @@
-ghost use Rattle.std.specs.Prelude.{◌≡◌, IfOk, map, string_bytes};
+ghost use Rattle.std.specs.Prelude.{◌≡◌, ℕ, IfOk, List, map, string_bytes};
 ghost use Rattle.pc_files.specs.Loading.{reading_of};
 ghost use Rattle.pc_desk_table.specs.declared.entry.Entry.{Entry};
 ghost use Rattle.pc_desk_words.specs.Calls.{ask_names, session_names};
-ghost use Rattle.pc_desk_words.specs.Words.{IsBudget};
+ghost use Rattle.pc_desk_words.specs.Words.{IsBudget, MayHelp, MayRefuse};
 ghost use Rattle.pc_desk_words.specs.Words as words;
 ghost use Rattle.pc_desk_run.specs.Inputs.{IsAsking, IsScripted};
 ghost use Rattle.pc_desk_run.specs.Outcome.{asks, follows};
-ghost use Rattle.pc_desk_run.specs.Replies.{IsStopReply, RepliesTo, Responds, SaysInput, Shows};
+ghost use Rattle.pc_desk_run.specs.Replies.{IsStopReply, RepliesTo, RepliesToNone, Responds, SaysInput, Shows};
 ghost use Rattle.pc_desk_run.specs.Texts.{named_of};
 
 use crate::ended::Ended;
@@ -45,21 +45,35 @@ pub(crate) fn respond<F: Shelf>(
     words: &[String],
     files: &mut F,
 ) -> Result<Reply, Memory>
-    ensures { IfOk result (Responds (reading_of F.told F.leads files.old files.new) (map string_bytes words.now)) }
+    ensures responds { IfOk result (Responds (reading_of F.told F.leads files.old files.new) (map string_bytes words.now)) }
 {
     let call = read_call(alloc, words)?;
     match call {
         Call::Ask(ask) => reply_to_ask(alloc, files, &ask),
         Call::Session(session) => reply_to_session(alloc, files, &session),
-        Call::Shows(text) => Ok(Reply::Says {
-            ended: Ended::Settled,
-            text: Seq::from_vec(text.into_bytes()),
-            note: "",
-        }),
-        Call::Refused(text) => Ok(Reply::Refuses {
-            ended: Ended::Refused,
-            text: Seq::from_vec(text.into_bytes()),
-        }),
+        Call::Shows(text) => Ok(help(text)),
+        Call::Refused(text) => Ok(refusal(text)),
+    }
+}
+
+// What words get that ask for help.
+fn help(text: String) -> Reply
+    ensures { (asked : List (List ℕ)) → MayHelp asked → RepliesToNone asked result }
+{
+    Reply::Says {
+        ended: Ended::Settled,
+        text: Seq::from_vec(text.into_bytes()),
+        note: "",
+    }
+}
+
+// What words get that are no call.
+fn refusal(text: String) -> Reply
+    ensures { (asked : List (List ℕ)) → MayRefuse asked → RepliesToNone asked result }
+{
+    Reply::Refuses {
+        ended: Ended::Refused,
+        text: Seq::from_vec(text.into_bytes()),
     }
 }
 

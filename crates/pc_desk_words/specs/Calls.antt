@@ -1,10 +1,8 @@
 -- What the code of a call holds, and what words come to.
 use Rattle.std.specs.Prelude.{◌≡◌, ◌≢◌, ◌≤◌, ⊤, ℕ, true, false, List, map, length, Option, Some, None}
-use Rattle.clap.specs.Words.{fault_of}
 use Rattle.clap.specs.declared.error.kind.ErrorKind.{ErrorKind}
 use Rattle.clap.specs.declared.error.kind.ErrorKind.TheVariants.{OutOfMemory}
-use Rattle.pc_desk_words.specs.Program.{desk_app}
-use Rattle.pc_desk_words.specs.Words.{Asked, AskNames, FileNames, HeadNames, IsBudget, SessionNames, ask, asked_of, is_request, may_show, only_shows, session}
+use Rattle.pc_desk_words.specs.Words.{Asked, AskNames, FileNames, HeadNames, IsBudget, SessionNames, MayHelp, MayRefuse, ask, asked_of, is_request, session}
 use Rattle.pc_desk_words.specs.declared.call.Ask.{Ask}
 use Rattle.pc_desk_words.specs.declared.call.Call.{Call}
 use Rattle.pc_desk_words.specs.declared.call.Call.TheVariants as calls
@@ -55,8 +53,8 @@ IsRefusal (calls.Refused text) = ⊤
 abbrev pub Reads : List (List ℕ) → Call → Type 0
 Reads words (calls.Ask call) = asked_of words ≡ Some (ask (ask_names call))
 Reads words (calls.Session call) = asked_of words ≡ Some (session (session_names call))
-Reads words (calls.Shows text) = (asked_of words ≡ None) × (may_show (fault_of desk_app words) ≡ true)
-Reads words (calls.Refused text) = (asked_of words ≡ None) × (only_shows (fault_of desk_app words) ≡ false)
+Reads words (calls.Shows text) = (asked_of words ≡ None) × MayHelp words
+Reads words (calls.Refused text) = (asked_of words ≡ None) × MayRefuse words
 
 -- the numbers of a call are ones that words may ask for, and something is asked
 abbrev pub HasBudget : Call → Type 0

@@ -1,5 +1,5 @@
 -- Which words are a call.
-use Rattle.std.specs.Prelude.{ℕ, ◌≤◌, nat_le, ◌&&◌, ◌==◌, not, Bool, true, false, List, [], ◌∷◌, codes, bytes_eq, Option, Some, None, option_map, option_and_then, if◌then◌else◌}
+use Rattle.std.specs.Prelude.{◌≡◌, ℕ, ◌≤◌, nat_le, ◌&&◌, ◌==◌, not, Bool, true, false, List, [], ◌∷◌, codes, bytes_eq, Option, Some, None, option_map, option_and_then, if◌then◌else◌}
 use Rattle.std.specs.List.{list_all, list_any}
 use Rattle.std.specs.Str.Parse.{digits_value, without_leading_plus}
 use Rattle.clap.specs.Walk.{Row, Text, all_of, first_of, is_empty}
@@ -138,6 +138,14 @@ may_show = list_any is_request
 
 abbrev pub only_shows : Kinds → Bool
 only_shows kinds = not (is_empty kinds) && list_all is_request kinds
+
+-- help may be told of words that are no call: they ask for it, whatever else is wrong with them
+abbrev pub MayHelp : List (List ℕ) → Type 0
+MayHelp words = may_show (fault_of desk_app words) ≡ true
+
+-- .. and they may be refused: something is wrong with them that is no request
+abbrev pub MayRefuse : List (List ℕ) → Type 0
+MayRefuse words = only_shows (fault_of desk_app words) ≡ false
 
 -- ---- what holds of the numbers of a call
 

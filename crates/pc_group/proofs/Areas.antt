@@ -61,6 +61,10 @@ module _ (schema : Schema) (queries : List Query) where
   pub areas_whole : (areas : List Area) (i : ℕ) → length queries ≤ i → areas ≡ map area_of (wanted schema (take i queries)) → areas ≡ map area_of (wanted schema queries)
   areas_whole areas i past so_far = so_far ∙ ap (map area_of) (wanted_whole i past)
 
+pub one_wanted : (schema : Schema) (query : Query) → wanted schema (query ∷ []) ≡ wanted_by schema query
+unfolding wanted
+one_wanted schema query = append-nil (wanted_by schema query)
+
 pub none_wanted : (schema : Schema) → [] ≡ wanted schema []
 unfolding wanted
 none_wanted schema = refl

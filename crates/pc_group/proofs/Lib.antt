@@ -1,4 +1,5 @@
-mod Areas
+pub mod Areas
+mod Folded
 pub mod FormedBlocks
 mod FormedCuts
 mod GroupNames

@@ -1,5 +1,5 @@
 -- What one block more tells after those before it.
-use Rattle.std.proofs.Common.{◌≡◌, ℕ, zero, suc, List, [], ◌∷◌, ◌++◌, ◌<◌, length, get_or, AllPairs, Option, Some, None, refl, sym, ap, subst, ◌∙◌, arith}
+use Rattle.std.proofs.Common.{◌≡◌, List, [], ◌∷◌, ◌++◌, get_or, AllPairs, Option, Some, None, refl, sym, ap, subst, ◌∙◌, arith}
 use Rattle.std.specs.List.{AllZip}
 use Rattle.std.proofs.lemmas.List.Elements.{All-nil, All-push}
 use Rattle.std.proofs.lemmas.Slice.Zip.{all_zipped_more}
@@ -65,10 +65,3 @@ module _ (Answers : Wanted → Told → Type 0) (shared : List CutNode) where
 -- trees of one tree have the same cuts
 pub same_cuts : (shared : List CutNode) (ts : List Told) → AreOfTree shared ts → AllPairs (λ (a b : Told). bare (shape_of a.nodes) ≡ bare (shape_of b.nodes)) ts
 same_cuts shared ts each i j d before inside = same_bare shared 0 (shape_of (get_or ts i d).nodes) (shape_of (get_or ts j d).nodes) (each i d (omega (arith, before, inside))) (each j d inside)
-
--- two lists side by side, at a place
-pub zip_at : {X Y : Type 0} (R : X → Y → Type 0) (xs : List X) (ys : List Y) (i : ℕ) (d : X) (e : Y) → AllZip R xs ys → i < length xs → R (get_or xs i d) (get_or ys i e)
-zip_at R [] ys i d e each inside = let no : ⊥ = omega (arith, inside) in absurd no
-zip_at R (x ∷ xs) [] i d e each inside = absurd each
-zip_at R (x ∷ xs) (y ∷ ys) zero d e each inside = each.0
-zip_at R (x ∷ xs) (y ∷ ys) (suc i) d e each inside = zip_at R xs ys i d e each.1 (omega (arith, inside))

@@ -1,9 +1,9 @@
 -- What the queries of a call are asked over, and what its blocks owe.
-use Rattle.std.specs.Prelude.{◌≤◌, ℕ, List, ◌++◌, Some}
+use Rattle.std.specs.Prelude.{◌≡◌, ◌≤◌, ◌*◌, List, ◌++◌, length, nat_abs, All}
 use Rattle.std.specs.List.{AllZip}
+use Rattle.pc_num.specs.Scaled.{greatest_size}
 use Rattle.pc_model.specs.declared.row.Row.{Row}
 use Rattle.pc_model.specs.declared.query.Folded.{Folded}
-use Rattle.pc_model.specs.declared.query.Query.{Query}
 use Rattle.pc_model.specs.Accepted.{AreConstraints}
 use Rattle.pc_model.specs.Folds.{IsFold}
 use Rattle.pc_model.specs.WellFormed.{IsWellFormed}
@@ -29,9 +29,15 @@ IsDivided p blocks = AreDividedFor p.schema.now p.constraints.now p.shared.now.n
 abbrev pub HasBlocks : Scope → List Row → List Wanted → Written → Type 0
 HasBlocks p observed = AreBlocksOf (AnswersWanted p.nodes p.schema.now observed p.constraints.now) p.shared.now.nodes
 
--- what the rows of each name come to
-abbrev pub AreFolds : Query → List ℕ → List Row → List Folded → Type 0
-AreFolds query names observed folds = AllZip (λ (name : ℕ) (folded : Folded). IsFold query (Some name) observed folded) names folds
+-- what the observed rows come to for each block
+abbrev pub AreFolds : List Wanted → List Row → List Folded → Type 0
+AreFolds blocks observed folds = AllZip (λ (w : Wanted) (folded : Folded). IsFold w.query w.name observed folded) blocks folds
+
+-- one for each block, and none of more rows than a file has
+pub record AreFoldsFor (blocks : List Wanted) (folds : List Folded) : Type 0 where
+  pub even : length folds ≡ length blocks
+  pub few : All (λ (folded : Folded). folded.count ≤ 1_000_000) folds
+  pub small : All (λ (folded : Folded). nat_abs folded.sum ≤ 1_000_000 * greatest_size) folds
 
 -- these blocks stand behind those that were written
 abbrev pub AddsBlocks : Scope → List Row → Written → List Wanted → Written → Type 0

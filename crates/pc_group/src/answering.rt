@@ -14,20 +14,20 @@ ghost use Rattle.pc_agg_search.specs.Asked.{AreAsked};
 ghost use Rattle.pc_avg.specs.Averages.{HasShortEnds};
 ghost use Rattle.pc_cells_tree.specs.Linked.{IsTree, IsDividedFor};
 ghost use Rattle.pc_group.specs.Answers.{AnswersWanted};
-ghost use Rattle.pc_group.specs.Scopes.{IsDivided, IsScope, AddsBlocks, AreFolds};
+ghost use Rattle.pc_group.specs.Scopes.{IsDivided, IsScope, AddsBlocks, AreFolds, AreFoldsFor};
 ghost use Rattle.pc_group.specs.Trees.{AreDividedFor};
 ghost use Rattle.pc_group.specs.Wanted.{wanted, wanted_by, wanted_of, wanted_as};
 ghost use Rattle.pc_group.specs.Written.{AreBlocksOf};
 ghost use Rattle.pc_agg.specs.Calls.{OwesCall};
 
 use crate::blocks::{Written, with_block};
+use crate::folds::folds_of;
 use crate::narrowing::query_for;
 use crate::scope::Scope;
 use crate::wanted::allowed_names;
 use pc_agg::{bound_count, bound_max, bound_min, bound_sum, settle};
 use pc_avg::bound_avg;
 use pc_cells::{Cells, Shared};
-use pc_list::Seq;
 use pc_model::{Agg, Constraint, Folded, Query, Schema};
 use pc_num::Memory;
 use pc_proof::Answer;
@@ -59,10 +59,7 @@ pub(crate) fn answer_queries(
         shared,
         nodes,
     };
-    let mut written = Written {
-        blocks: Seq::new(alloc),
-        last: None,
-    };
+    let mut written = Written::nothing(alloc);
     for query in queries {
         written = answer_query(alloc, &scope, rows, query, written)?;
     }
@@ -83,39 +80,29 @@ fn answer_query(
     requires divided { IsDivided scope.now (wanted_by scope.now.schema.now query.now) }
     ensures { IfOk result (AddsBlocks scope.now rows.now written (wanted_by scope.now.schema.now query.now)) }
 {
-    let Some(column) = query.group else {
-        let seen = rows.fold(query);
-        return answer_block(alloc, scope, query, None, &seen, written);
-    };
-    answer_group(alloc, scope, rows, query, column, written)
+    let folds = folds_of(alloc, scope.schema, rows, query)?;
+    answer_folds(alloc, scope, query, folds.as_slice(), written)
 }
 
-/// The blocks of a query that is grouped by a column, by one walk over the rows.
-fn answer_group(
+/// The blocks of a query, of which each has its fold, after those before.
+pub(crate) fn answer_folds(
     alloc: Global,
     scope: &Scope<'_>,
-    rows: &Rows,
     query: &Query,
-    column: u8,
+    folds: &[Folded],
     written: Written,
 ) -> Result<Written, Memory>
     requires scope { IsScope scope.now }
-    requires seen { AllPass (in_domain scope.now.schema.now) rows.now }
     requires asked { IsQuery scope.now.schema.now query.now }
-    requires grouped { query.now.group ≡ Some column }
+    requires folds { AreFoldsFor (wanted_by scope.now.schema.now query.now) folds.now }
     requires divided { IsDivided scope.now (wanted_by scope.now.schema.now query.now) }
-    ensures { IfOk result (AddsBlocks scope.now rows.now written (wanted_by scope.now.schema.now query.now)) }
+    ensures { IfOk result (λ more. (observed : List Row) → AreFolds (wanted_by scope.now.schema.now query.now) observed folds.now → AddsBlocks scope.now observed written (wanted_by scope.now.schema.now query.now) more) }
 {
+    let Some(column) = query.group else {
+        return answer_block(alloc, scope, query, None, &folds[0], written);
+    };
     let names = allowed_names(alloc, scope.schema, query, column)?;
-    let folds = rows.fold_each(alloc, query, names.as_slice())?;
-    answer_names(
-        alloc,
-        scope,
-        query,
-        names.as_slice(),
-        folds.as_slice(),
-        written,
-    )
+    answer_names(alloc, scope, query, names.as_slice(), folds, written)
 }
 
 /// The blocks of names of a query's group, of which each has its fold.
@@ -132,11 +119,9 @@ fn answer_names(
     requires named { is_none query.now.group ≡ false }
     requires places { All (λ (name : ℕ). name < 128) names.now }
     requires allowed { All (λ (name : ℕ). AllowsName query.now.chosen query.now.group (Some name)) names.now }
-    requires even { length folds.now ≡ length names.now }
-    requires few_seen { All (λ folded. folded.count ≤ 1_000_000) folds.now }
-    requires small_seen { All (λ folded. nat_abs folded.sum ≤ 1_000_000 * greatest_size) folds.now }
+    requires folds { AreFoldsFor (map (wanted_of query.now) names.now) folds.now }
     requires divided { IsDivided scope.now (map (wanted_of query.now) names.now) }
-    ensures { IfOk result (λ more. (observed : List Row) → AreFolds query.now names.now observed folds.now → AddsBlocks scope.now observed written (map (wanted_of query.now) names.now) more) }
+    ensures { IfOk result (λ more. (observed : List Row) → AreFolds (map (wanted_of query.now) names.now) observed folds.now → AddsBlocks scope.now observed written (map (wanted_of query.now) names.now) more) }
 {
     let mut more = written;
     for (index, name) in names.iter().enumerate() {

@@ -1,5 +1,6 @@
-ghost use Rattle.std.specs.Prelude.{◌≡◌, ◌≤◌, All, AllPairs, IfOk, OnOk};
+ghost use Rattle.std.specs.Prelude.{◌≡◌, ◌≤◌, All, AllPairs, IfOk, List, OnOk};
 ghost use Rattle.std.specs.List.{AllPass, AllZip};
+ghost use Rattle.pc_model.specs.declared.row.Row.{Row};
 ghost use Rattle.pc_model.specs.Accepted.{AreConstraints, IsQuery};
 ghost use Rattle.pc_model.specs.CutTrees.{shape_of};
 ghost use Rattle.pc_model.specs.Membership.{in_domain};
@@ -9,18 +10,22 @@ ghost use Rattle.pc_cells_tree.specs.Owned.{HasOwnCuts};
 ghost use Rattle.pc_cells_tree.specs.Walking.{bare};
 ghost use Rattle.pc_proof.specs.Form.{IsInForm};
 ghost use Rattle.pc_group.specs.Answers.{AnswersWanted};
+ghost use Rattle.pc_group.specs.Scopes.{AreFolds, AreFoldsFor};
 ghost use Rattle.pc_group.specs.Trees.{Told, AreDividedFor, AreOfTree, AreWritten, HasCutsForBlocks, told};
-ghost use Rattle.pc_group.specs.Wanted.{wanted};
+ghost use Rattle.pc_group.specs.Wanted.{wanted, wanted_by};
 
-use crate::answering::answer_queries;
+use crate::answering::{answer_folds, answer_queries};
+use crate::blocks::Written;
 use crate::refining::refine_for_all;
+use crate::scope::Scope;
 use crate::wanted::areas_of;
 use pc_cells::Shared;
-use pc_model::{Constraint, Query, Schema};
+use pc_model::{Constraint, Folded, Query, Schema};
 use pc_num::Memory;
 use pc_proof::Document;
 use pc_rows::{Case, Rows};
 use std::alloc::Global;
+use std::slice::from_ref;
 
 /// The blocks of the queries, by searches of at most so many nodes each, over one tree of cuts that is cut on for
 /// all of them before the first is answered.
@@ -53,6 +58,40 @@ pub fn answer_with(
     let areas = areas_of(alloc, schema, queries)?;
     refine_for_all(schema, constraints, areas.as_slice(), shared)?;
     let written = answer_queries(alloc, schema, rows, constraints, queries, shared, nodes)?;
+    Ok(Document {
+        blocks: written.blocks,
+    })
+}
+
+/// The blocks of a query, as `answer_with` gives them, by what the observed rows come to for each of its blocks.
+pub fn answer_seen(
+    alloc: Global,
+    schema: &Schema,
+    folds: &[Folded],
+    constraints: &[Constraint],
+    query: &Query,
+    shared: &mut Shared,
+    nodes: u32,
+) -> Result<Document, Memory>
+    requires well_formed { IsWellFormed schema.now }
+    requires folds { AreFoldsFor (wanted_by schema.now query.now) folds.now }
+    requires accepted { AreConstraints schema.now constraints.now }
+    requires asked { IsQuery schema.now query.now }
+    requires budget { (1 ≤ nodes) × (nodes ≤ 100_000) }
+    requires tree { IsTree schema.now shared.old.nodes }
+    ensures tree { IsTree schema.now shared.new.nodes }
+    ensures kept { KeepsInner shared.old.nodes shared.new.nodes }
+    ensures answers { IfOk result (λ document. (observed : List Row) → AreFolds (wanted_by schema.now query.now) observed folds.now → AllZip (AnswersWanted nodes schema.now observed constraints.now) (wanted_by schema.now query.now) (told document.blocks)) }
+{
+    let areas = areas_of(alloc, schema, from_ref(query))?;
+    refine_for_all(schema, constraints, areas.as_slice(), shared)?;
+    let scope = Scope {
+        schema,
+        constraints,
+        shared,
+        nodes,
+    };
+    let written = answer_folds(alloc, &scope, query, folds, Written::nothing(alloc))?;
     Ok(Document {
         blocks: written.blocks,
     })

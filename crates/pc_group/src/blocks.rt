@@ -1,4 +1,4 @@
-ghost use Rattle.std.specs.Prelude.{◌≡◌, ◌↔◌, IfOk, IsTrue, Some};
+ghost use Rattle.std.specs.Prelude.{◌≡◌, ◌↔◌, [], IfOk, IsTrue, None, Some};
 ghost use Rattle.pc_proof.specs.declared.document.BlockTree.TheVariants as trees;
 ghost use Rattle.pc_proof.specs.Documents.{nodes_after};
 ghost use Rattle.pc_group.specs.Trees.{IsWrittenAfter};
@@ -8,6 +8,7 @@ use pc_list::Seq;
 use pc_model::{CutNode, CutTree, Query};
 use pc_num::Memory;
 use pc_proof::{Answer, Block, BlockTree};
+use std::alloc::Global;
 
 /// The blocks so far, and the nodes of the tree that the last one says.
 #[derive(Drop)]
@@ -21,6 +22,18 @@ pub(crate) struct Written {
 struct Said {
     tree: BlockTree,
     nodes: Seq<CutNode>,
+}
+
+impl Written {
+    /// No blocks.
+    pub(crate) fn nothing(alloc: Global) -> Self
+        ensures { result ≡ record { blocks = []; last = None } }
+    {
+        Written {
+            blocks: Seq::new(alloc),
+            last: None,
+        }
+    }
 }
 
 /// One block more, for a query and a name.

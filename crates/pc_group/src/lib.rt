@@ -5,11 +5,13 @@ mod answering;
 mod answers;
 mod asking;
 mod blocks;
+mod folds;
 mod narrowing;
 mod refining;
 mod scope;
 mod wanted;
 
-pub use answers::{answer_all, answer_with};
+pub use answers::{answer_all, answer_seen, answer_with};
 pub use asking::ask;
+pub use folds::folds_of;
 pub use refining::refine_for_all;

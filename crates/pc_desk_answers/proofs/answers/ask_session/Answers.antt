@@ -1,5 +1,14 @@
-use Rattle.pc_desk_answers.proofs.Shown.{shown_held}
+use Rattle.std.proofs.Common.{◌∙◌}
+use Rattle.pc_desk_answers.proofs.Shown.{answers_held, shown_held}
 use Rattle.pc_desk_answers.proofs.answers.ask_session.Goals as goal
+
+pub block_entries-requires-clause-answers : goal.block_entries-requires-clause-answers
+block_entries-requires-clause-answers c =
+    let asked = c.in_ok-document.ensures in
+    let was = c.args.session.now in
+    let is = c.ask.new.session in
+    answers_held c.args.nodes c.args.query.now was.schema is.schema was.rows is.rows was.constraints c.as_slice.result.now c.from_ref.result.now c.in_ok-document.document.blocks c.as_slice-3.result.now asked.schema asked.rows
+    (c.as_slice.ensures ∙ asked.constraints) c.from_ref.ensures.value c.as_slice-3.ensures asked.answers
 
 pub returns-clause-shown : goal.returns-clause-shown
 returns-clause-shown c =

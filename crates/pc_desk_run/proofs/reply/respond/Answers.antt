@@ -10,7 +10,7 @@ reply_to_ask-requires g c = let numbers = rw c.in-Ask.is at c.in_ok-call.ensures
 pub returns-in-Ask : goal.returns-in-Ask
 returns-in-Ask g c =
     let reads = rw c.in-Ask.is at c.in_ok-call.ensures.reads in
-    IfOk-weaker c.reply_to_ask.result _ _ (λ reply replies. inl (ask (ask_names c.in-Ask.ask), reads, replies)) c.reply_to_ask.ensures
+    record { responds = IfOk-weaker c.reply_to_ask.result _ _ (λ reply replies. inl (ask (ask_names c.in-Ask.ask), reads, replies)) c.reply_to_ask.ensures }
 
 pub reply_to_session-requires : goal.reply_to_session-requires
 reply_to_session-requires g c = rw c.in-Session.is at c.in_ok-call.ensures.numbers
@@ -18,4 +18,4 @@ reply_to_session-requires g c = rw c.in-Session.is at c.in_ok-call.ensures.numbe
 pub returns-in-Session : goal.returns-in-Session
 returns-in-Session g c =
     let reads = rw c.in-Session.is at c.in_ok-call.ensures.reads in
-    IfOk-weaker c.reply_to_session.result _ _ (λ reply replies. inl (session (session_names c.in-Session.session), reads, replies)) c.reply_to_session.ensures
+    record { responds = IfOk-weaker c.reply_to_session.result _ _ (λ reply replies. inl (session (session_names c.in-Session.session), reads, replies)) c.reply_to_session.ensures }

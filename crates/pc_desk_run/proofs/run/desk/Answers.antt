@@ -10,4 +10,4 @@ returns-in-Ok g c =
     let reading = reading_of g.F.Shelf.told g.F.Shelf.leads c.args.files.now c.respond.new.files in
     let output = writing_of g.K.Sink.told c.args.out.now c.deliver.new.out in
     let notes = writing_of g.N.Sink.told c.args.notes.now c.deliver.new.notes in
-    record { promise = keeps (call_of (map string_bytes c.args.words.now) reading output notes) c.in-Ok.reply c.deliver.result c.in-Ok.ensures c.deliver.ensures.delivers }
+    record { promise = keeps (call_of (map string_bytes c.args.words.now) reading output notes) c.in-Ok.reply c.deliver.result c.in-Ok.ensures.responds c.deliver.ensures.delivers }

@@ -6,4 +6,4 @@ use Rattle.pc_group.proofs.answering.answer_names.Given as goal
 
 abbrev pub invariant-loop-index : goal.invariant-loop-index
 invariant-loop-index l =
-    (observed : List Row) → AreFolds l.query l.names observed l.folds → AddsBlocks l.scope observed l.fn.written (map (wanted_of l.query) (take l.index l.names)) l.more
+    (observed : List Row) → AreFolds (map (wanted_of l.query) l.names) observed l.folds → AddsBlocks l.scope observed l.fn.written (map (wanted_of l.query) (take l.index l.names)) l.more

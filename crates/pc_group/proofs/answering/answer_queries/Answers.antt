@@ -1,4 +1,4 @@
-use Rattle.std.proofs.Common.{List, None, refl, sym, subst, arith}
+use Rattle.std.proofs.Common.{List, ap, sym, subst, arith}
 use Rattle.pc_model.specs.Accepted.{IsQuery}
 use Rattle.pc_group.specs.declared.blocks.Written.{Written}
 use Rattle.pc_group.specs.Answers.{AnswersWanted}
@@ -11,8 +11,9 @@ use Rattle.pc_group.proofs.answering.answer_queries.Goals as goal
 pub loop-query-init : goal.loop-query-init
 loop-query-init c =
     let answers = AnswersWanted c.args.nodes c.args.schema.now c.args.rows.now c.args.constraints.now in
-    let start : Written = record { blocks = c.new.result; last = None } in
-    subst (λ (blocks : List Wanted). AreBlocksOf answers c.args.shared.now.nodes blocks start) (none_wanted c.args.schema.now) (no_blocks answers c.args.shared.now.nodes start c.new.ensures refl)
+    let start = c.nothing-written.result in
+    let none = no_blocks answers c.args.shared.now.nodes start (ap (λ (w : Written). w.blocks) c.nothing-written.ensures) (ap (λ (w : Written). w.last) c.nothing-written.ensures) in
+    subst (λ (blocks : List Wanted). AreBlocksOf answers c.args.shared.now.nodes blocks start) (none_wanted c.args.schema.now) none
 
 pub answer_query-requires-clause-asked : goal.answer_query-requires-clause-asked
 answer_query-requires-clause-asked c = subst (IsQuery c.args.schema.now) (sym c.query-item.is) (c.requires.asked c.loop-query.query-index c.query-item.result c.loop-query-test.true)

@@ -1,11 +1,11 @@
-use Rattle.std.proofs.Common.{None}
-use Rattle.pc_group.proofs.Areas.{divided_alone}
-use Rattle.pc_proof.proofs.SeenSums.{seen_small}
+use Rattle.std.proofs.lemmas.Result.{IfOk-weaker}
 use Rattle.pc_group.proofs.answering.answer_query.Goals as goal
 
-pub answer_block-requires-clause-small_seen : goal.answer_block-requires-clause-small_seen
-answer_block-requires-clause-small_seen c =
-    seen_small c.args.scope.now.schema.now c.args.query.now c.args.rows.now c.requires.scope.formed c.requires.seen None c.fold-seen.result c.fold-seen.ensures.folded c.fold-seen.ensures.few
+pub answer_folds-requires-clause-folds : goal.answer_folds-requires-clause-folds
+answer_folds-requires-clause-folds c = rw c.as_slice.ensures c.in_ok-folds.ensures.fit
 
-pub answer_block-requires-clause-divided : goal.answer_block-requires-clause-divided
-answer_block-requires-clause-divided c = divided_alone c.args.scope.now.schema.now c.args.scope.now.constraints.now c.args.scope.now.shared.now.nodes c.args.query.now c.in_default.is c.requires.divided
+pub returns : goal.returns
+returns c =
+    IfOk-weaker c.answer_folds.result _ _
+    (λ more has blocks before. has c.args.rows.now (rw c.as_slice.ensures c.in_ok-folds.ensures.folds) blocks before)
+    c.answer_folds.ensures
