@@ -2,6 +2,7 @@
 use crate::command::Command;
 use crate::trouble::Trouble;
 use pc_base::{MemShelf, MemSink};
+use pc_desk_run::desk;
 use pc_draft_run::draft;
 use pc_list::Seq;
 use pc_run::run;
@@ -22,6 +23,8 @@ pub(crate) type Instead<'a> = Option<(&'a str, &'a [u8])>;
 #[derive(Debug, Drop)]
 pub(crate) struct Ended {
     pub(crate) text: Seq<u8>,
+    /// What was written to the standard error.
+    pub(crate) notes: Seq<u8>,
     pub(crate) status: u8,
     /// Whether it was written by one put, and nothing was loaded where the words are no command.
     pub(crate) is_in_order: bool,
@@ -54,11 +57,14 @@ pub(crate) fn outcome_of(
         return Err(NO_PROGRAM);
     };
     let program = Program::named(name.as_str())?;
-    let mut sink = MemSink::new(alloc, 0);
-    let status = program.run(alloc, words, &mut shelf, &mut sink);
-    let is_in_order = sink.calls == 1 && (!program.is_usage(status) || shelf.calls == 0);
+    let mut out = MemSink::new(alloc, 0);
+    let mut notes = MemSink::new(alloc, 0);
+    let status = program.run(alloc, words, &mut shelf, &mut out, &mut notes);
+    let is_put = out.calls == program.puts(status) && notes.calls <= 1;
+    let is_in_order = is_put && (!program.is_usage(status) || shelf.calls == 0);
     Ok(Ended {
-        text: sink.kept,
+        text: out.kept,
+        notes: notes.kept,
         status,
         is_in_order,
     })
@@ -88,6 +94,7 @@ fn shelf_of(alloc: Global, files: &[NamedFile], instead: Instead<'_>) -> Result<
 #[derive(Clone, Copy, Debug, PartialEq, Eq)]
 enum Program {
     Pc,
+    Desk,
     View,
     Draft,
 }
@@ -96,6 +103,8 @@ impl Program {
     fn named(name: &str) -> Result<Program, Trouble> {
         if name == "pc" {
             Ok(Program::Pc)
+        } else if name == "pc_desk" {
+            Ok(Program::Desk)
         } else if name == "pc_view" {
             Ok(Program::View)
         } else if name == "pc_draft" {
@@ -105,19 +114,32 @@ impl Program {
         }
     }
 
-    /// Has the program do what the words ask, and gives its status.
-    fn run(self, alloc: Global, words: &[String], shelf: &mut MemShelf, sink: &mut MemSink) -> u8 {
+    /// Has the program do what the words ask, and gives its status. `pc_desk` alone writes notes.
+    fn run(
+        self,
+        alloc: Global,
+        words: &[String],
+        shelf: &mut MemShelf,
+        out: &mut MemSink,
+        notes: &mut MemSink,
+    ) -> u8 {
         match self {
-            Program::Pc => run(alloc, words, shelf, sink).code(),
-            Program::View => view(alloc, words, shelf, sink).code(),
-            Program::Draft => draft(alloc, words, shelf, sink).code(),
+            Program::Pc => run(alloc, words, shelf, out).code(),
+            Program::Desk => desk(alloc, words, shelf, out, notes).code(),
+            Program::View => view(alloc, words, shelf, out).code(),
+            Program::Draft => draft(alloc, words, shelf, out).code(),
         }
     }
 
-    /// Whether the status says that the words are no command, of which `pc_view` has none.
+    /// How many puts to the standard output end in a status: `pc_desk` tells a refusal in its notes alone.
+    fn puts(self, status: u8) -> u64 {
+        u64::from(self != Program::Desk || status <= 2)
+    }
+
+    /// Whether the status says that the words are no command, of which two programs have none.
     fn is_usage(self, status: u8) -> bool {
-        status == 2 && self != Program::View
+        status == 2 && matches!(self, Program::Pc | Program::Draft)
     }
 }
 
-const NO_PROGRAM: Trouble = Trouble::Line("a run is one of pc, pc_view or pc_draft");
+const NO_PROGRAM: Trouble = Trouble::Line("a run is one of pc, pc_desk, pc_view or pc_draft");

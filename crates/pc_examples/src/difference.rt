@@ -19,15 +19,25 @@ pub(crate) fn put_difference(
     let wanted = call.status;
     write!(told, "\n    wanted: status {wanted}\n")?;
     put_text(told, call.wanted.as_slice())?;
+    put_notes(told, call.notes.as_slice())?;
     let status = came.status;
     write!(told, "    came: status {status}\n")?;
     put_text(told, came.text.as_slice())?;
+    put_notes(told, came.notes.as_slice())?;
     if !came.is_in_order {
         told.push_str(
             "    not by one put, or something was loaded for words that are no command\n",
         )?;
     }
     Ok(())
+}
+
+fn put_notes(told: &mut String, bytes: &[u8]) -> Result<(), Trouble> {
+    if bytes.is_empty() {
+        return Ok(());
+    }
+    told.push_str("    and to the standard error\n")?;
+    put_text(told, bytes)
 }
 
 fn put_text(told: &mut String, bytes: &[u8]) -> Result<(), Trouble> {

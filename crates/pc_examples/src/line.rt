@@ -25,6 +25,8 @@ pub(crate) enum Line<'a> {
         to: usize,
     },
     Run(Command),
+    /// The lines below are what a run writes to the standard error.
+    Notes,
     Status(u8),
 }
 
@@ -58,6 +60,8 @@ fn directive_of<'a>(text: &'a str) -> Result<Line<'a>, Trouble> {
             from: next_place(&mut words)?,
             to: next_place(&mut words)?,
         }
+    } else if what == "stderr" {
+        Line::Notes
     } else if what == "status" {
         Line::Status(status_of(next_word(&mut words)?)?)
     } else {

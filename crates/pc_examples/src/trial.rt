@@ -16,6 +16,8 @@ pub(crate) struct Call {
     pub(crate) line: u64,
     pub(crate) command: Command,
     pub(crate) wanted: Vec<u8>,
+    /// What is wanted of the standard error.
+    pub(crate) notes: Vec<u8>,
     pub(crate) status: u8,
 }
 
@@ -36,6 +38,7 @@ enum Target {
     Wanted,
     /// What is written is kept, and no text is wanted.
     Kept,
+    Notes,
 }
 
 /// What is known of a file of trials up to a line.
@@ -72,6 +75,7 @@ impl Trial {
         match read_line(alloc, text)? {
             Line::Comment => Ok(()),
             Line::Content(content) => self.add(&content),
+            Line::Notes => self.begin_notes(),
             Line::Status(status) => self.end_in(status),
             Line::File(name) => self.begin_file(alloc, name),
             Line::Edit { name, line, count } => self.begin_edit(alloc, name, line, count),
@@ -107,12 +111,24 @@ impl Trial {
                 Some(call) => content.push_to(&mut call.wanted),
                 None => Ok(()),
             },
+            Target::Notes => match &mut self.call {
+                Some(call) => content.push_to(&mut call.notes),
+                None => Ok(()),
+            },
         }
+    }
+
+    fn begin_notes(&mut self) -> Result<(), Trouble> {
+        if !matches!(self.target, Target::Wanted | Target::Kept) {
+            return Err(Trouble::Line("a standard error stands behind a wanted text"));
+        }
+        self.target = Target::Notes;
+        Ok(())
     }
 
     fn end_in(&mut self, status: u8) -> Result<(), Trouble> {
         match &mut self.call {
-            Some(call) if matches!(self.target, Target::Wanted | Target::Kept) => {
+            Some(call) if matches!(self.target, Target::Wanted | Target::Kept | Target::Notes) => {
                 call.status = status;
                 self.target = Target::Nothing;
                 Ok(())
@@ -180,6 +196,7 @@ impl Trial {
             line,
             command,
             wanted: Vec::new(alloc),
+            notes: Vec::new(alloc),
             status: 0,
         });
         Ok(())
@@ -265,6 +282,7 @@ impl Call {
     /// Whether what came is what is wanted.
     fn is_met(&self, came: &Ended) -> bool {
         let is_text = self.command.kept.is_some() || came.text.as_slice() == self.wanted.as_slice();
-        is_text && came.status == self.status && came.is_in_order
+        let is_note = came.notes.as_slice() == self.notes.as_slice();
+        is_text && is_note && came.status == self.status && came.is_in_order
     }
 }

@@ -1,4 +1,5 @@
-//! The program `pc_view`: it reads what `pc` printed from the standard input, and writes a table of it.
+//! The program `pc_view`: it reads a document or the line of a refusal from the standard input, and tells what
+//! that rests on or speaks of.
 #![tactic(auto)]
 
 use pc_cli_host::{HostShelf, HostSink, SystemFiles, words};

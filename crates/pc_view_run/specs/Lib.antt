@@ -1,9 +1,8 @@
 pub mod Codes
+pub mod Inputs
 pub mod Lines
 pub mod Reasons
 pub mod Refusals
 pub mod Replies
-pub mod Reports
-pub mod Settled
 pub mod Views
 pub mod Words

@@ -7,20 +7,14 @@ use Rattle.pc_files.specs.Texts.{fault_line, line_break, malformed_line}
 use Rattle.pc_view_run.specs.declared.ended.Ended.TheVariants as ends
 use Rattle.pc_view_run.specs.declared.reply.Reply.{Reply}
 use Rattle.pc_view_run.specs.declared.input.Input.{Input}
-use Rattle.pc_view_run.specs.declared.input.Input.TheVariants as inputs
+use Rattle.pc_view_run.specs.Inputs.{input_text}
 
 abbrev pub usage_text : List ℕ
 usage_text =
-    concat (codes "usage: pc_view table | chart | svg" ∷ line_break ∷ codes "       pc_view why SCHEMA CONSTRAINTS" ∷ line_break ∷ codes "       pc_view fault FILE" ∷ line_break ∷ [])
+    concat (codes "usage: pc_view why SCHEMA CONSTRAINTS" ∷ line_break ∷ codes "       pc_view fault FILE" ∷ line_break ∷ [])
 
 abbrev pub usage : Reply
 usage = record { status = ends.Refused; text = usage_text }
-
--- what the input is to be
-abbrev pub input_text : Input → List ℕ
-input_text inputs.Report = codes "report"
-input_text inputs.Document = codes "document"
-input_text inputs.Refusal = codes "refusal"
 
 abbrev pub malformed : Input → ℕ → Reply
 malformed input line = record { status = ends.Refused; text = concat (codes "malformed " ∷ input_text input ∷ codes " at " ∷ decimal line ∷ line_break ∷ []) }

@@ -14,7 +14,7 @@ use Rattle.pc_view_run.specs.declared.reasons.Explained.{Explained}
 use Rattle.pc_view_run.specs.declared.reply.Reply.{Reply}
 use Rattle.pc_view_run.specs.declared.input.Input.TheVariants as inputs
 use Rattle.pc_view_run.specs.Lines.{IsStopReply, malformed, unfit}
-use Rattle.pc_view_run.specs.Reports.{input_name}
+use Rattle.pc_view_run.specs.Inputs.{input_name}
 
 -- the names of the two files
 pub record Names : Type 0 where
@@ -30,7 +30,7 @@ IsRefusalReply refusals.Memory reply = ⊥
 pub record IsTabled (schema : Schema) (constraints : List Constraint) (bytes : List ℕ) (reply : Reply) : Type 0 where
   pub text : List ℕ
   pub table : IsTableOf schema constraints bytes text
-  pub said : reply ≡ record { status = ends.Settled; text = text }
+  pub said : reply ≡ record { status = ends.Written; text = text }
 
 -- .. or why there is none
 pub record IsRefused (schema : Schema) (constraints : List Constraint) (bytes : List ℕ) (reply : Reply) : Type 0 where

@@ -12,10 +12,10 @@ use Rattle.pc_view_run.specs.declared.ended.Ended.TheVariants as ends
 use Rattle.pc_view_run.specs.declared.reply.Reply.{Reply}
 use Rattle.pc_view_run.specs.declared.input.Input.TheVariants as inputs
 use Rattle.pc_view_run.specs.Lines.{malformed, unread}
-use Rattle.pc_view_run.specs.Reports.{input_name, limit}
+use Rattle.pc_view_run.specs.Inputs.{input_name, limit}
 
 abbrev pub pointed : Fault → List ℕ → Reply
-pointed fault bytes = record { status = ends.Settled; text = fault_text fault bytes }
+pointed fault bytes = record { status = ends.Written; text = fault_text fault bytes }
 
 -- the reply to what a load of the file left; of one that is too long nothing is shown
 abbrev pub IsPointed : Fault → Loaded → List ℕ → Reply → Type 0

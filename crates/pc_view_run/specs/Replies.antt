@@ -5,12 +5,10 @@ use Rattle.pc_view_run.specs.declared.reply.Reply.{Reply}
 use Rattle.pc_view_run.specs.Lines.{usage}
 use Rattle.pc_view_run.specs.Reasons.{Explains}
 use Rattle.pc_view_run.specs.Refusals.{Points}
-use Rattle.pc_view_run.specs.Reports.{Tells}
-use Rattle.pc_view_run.specs.Words.{Asked, report, reasons, refusal, nothing}
+use Rattle.pc_view_run.specs.Words.{Asked, reasons, refusal, nothing}
 
 -- of words that are no command nothing is loaded
 abbrev pub Responds : Asked → Reading → Reply → Type 0
-Responds (report style) reading reply = Tells style reading.before reading.after reply
 Responds (reasons schema constraints) reading reply = Explains (record { schema = schema; constraints = constraints }) reading reply
 Responds (refusal file) reading reply = Points file reading.before reading.after reply
 Responds nothing reading reply = reading.did [] × (reply ≡ usage)

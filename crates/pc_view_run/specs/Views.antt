@@ -10,9 +10,7 @@ use Rattle.pc_view_run.specs.Words.{Asked}
 
 -- a text that was cut off is a write fault; the line of a refusal keeps its status
 abbrev pub cut_off : Ended → Ended
-cut_off ends.Settled = ends.WriteFault
-cut_off ends.Open = ends.WriteFault
-cut_off ends.Impossible = ends.WriteFault
+cut_off ends.Written = ends.WriteFault
 cut_off ends.Refused = ends.Refused
 cut_off ends.ReadFault = ends.ReadFault
 cut_off ends.WriteFault = ends.WriteFault

@@ -4,12 +4,8 @@ ghost use Rattle.pc_view_run.specs.Codes.{code_of};
 /// How a run ended.
 #[derive(Clone, Copy, Debug, PartialEq, Eq)]
 pub enum Ended {
-    /// The text is written, and all that a report says is settled.
-    Settled,
-    /// It is written, and an end is outer, or something is undecided.
-    Open,
-    /// It is written, and for a block no lost rows are possible.
-    Impossible,
+    /// The text is written.
+    Written,
     /// The words are no command, or the input or a file is refused.
     Refused,
     /// The input or a file could not be read.
@@ -26,9 +22,7 @@ impl Ended {
         ensures { result ≡ code_of self }
     {
         match self {
-            Ended::Settled => 0,
-            Ended::Open => 1,
-            Ended::Impossible => 2,
+            Ended::Written => 0,
             Ended::Refused => 3,
             Ended::ReadFault => 4,
             Ended::WriteFault => 5,

@@ -1,10 +1,15 @@
 ghost use Rattle.std.specs.Prelude.{◌≡◌};
-ghost use Rattle.pc_view_run.specs.Lines.{input_text};
+ghost use Rattle.pc_view_run.specs.Inputs.{input_text};
+
+/// The name of the standard input.
+pub(crate) const INPUT: &str = "/dev/stdin";
+
+/// The greatest number of bytes that are loaded, which is that of a document.
+pub(crate) const LIMIT: usize = 268_435_456;
 
 /// What the standard input is to be.
 #[derive(Clone, Copy, Debug, PartialEq, Eq)]
 pub(crate) enum Input {
-    Report,
     Document,
     Refusal,
 }
@@ -14,7 +19,6 @@ impl Input {
         ensures { result.now ≡ input_text self }
     {
         match self {
-            Input::Report => "report",
             Input::Document => "document",
             Input::Refusal => "refusal",
         }

@@ -8,10 +8,7 @@ mod line;
 mod reasons;
 mod refusal;
 mod reply;
-mod report;
 mod run;
-mod settled;
-mod style;
 
 pub use ended::Ended;
 pub use laws::refusals_are_read_back;

@@ -9,8 +9,7 @@ use pc_list::Seq;
 use pc_num::Memory;
 use std::alloc::Global;
 
-const USAGE: &str =
-    "usage: pc_view table | chart | svg\n       pc_view why SCHEMA CONSTRAINTS\n       pc_view fault FILE\n";
+const USAGE: &str = "usage: pc_view why SCHEMA CONSTRAINTS\n       pc_view fault FILE\n";
 
 pub(crate) fn usage(alloc: Global) -> Result<Reply, Memory>
     ensures { IfOk result (λ reply. reply ≡ usage) }

@@ -4,10 +4,9 @@ ghost use Rattle.pc_files.specs.Reads.{IsShowable};
 ghost use Rattle.pc_view_run.specs.Reasons.{Explains, IsReplyOver, ReadsExplained};
 
 use crate::ended::Ended;
-use crate::input::Input;
+use crate::input::{INPUT, Input};
 use crate::line::{malformed, stopped, unfit};
 use crate::reply::Reply;
-use crate::report::INPUT;
 use pc_base::Shelf;
 use pc_files::{Listing, Stop, load_bytes, read_listing};
 use pc_list::Seq;
@@ -65,7 +64,7 @@ fn reply_over(alloc: Global, listing: &Listing, bytes: &[u8]) -> Result<Reply, M
         bytes,
     ) {
         Ok(text) => Ok(Reply {
-            status: Ended::Settled,
+            status: Ended::Written,
             text: Seq::from_vec(text),
         }),
         Err(NoReasons::Document { line }) => malformed(alloc, Input::Document, line),

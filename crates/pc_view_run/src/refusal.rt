@@ -2,10 +2,9 @@ ghost use Rattle.std.specs.Prelude.{◌≡◌, ◌≤◌, ◌+◌, IfOk};
 ghost use Rattle.pc_view_run.specs.Refusals.{Points, PointsAt, PointsIn, pointed};
 
 use crate::ended::Ended;
-use crate::input::Input;
+use crate::input::{INPUT, Input, LIMIT};
 use crate::line::{malformed, stopped, unread};
 use crate::reply::Reply;
-use crate::report::{INPUT, LIMIT};
 use pc_base::{Loaded, Shelf};
 use pc_faults::{fault_text, read_refusal};
 use pc_files::Stop;
@@ -68,7 +67,7 @@ fn pointed(alloc: Global, fault: Fault, bytes: &[u8]) -> Result<Reply, Memory>
     ensures { IfOk result (λ reply. reply ≡ pointed fault bytes.now) }
 {
     Ok(Reply {
-        status: Ended::Settled,
+        status: Ended::Written,
         text: Seq::from_vec(fault_text(alloc, fault, bytes)?),
     })
 }

@@ -1,14 +1,12 @@
 ghost use Rattle.std.specs.Prelude.{◌≤◌, ◌+◌, IfOk, map, string_bytes};
 ghost use Rattle.pc_files.specs.Loading.{reading_of};
 ghost use Rattle.pc_view_run.specs.Replies.{Responds};
-ghost use Rattle.pc_view_run.specs.Words.{asked, asked_of_one, asked_of_two};
+ghost use Rattle.pc_view_run.specs.Words.{asked, asked_of_two};
 
 use crate::ended::Ended;
 use crate::line::usage;
 use crate::reasons::explain;
 use crate::refusal::point;
-use crate::report::show;
-use crate::style::Style;
 use pc_base::Shelf;
 use pc_list::Seq;
 use pc_num::Memory;
@@ -31,7 +29,6 @@ pub(crate) fn respond<F: Shelf>(
     ensures loads { (F.told files.new).calls ≤ (F.told files.old).calls + 3 }
 {
     match words {
-        [word] => respond_to_one(alloc, word.as_str(), files),
         [word, file] => respond_to_two(alloc, word.as_str(), files, file.as_str()),
         [word, schema, constraints] => {
             if word.as_str() != "why" {
@@ -56,16 +53,4 @@ fn respond_to_two<F: Shelf>(
         return usage(alloc);
     }
     point(alloc, files, file)
-}
-
-fn respond_to_one<F: Shelf>(alloc: Global, word: &str, files: &mut F) -> Result<Reply, Memory>
-    ensures responds { IfOk result (Responds (asked_of_one word.now) (reading_of F.told F.leads files.old files.new)) }
-    ensures loads { (F.told files.new).calls ≤ (F.told files.old).calls + 1 }
-{
-    match word {
-        "table" => show(alloc, files, Style::Table),
-        "chart" => show(alloc, files, Style::Chart),
-        "svg" => show(alloc, files, Style::Picture),
-        _ => usage(alloc),
-    }
 }

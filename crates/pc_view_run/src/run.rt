@@ -10,8 +10,8 @@ use pc_base::{Put, Shelf, Sink};
 use pc_files::put_text;
 use std::alloc::Global;
 
-/// Does what the words ask: reads what `pc` wrote from the standard input, and writes a table, a picture or the reasons of it,
-/// or the line that says why not, by one put.
+/// Does what the words ask: reads a document or the line of a refusal from the standard input, and writes what that rests on or
+/// speaks of, or the line that says why not, by one put.
 #[tactic(auto, using(crate::proofs::Puts::puts))]
 pub fn view<F: Shelf, K: Sink>(alloc: Global, words: &[String], files: &mut F, out: &mut K) -> Ended
     ensures views { Views (asked (map string_bytes words.now)) (reading_of F.told F.leads files.old files.new) (writing_of K.told out.old out.new) result }
@@ -33,7 +33,7 @@ fn cut_off(status: Ended) -> Ended
     ensures { result ≡ cut_off status }
 {
     match status {
-        Ended::Settled | Ended::Open | Ended::Impossible => Ended::WriteFault,
+        Ended::Written => Ended::WriteFault,
         _ => status,
     }
 }

@@ -1,4 +1,4 @@
-//! Tests of what no file of trials shows of `view` and `draft`: loads and puts that fail, statuses, and numbers behind charts.
+//! Tests of what no file of trials shows of `view` and `draft`: loads and puts that fail, and statuses.
 #![tactic(auto)]
 
 #[cfg(test)]

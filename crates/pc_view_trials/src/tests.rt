@@ -1,2 +1,1 @@
 mod faults;
-mod numbers;

@@ -19,7 +19,7 @@ static FILES: [(&str, &str); 4] = [
     ("empty", ""),
 ];
 
-const COUNT: &str = "query count\nrelation possible\nlow 3 exact\nhigh 7 exact\n";
+const REFUSAL: &str = "malformed constraints at 1: reason 16 Unexpected\n";
 
 /// What fails in a run.
 #[derive(Clone, Copy)]
@@ -35,12 +35,12 @@ enum Failure {
 type Ending = (&'static str, u8);
 
 /// The words of a run of pc_view, its input, what fails in it, and how it is to end.
-static VIEWS: [(&[&str], Option<&str>, Failure, Ending); 6] = [
+static VIEWS: [(&[&str], Option<&str>, Failure, Ending); 8] = [
     (
-        &["table"],
+        &["fault", "constraints"],
         None,
         Failure::Nothing,
-        ("read fault: report\n", 4),
+        ("read fault: refusal\n", 4),
     ),
     (
         &["why", "schema", "constraints"],
@@ -49,14 +49,36 @@ static VIEWS: [(&[&str], Option<&str>, Failure, Ending); 6] = [
         ("read fault: document\n", 4),
     ),
     (
-        &["table"],
-        Some(COUNT),
+        &["fault", "constraints"],
+        Some(REFUSAL),
         Failure::Load(0),
-        ("read fault: report\n", 4),
+        ("read fault: refusal\n", 4),
     ),
-    (&["table"], Some(COUNT), Failure::Put(6), ("query,", 5)),
-    (&["table"], Some("x\n"), Failure::Put(9), ("malformed", 3)),
-    (&[], Some(COUNT), Failure::Put(0), ("", 3)),
+    (
+        &["fault", "constraints"],
+        Some(REFUSAL),
+        Failure::Load(1),
+        ("read fault: constraints\n", 4),
+    ),
+    (
+        &["why", "schema", "constraints"],
+        Some("x\n"),
+        Failure::Load(2),
+        ("read fault: document\n", 4),
+    ),
+    (
+        &["fault", "constraints"],
+        Some(REFUSAL),
+        Failure::Put(7),
+        ("line 1:", 5),
+    ),
+    (
+        &["fault", "constraints"],
+        Some("x\n"),
+        Failure::Put(9),
+        ("malformed", 3),
+    ),
+    (&[], Some(REFUSAL), Failure::Put(0), ("", 3)),
 ];
 
 /// The words of a run of pc_draft, what fails in it, and how it is to end.
@@ -159,10 +181,8 @@ fn drafts_with_failures(rt: HostRuntime) -> Result<(), Fail> {
     Ok(())
 }
 
-static CODES: [(Ended, u8); 7] = [
-    (Ended::Settled, 0),
-    (Ended::Open, 1),
-    (Ended::Impossible, 2),
+static CODES: [(Ended, u8); 5] = [
+    (Ended::Written, 0),
     (Ended::Refused, 3),
     (Ended::ReadFault, 4),
     (Ended::WriteFault, 5),

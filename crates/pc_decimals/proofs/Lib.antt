@@ -1,2 +1,0 @@
-pub mod OutsideQuotients
-pub mod Sizes

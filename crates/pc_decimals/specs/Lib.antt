@@ -1,4 +1,0 @@
-pub mod Decimals
-pub mod Numbers
-pub mod Outside
-pub mod Ratios

@@ -1,4 +1,0 @@
-pub mod Escaping
-pub mod Growing
-pub mod Parting
-pub mod Rowing

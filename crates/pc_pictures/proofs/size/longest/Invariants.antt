@@ -1,7 +1,0 @@
-use Rattle.std.proofs.Common.{◌≡◌, drop, max}
-use Rattle.pc_pictures.specs.Sizes.{longest}
-use Rattle.pc_pictures.proofs.size.longest.Given as goal
-
--- what is left decides
-abbrev pub invariant-loop-entry : goal.invariant-loop-entry
-invariant-loop-entry l = max l.columns (longest (drop l.entry-index l.entries)) ≡ longest l.entries

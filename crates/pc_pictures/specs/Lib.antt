@@ -1,5 +1,0 @@
-pub mod Elements
-pub mod Escapes
-pub mod Rows
-pub mod Sizes
-pub mod Whole

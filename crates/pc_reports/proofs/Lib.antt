@@ -1,3 +1,0 @@
-pub mod Reading
-pub mod Splits
-pub mod Utf8

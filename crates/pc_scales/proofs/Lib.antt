@@ -1,4 +1,0 @@
-pub mod Hulls
-pub mod Placing
-pub mod Runs
-pub mod Widths

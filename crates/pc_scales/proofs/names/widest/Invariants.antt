@@ -1,7 +1,0 @@
-use Rattle.std.proofs.Common.{◌≡◌, drop, max}
-use Rattle.pc_scales.specs.Names.{widest}
-use Rattle.pc_scales.proofs.names.widest.Given as goal
-
--- what is left decides
-abbrev pub invariant-loop-entry : goal.invariant-loop-entry
-invariant-loop-entry l = max l.width (widest (drop l.entry-index l.entries)) ≡ widest l.entries
