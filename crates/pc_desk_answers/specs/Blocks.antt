@@ -1,5 +1,5 @@
 -- Which entries questions want, and what each owes.
-use Rattle.std.specs.Prelude.{◌≡◌, ◌≤◌, ℕ, ◌+◌, List, [], ◌∷◌, ◌++◌, map, flat_map, Option, Some, None}
+use Rattle.std.specs.Prelude.{◌≡◌, ◌≤◌, ℕ, ◌+◌, List, [], ◌∷◌, ◌++◌, get_or, map, flat_map, Option, Some, None}
 use Rattle.std.specs.List.{AllPass, AllZip}
 use Rattle.pc_model.specs.declared.schema.Schema.{Schema}
 use Rattle.pc_model.specs.declared.row.Row.{Row}
@@ -9,6 +9,7 @@ use Rattle.pc_model.specs.Accepted.{AreConstraints}
 use Rattle.pc_model.specs.Membership.{in_domain}
 use Rattle.pc_model.specs.WellFormed.{IsWellFormed}
 use Rattle.pc_files.specs.declared.reading.Observed.{Observed}
+use Rattle.pc_files.specs.declared.reading.Script.{Script}
 use Rattle.pc_session.specs.declared.line.Line.{Line}
 use Rattle.pc_session.specs.declared.line.Line.TheVariants as lines
 use Rattle.pc_session.specs.Edited.{Held, after_line}
@@ -136,15 +137,20 @@ pub record Posed : Type 0 where
 abbrev pub posed_with : Ground → Wanted → Posed
 posed_with ground w = record { ground = ground; asked = block w }
 
--- an edit asks nothing
+-- what a line of this number asks; an edit asks nothing
 abbrev pub posed_at : Schema → ℕ → Held → ℕ → Line → List Posed
-posed_at schema nodes held place (lines.Edits edit) = []
-posed_at schema nodes held place (lines.Asks query) = map (posed_with (ground_held schema held place nodes)) (wanted_by schema query)
+posed_at schema nodes held number (lines.Edits edit) = []
+posed_at schema nodes held number (lines.Asks query) = map (posed_with (ground_held schema held number nodes)) (wanted_by schema query)
 
--- what lines ask from a place on, each of what those before it leave
-unfoldable pub posed_from : Schema → ℕ → Held → ℕ → List Line → List Posed
-posed_from schema nodes held place [] = []
-posed_from schema nodes held place (line ∷ rest) = posed_at schema nodes held place line ++ posed_from schema nodes (after_line held line) (place + 1) rest
+-- what lines ask, each of what those before it leave; the first has this place among the numbers
+unfoldable pub posed_from : Schema → ℕ → List ℕ → Held → ℕ → List Line → List Posed
+posed_from schema nodes numbers held place [] = []
+posed_from schema nodes numbers held place (line ∷ rest) =
+    posed_at schema nodes held (get_or numbers place 0) line ++ posed_from schema nodes numbers (after_line held line) (place + 1) rest
+
+-- what a script asks, of what is held at its start
+abbrev pub posed_by : Schema → ℕ → Held → Script → List Posed
+posed_by schema nodes start script = posed_from schema nodes script.numbers start 0 script.lines
 
 abbrev pub ArePosed : List Posed → List Entry → Type 0
 ArePosed posed entries = AllZip (λ (p : Posed). Shows p.ground p.asked) posed entries

@@ -123,7 +123,13 @@ fn answer_query(
         shared,
         scope.nodes,
     )?;
-    block_entries(alloc, scope, query, folds.as_slice(), document.blocks.as_slice())
+    block_entries(
+        alloc,
+        scope,
+        query,
+        folds.as_slice(),
+        document.blocks.as_slice(),
+    )
 }
 
 /// What is shown of the answer to a query about what a session holds, which the given line of a script asks.
@@ -151,5 +157,11 @@ pub fn ask_session(
         nodes,
         line: Some(line),
     };
-    block_entries(alloc, &scope, query, folds.as_slice(), document.blocks.as_slice())
+    block_entries(
+        alloc,
+        &scope,
+        query,
+        folds.as_slice(),
+        document.blocks.as_slice(),
+    )
 }

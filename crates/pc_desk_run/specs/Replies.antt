@@ -6,7 +6,8 @@ use Rattle.pc_files.specs.declared.stop.Stop.{Stop}
 use Rattle.pc_files.specs.declared.stop.Stop.TheVariants as stops
 use Rattle.pc_files.specs.Loading.{EndsAt, IsUnread, LoadsAll, Reading}
 use Rattle.pc_files.specs.Outcome.{refused}
-use Rattle.pc_desk_answers.specs.Blocks.{ArePosed, AreShown, asked, ground_of, posed_from}
+use Rattle.pc_files.specs.Reads.{start_of}
+use Rattle.pc_desk_answers.specs.Blocks.{ArePosed, AreShown, asked, ground_of, posed_by}
 use Rattle.pc_desk_table.specs.declared.entry.Entry.{Entry}
 use Rattle.pc_desk_words.specs.declared.form.Form.{Form}
 use Rattle.pc_desk_words.specs.Words.{Asked, MayHelp, MayRefuse, asked_of}
@@ -15,15 +16,15 @@ use Rattle.pc_desk_run.specs.declared.ended.Ended.TheVariants as ends
 use Rattle.pc_desk_run.specs.declared.reply.Reply.{Reply}
 use Rattle.pc_desk_run.specs.declared.reply.Reply.TheVariants as replies
 use Rattle.pc_desk_run.specs.Endings.{ended_of}
-use Rattle.pc_desk_run.specs.Inputs.{IsSoundInput, start_of}
+use Rattle.pc_desk_run.specs.Inputs.{IsSoundInput}
 use Rattle.pc_desk_run.specs.Outcome.{ComesTo, Input, asks, files_of, follows, form_of}
 use Rattle.pc_desk_run.specs.Texts.{Named, named_in, note_on, refused_lines, text_of, unread_line}
 
 -- The entries show answers to what is asked: each is right, by searches of at most so many nodes, and stands beside the answer to
--- the same where nothing is lost.
+-- the same where nothing is lost; of a script each has the number of its line in the file.
 abbrev pub AnswersInput : Input → List Entry → Type 0
 AnswersInput (asks nodes asking) entries = AreShown (ground_of asking.observed nodes) (asked asking.observed.schema asking.questions) entries
-AnswersInput (follows nodes scripted) entries = ArePosed (posed_from scripted.observed.schema nodes (start_of scripted) 1 scripted.lines) entries
+AnswersInput (follows nodes scripted) entries = ArePosed (posed_by scripted.observed.schema nodes (start_of scripted) scripted.script) entries
 
 -- a script may add constraints
 abbrev pub note_for : Input → List ℕ

@@ -1,14 +1,14 @@
 ghost use Rattle.std.specs.Prelude.{IfOk};
 ghost use Rattle.pc_files.specs.Loading.{reading_of};
 ghost use Rattle.pc_desk_words.specs.Calls.{ask_names, session_names};
-ghost use Rattle.pc_desk_run.specs.Inputs.{IsAsking, IsScripted, ReadsAsking, ReadsScripted};
+ghost use Rattle.pc_files.specs.Reads.{IsScripted};
+ghost use Rattle.pc_desk_run.specs.Inputs.{IsAsking, ReadsAsking, ReadsSession};
 
 use pc_base::Shelf;
 use pc_desk_answers::{Question, read_questions};
 use pc_desk_words::{Ask, Session};
-use pc_files::{Observed, Stop, load_script, read_observed};
+use pc_files::{Observed, Scripted, Stop, read_observed, read_scripted};
 use pc_list::Seq;
-use pc_session::Line;
 use std::alloc::Global;
 
 /// What is asked, and of what.
@@ -16,13 +16,6 @@ use std::alloc::Global;
 pub(crate) struct Asking {
     pub observed: Observed,
     pub questions: Seq<Question>,
-}
-
-/// What a session begins with, and the lines that it follows.
-#[derive(Debug, Drop)]
-pub(crate) struct Scripted {
-    pub observed: Observed,
-    pub lines: Seq<Line>,
 }
 
 /// Reads the files of `ask`, and then its queries.
@@ -40,16 +33,21 @@ pub(crate) fn read_asking<F: Shelf>(alloc: Global, files: &mut F, ask: &Ask) -> 
 }
 
 /// Reads the files of `session`, the last of which is the script.
-pub(crate) fn read_scripted<F: Shelf>(
+pub(crate) fn read_session<F: Shelf>(
     alloc: Global,
     files: &mut F,
     session: &Session,
 ) -> Result<Scripted, Stop>
-    ensures read { ReadsScripted (reading_of F.told F.leads files.old files.new) (session_names session.now) result }
+    ensures read { ReadsSession (reading_of F.told F.leads files.old files.new) (session_names session.now) result }
     ensures sound { IfOk result IsScripted }
 {
     let names = session.files;
-    let observed = read_observed(alloc, files, names.schema, names.rows, names.constraints)?;
-    let lines = load_script(alloc, files, session.script, &observed)?;
-    Ok(Scripted { observed, lines })
+    read_scripted(
+        alloc,
+        files,
+        names.schema,
+        names.rows,
+        names.constraints,
+        session.script,
+    )
 }

@@ -4,14 +4,15 @@ ghost use Rattle.pc_desk_table.specs.declared.entry.Entry.{Entry};
 ghost use Rattle.pc_desk_words.specs.Calls.{ask_names, session_names};
 ghost use Rattle.pc_desk_words.specs.Words.{IsBudget, MayHelp, MayRefuse};
 ghost use Rattle.pc_desk_words.specs.Words as words;
-ghost use Rattle.pc_desk_run.specs.Inputs.{IsAsking, IsScripted};
+ghost use Rattle.pc_files.specs.Reads.{IsScripted};
+ghost use Rattle.pc_desk_run.specs.Inputs.{IsAsking};
 ghost use Rattle.pc_desk_run.specs.Outcome.{asks, follows};
 ghost use Rattle.pc_desk_run.specs.Replies.{IsStopReply, RepliesTo, RepliesToNone, Responds, SaysInput, Shows};
 ghost use Rattle.pc_desk_run.specs.Texts.{named_of};
 
 use crate::ended::Ended;
 use crate::form::text_of;
-use crate::input::{Asking, Scripted, read_asking, read_scripted};
+use crate::input::{Asking, read_asking, read_session};
 use crate::line::{Sources, refused_lines, sources_of_ask, sources_of_session, unread_line};
 use crate::note::note_on;
 use crate::session::follow_script;
@@ -20,7 +21,7 @@ use pc_base::Shelf;
 use pc_desk_answers::answer_questions;
 use pc_desk_table::Entry;
 use pc_desk_words::{Ask, Call, Form, Session, read_call};
-use pc_files::Stop;
+use pc_files::{Scripted, Stop};
 use pc_list::Seq;
 use pc_num::Memory;
 use std::alloc::Global;
@@ -95,7 +96,7 @@ fn reply_to_session<F: Shelf>(
     requires { IsBudget session.now.nodes }
     ensures { IfOk result (RepliesTo (reading_of F.told F.leads files.old files.new) (words.session (session_names session.now))) }
 {
-    match read_scripted(alloc, files, session) {
+    match read_session(alloc, files, session) {
         Ok(scripted) => followed(alloc, scripted, session.form, session.nodes),
         Err(stop) => stopped(alloc, &sources_of_session(session), stop),
     }

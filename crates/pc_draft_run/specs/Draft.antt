@@ -136,13 +136,3 @@ Means call ended.Malformed = (text : List ℕ) × Says call ended.Malformed text
 Means call ended.ReadFault = (text : List ℕ) × Says call ended.ReadFault text × IsTold call.writing text
 Means call ended.WriteFault = (text : List ℕ) × (Says call ended.Done text ⊎ Says call ended.SaidNo text) × IsCutOff call.writing text
 Means call ended.Memory = IsUntouched call.writing
-
--- the status where a put failed
-abbrev pub after_failed_put : Status → Status
-after_failed_put ended.Done = ended.WriteFault
-after_failed_put ended.SaidNo = ended.WriteFault
-after_failed_put ended.Usage = ended.Usage
-after_failed_put ended.Malformed = ended.Malformed
-after_failed_put ended.ReadFault = ended.ReadFault
-after_failed_put ended.WriteFault = ended.WriteFault
-after_failed_put ended.Memory = ended.Memory

@@ -9,7 +9,7 @@ ghost use Rattle.pc_base.specs.declared.status.Status.TheVariants as ended;
 ghost use Rattle.pc_files.specs.Loading.{reading_of};
 ghost use Rattle.pc_files.specs.Writing.{writing_of};
 ghost use Rattle.pc_draft_run.specs.Texts.{usage_line};
-ghost use Rattle.pc_draft_run.specs.Draft.{Means, Replies, Responds, after_failed_put, asked, asked_drafting, asked_statement, call_of, names_in, names_of};
+ghost use Rattle.pc_draft_run.specs.Draft.{Means, Replies, Responds, asked, asked_drafting, asked_statement, call_of, names_in, names_of};
 
 mod line;
 mod loading;
@@ -17,19 +17,12 @@ mod sketch;
 
 use crate::line::usage_line;
 use crate::sketch::sketch;
-use pc_base::{Put, Shelf, Sink, Status};
-use pc_files::{Listing, Stop, fault_line, malformed_line, put_text, read_listing};
+use pc_base::{Shelf, Sink, Status};
+use pc_files::{Listing, Reply, Stop, fault_line, malformed_line, put_reply, read_listing};
 use pc_list::Seq;
 use pc_num::Memory;
 use pc_sql::put_sql;
 use std::alloc::Global;
-
-/// The status with which a run ends, and the text that it writes.
-#[derive(Debug, Drop)]
-pub(crate) struct Reply {
-    pub status: Status,
-    pub text: Seq<u8>,
-}
 
 /// The names of the two files of a statement, and that of its table.
 #[derive(Clone, Copy, Debug)]
@@ -49,28 +42,16 @@ pub fn draft<F: Shelf, K: Sink>(
 ) -> Status
     ensures { Means (call_of (map string_bytes words.now) (reading_of F.told F.leads files.old files.new) (writing_of K.told out.old out.new)) result }
 {
-    let Ok(reply) = respond(alloc, words, files) else {
-        return Status::Memory;
-    };
-    match put_text(out, reply.text.as_slice()) {
-        Put::All => reply.status,
-        Put::Failed => after_failed_put(reply.status),
-        Put::Memory => Status::Memory,
-    }
-}
-
-/// An answer that was cut off is a write fault; the line of a refusal keeps its status.
-fn after_failed_put(status: Status) -> Status
-    ensures { result ≡ after_failed_put status }
-{
-    match status {
-        Status::Done | Status::SaidNo => Status::WriteFault,
-        _ => status,
-    }
+    let reply = respond(alloc, words, files);
+    put_reply(out, reply)
 }
 
 /// The reply to any words.
-fn respond<F: Shelf>(alloc: Global, words: &[String], files: &mut F) -> Result<Reply, Memory>
+fn respond<F: Shelf>(
+    alloc: Global,
+    words: &[String],
+    files: &mut F,
+) -> Result<Reply<Status>, Memory>
     ensures { IfOk result (λ reply. Responds (reading_of F.told F.leads files.old files.new) (asked (map string_bytes words.now)) reply.status reply.text) }
 {
     match words {
@@ -91,7 +72,7 @@ fn respond_statement<F: Shelf>(
     alloc: Global,
     words: &[String],
     files: &mut F,
-) -> Result<Reply, Memory>
+) -> Result<Reply<Status>, Memory>
     ensures { IfOk result (λ reply. Responds (reading_of F.told F.leads files.old files.new) (asked_statement (map string_bytes words.now)) reply.status reply.text) }
 {
     match names_of(words) {
@@ -117,7 +98,7 @@ fn respond_drafting<F: Shelf>(
     alloc: Global,
     words: &[String],
     files: &mut F,
-) -> Result<Reply, Memory>
+) -> Result<Reply<Status>, Memory>
     ensures { IfOk result (λ reply. Responds (reading_of F.told F.leads files.old files.new) (asked_drafting (map string_bytes words.now)) reply.status reply.text) }
 {
     match words {
@@ -126,7 +107,7 @@ fn respond_drafting<F: Shelf>(
     }
 }
 
-fn usage(alloc: Global) -> Result<Reply, Memory>
+fn usage(alloc: Global) -> Result<Reply<Status>, Memory>
     ensures { IfOk result (λ reply. (reply.status ≡ ended.Usage) × (reply.text ≡ usage_line)) }
 {
     Ok(Reply {
@@ -136,7 +117,11 @@ fn usage(alloc: Global) -> Result<Reply, Memory>
 }
 
 /// The reply to a command of a statement.
-fn reply_to<F: Shelf>(alloc: Global, files: &mut F, names: &StatementNames) -> Result<Reply, Memory>
+fn reply_to<F: Shelf>(
+    alloc: Global,
+    files: &mut F,
+    names: &StatementNames,
+) -> Result<Reply<Status>, Memory>
     ensures { IfOk result (λ reply. Replies (reading_of F.told F.leads files.old files.new) (names_in names.now) reply.status reply.text) }
 {
     match read_listing(alloc, files, names.schema, names.constraints) {

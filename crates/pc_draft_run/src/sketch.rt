@@ -3,10 +3,9 @@ ghost use Rattle.pc_infer.specs.Draft.{IsDraft};
 ghost use Rattle.pc_files.specs.Loading.{reading_of};
 ghost use Rattle.pc_draft_run.specs.Draft.{Sketches, Tells};
 
-use crate::Reply;
 use crate::loading::load_draft;
 use pc_base::{Shelf, Status};
-use pc_files::{Stop, fault_line, malformed_line};
+use pc_files::{Reply, Stop, fault_line, malformed_line};
 use pc_infer::{Drafted, misfit_lines, schema_text};
 use pc_list::Seq;
 use pc_num::Memory;
@@ -19,7 +18,7 @@ pub(crate) fn sketch<F: Shelf>(
     files: &mut F,
     file: &str,
     columns: &[String],
-) -> Result<Reply, Memory>
+) -> Result<Reply<Status>, Memory>
     ensures { IfOk result (λ reply. Sketches (reading_of F.told F.leads files.old files.new) (record { file = file.now; columns = map string_bytes columns.now }) reply.status reply.text) }
 {
     match load_draft(alloc, files, file, columns) {
@@ -37,7 +36,7 @@ pub(crate) fn sketch<F: Shelf>(
 }
 
 /// What is said of a draft.
-fn told(alloc: Global, draft: &Drafted) -> Result<Reply, Memory>
+fn told(alloc: Global, draft: &Drafted) -> Result<Reply<Status>, Memory>
     requires { IsDraft draft.now }
     ensures { IfOk result (λ reply. Tells draft.now reply.status reply.text) }
 {

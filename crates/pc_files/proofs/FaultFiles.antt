@@ -21,7 +21,7 @@ use Rattle.pc_lang.specs.Quantiles.{quantile_at, quantile_from}
 use Rattle.pc_session.specs.declared.line.Line.{Line}
 use Rattle.pc_session.specs.Edited.{Held}
 use Rattle.pc_script.specs.Script.{lines_from, script_of}
-use Rattle.pc_files.specs.Outcome.{queries_from}
+use Rattle.pc_files.specs.Outcome.{numbered_script, queries_from}
 
 abbrev pub IsOf : {X : Type 0} → FileKind → Result X Fault → Type 0
 IsOf file (Ok x) = ⊤
@@ -120,8 +120,11 @@ lines_of_script schema start place before [] = tt
 lines_of_script schema start place before (text ∷ rest) =
     then_of kinds.Script _ (λ after. lines_from schema start (place + 1) after rest) (placed_of kinds.Script place _) (λ after. lines_of_script schema start (place + 1) after rest)
 
-pub script_of_file : (schema : Schema) (start : Held) (bytes : List ℕ) → IsOf kinds.Script (script_of schema start bytes)
+script_of_file : (schema : Schema) (start : Held) (bytes : List ℕ) → IsOf kinds.Script (script_of schema start bytes)
 unfolding script_of
 script_of_file schema start bytes =
     then_of kinds.Script (placed kinds.Script 0 (text_of bytes)) (λ text. lines_from schema start 1 [] (lines_of text)) (placed_of kinds.Script 0 (text_of bytes))
     (λ text. lines_of_script schema start 1 [] (lines_of text))
+
+pub numbered_of_file : (schema : Schema) (start : Held) (bytes : List ℕ) → IsOf kinds.Script (numbered_script schema start bytes)
+numbered_of_file schema start bytes = then_of kinds.Script (script_of schema start bytes) _ (script_of_file schema start bytes) (λ lines. tt)

@@ -4,3 +4,4 @@ pub mod FaultFiles
 pub mod Files
 pub mod ReadFiles
 pub mod Written
+mod Scripts

@@ -10,12 +10,12 @@ use Rattle.pc_model.specs.declared.fault.FileKind.{FileKind}
 use Rattle.pc_model.specs.declared.fault.FileKind.TheVariants as kinds
 use Rattle.pc_model.specs.declared.fault.Refusal.{Refusal}
 use Rattle.pc_model.specs.declared.fault.Refusal.TheVariants as refusals
-use Rattle.pc_session.specs.declared.line.Line.{Line}
 use Rattle.pc_base.specs.Files.{Files}
 use Rattle.pc_base.specs.Loads.{Load}
 use Rattle.pc_base.specs.Shelves.{ShelfState, AreLoads}
 use Rattle.pc_base.specs.declared.outside.Loaded.{Loaded}
 use Rattle.pc_base.specs.declared.outside.Loaded.TheVariants as loads
+use Rattle.pc_files.specs.declared.reading.Script.{Script}
 use Rattle.pc_files.specs.declared.stop.Stop.{Stop}
 use Rattle.pc_files.specs.declared.stop.Stop.TheVariants as stops
 use Rattle.pc_files.specs.Outcome.{Obstacle, refused, NamedFile, Found, nothing, with_file, value_under, found_after, found_in, mapped, needed, outcome_of, FilesComeTo}
@@ -56,8 +56,8 @@ with_constraints found constraints = record found { constraints = constraints }
 abbrev pub with_bytes : Found → List ℕ → Found
 with_bytes found bytes = record found { bytes = bytes }
 
-abbrev pub with_lines : Found → List Line → Found
-with_lines found lines = record found { lines = lines }
+abbrev pub with_script : Found → Script → Found
+with_script found script = record found { script = script }
 
 -- what is made of what the file holds
 abbrev Holds : {X : Type 0} → Found → FileKind → List ℕ → (List ℕ → Result X Fault) → (X → Found) → Type 0

@@ -1,10 +1,10 @@
 -- What a sink holds after a put of a text.
-use Rattle.std.proofs.Common.{◌≡◌, ℕ, ◌++◌, List, take, Option, Some, None, IfSome, ap, refl}
+use Rattle.std.proofs.Common.{◌≡◌, ◌≤◌, ◌+◌, ℕ, ◌++◌, List, take, Option, Some, None, IfSome, ap, arith, refl}
 use Rattle.pc_base.specs.declared.outside.Put.{Put}
 use Rattle.pc_base.specs.declared.outside.Put.TheVariants.{All, Failed, Memory}
 use Rattle.pc_base.specs.Puts.{Leaves}
 use Rattle.pc_base.specs.Shelves.{IsPut, SinkState}
-use Rattle.pc_files.specs.Writing.{Writes}
+use Rattle.pc_files.specs.Writing.{IsUntouched, Writes, Writing}
 
 written_from : (kept left : Option (List ℕ)) (text : List ℕ) → Leaves kept left text All → IfSome kept (λ before. left ≡ Some (before ++ text))
 written_from None None text leaves = tt
@@ -28,3 +28,11 @@ pub writes : (before after : SinkState) (text : List ℕ) (put : Put) → IsPut 
 writes before after text All done = record { no_fault = done.cause; whole = written_from before.kept after.kept text done.leaves }
 writes before after text Failed done = record { rose = done.cause; front = front_from before.kept after.kept text done.leaves }
 writes before after text Memory done = record { nothing_put = kept_from before.kept after.kept text done.leaves; one_fault = done.one_fault }
+
+-- where nothing was put
+pub untouched : (writing : Writing) → writing.after ≡ writing.before → IsUntouched writing
+untouched writing still =
+    let same : writing.after.faults ≡ writing.before.faults = ap (λ (state : SinkState). state.faults) still in
+    let no_less : writing.before.faults ≤ writing.after.faults = omega (arith, same) in
+    let no_more : writing.after.faults ≤ writing.before.faults + 1 = omega (arith, same) in
+    record { nothing_put = ap (λ (state : SinkState). state.kept) still; one_fault = record { no_less = no_less; no_more = no_more } }

@@ -1,5 +1,5 @@
 -- What files stand for, or what stands in the way.
-use Rattle.std.specs.Prelude.{◌≡◌, ◌+◌, ℕ, nat_lt, if◌then◌else◌, List, [], ◌∷◌, length, Option, Some, None, Result, Ok, Err, IfSome}
+use Rattle.std.specs.Prelude.{◌≡◌, ◌+◌, ℕ, nat_lt, if◌then◌else◌, List, [], ◌∷◌, ◌++◌, length, Option, Some, None, Result, Ok, Err, IfSome}
 use Rattle.pc_model.specs.declared.schema.Schema.{Schema}
 use Rattle.pc_model.specs.declared.row.Row.{Row}
 use Rattle.pc_model.specs.declared.constraint.Constraint.{Constraint}
@@ -14,11 +14,13 @@ use Rattle.pc_base.specs.Files.{Files, file_of}
 use Rattle.pc_schema.specs.SchemaFile.{schema_of}
 use Rattle.pc_rows.specs.RowFile.{rows_of}
 use Rattle.pc_lang.specs.Files.{constraints_of, query_at}
-use Rattle.pc_session.specs.declared.line.Line.{Line}
 use Rattle.pc_session.specs.Edited.{Held}
+use Rattle.pc_script.specs.Numbers.{said_lines}
 use Rattle.pc_script.specs.Script.{script_of}
 use Rattle.pc_files.specs.declared.reading.Listing.{Listing}
 use Rattle.pc_files.specs.declared.reading.Observed.{Observed}
+use Rattle.pc_files.specs.declared.reading.Script.{Script}
+use Rattle.pc_files.specs.declared.reading.Scripted.{Scripted}
 
 -- a file or query that is refused, or a file that is not held
 pub data Obstacle : Type 0 where
@@ -58,6 +60,9 @@ observed_files schema rows constraints = (kinds.Schema, schema) ∷ (kinds.Rows,
 abbrev pub listed_files : List ℕ → List ℕ → List NamedFile
 listed_files schema constraints = (kinds.Schema, schema) ∷ (kinds.Constraints, constraints) ∷ []
 
+abbrev pub script_files : List ℕ → List ℕ → List ℕ → List ℕ → List NamedFile
+script_files schema rows constraints script = observed_files schema rows constraints ++ (kinds.Script, script) ∷ []
+
 -- ---- what they stand for
 
 -- the value of the bytes of a file, by what its reader is to give
@@ -70,16 +75,25 @@ value_under kind name value_of shelf = do
 abbrev pub whole : List ℕ → Result (List ℕ) Fault
 whole bytes = Ok bytes
 
+-- the lines of a script over what is held at its start, with their numbers
+abbrev pub numbered_script : Schema → Held → List ℕ → Result Script Fault
+numbered_script schema start bytes = do
+  lines ← script_of schema start bytes
+  Ok (record { lines = lines; numbers = said_lines bytes })
+
 -- what was found in files; what none of them is for is empty
 pub record Found : Type 0 where
   pub schema : Schema
   pub rows : List Row
   pub constraints : List Constraint
   pub bytes : List ℕ
-  pub lines : List Line
+  pub script : Script
+
+abbrev pub no_script : Script
+no_script = record { lines = []; numbers = [] }
 
 abbrev pub nothing : Found
-nothing = record { schema = record { columns = [] }; rows = []; constraints = []; bytes = []; lines = [] }
+nothing = record { schema = record { columns = [] }; rows = []; constraints = []; bytes = []; script = no_script }
 
 abbrev pub held_in : Found → Held
 held_in found = record { rows = found.rows; constraints = found.constraints }
@@ -100,8 +114,8 @@ with_file found kinds.Document name shelf = do
   bytes ← value_under kinds.Document name whole shelf
   Ok (record found { bytes = bytes })
 with_file found kinds.Script name shelf = do
-  lines ← value_under kinds.Script name (script_of found.schema (held_in found)) shelf
-  Ok (record found { lines = lines })
+  script ← value_under kinds.Script name (numbered_script found.schema (held_in found)) shelf
+  Ok (record found { script = script })
 with_file found kinds.Query name shelf = Err (absent kinds.Query)
 
 -- what these files give after what was found, or the first obstacle in their order
@@ -135,6 +149,9 @@ observed_in found = record { schema = found.schema; rows = found.rows; constrain
 
 abbrev pub listing_in : Found → Listing
 listing_in found = record { schema = found.schema; constraints = found.constraints }
+
+abbrev pub scripted_in : Found → Scripted
+scripted_in found = record { observed = observed_in found; script = found.script }
 
 -- what files come to, by what is made of what was found in them
 abbrev pub outcome_of : {X : Type 0} → List NamedFile → (Found → Result X Obstacle) → Files → Result X Obstacle

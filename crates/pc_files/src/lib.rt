@@ -1,15 +1,19 @@
 //! The edge of a program: its files are loaded, each once and in their order, and read; what stops it is told by a line; and
-//! a text is written by one put.
+//! what it replies is written by one put.
 #![tactic(auto)]
 
 mod line;
 mod loading;
 mod reading;
+mod reply;
 mod stop;
 mod writing;
 
 pub use line::{fault_line, malformed_line};
 pub use loading::{load_bytes, load_constraints, load_rows, load_schema, load_script};
-pub use reading::{Listing, Observed, read_listing, read_observed, read_queries};
+pub use reading::{
+    Listing, Observed, Script, Scripted, read_listing, read_observed, read_queries, read_scripted,
+};
+pub use reply::{Ending, Reply, put_reply};
 pub use stop::Stop;
 pub use writing::put_text;

@@ -4,27 +4,25 @@ ghost use Rattle.pc_model.specs.declared.fault.FileKind.TheVariants as kinds;
 ghost use Rattle.pc_model.specs.declared.fault.Reason.TheVariants as reasons;
 ghost use Rattle.pc_model.specs.Accepted.{AreConstraints};
 ghost use Rattle.pc_model.specs.Membership.{in_domain};
-ghost use Rattle.pc_model.specs.Refusals.{fault_at};
+ghost use Rattle.pc_model.specs.Refusals.{Gives, fault_at};
 ghost use Rattle.pc_model.specs.WellFormed.{IsWellFormed, HaveFewNames};
 ghost use Rattle.pc_schema.specs.SchemaFile.{schema_of};
 ghost use Rattle.pc_rows.specs.RowFile.{rows_of};
 ghost use Rattle.pc_lang.specs.Files.{constraints_of};
 ghost use Rattle.pc_session.specs.Edited.{CanFollowAll};
-ghost use Rattle.pc_script.specs.Script.{script_of};
 ghost use Rattle.pc_files.specs.Loading.{reading_of, IsLoaded};
-ghost use Rattle.pc_files.specs.Outcome.{held_in, limit_of, whole};
+ghost use Rattle.pc_files.specs.Outcome.{held_in, limit_of, numbered_script, whole};
 ghost use Rattle.pc_files.specs.Reads.{IsUsable, found_of};
 
-use crate::reading::Observed;
+use crate::reading::{Observed, Script};
 use crate::stop::Stop;
 use pc_base::{Loaded, Shelf};
 use pc_lang::read_constraints;
 use pc_list::Seq;
-use pc_model::{Constraint, FILE_LIMIT, Fault, FileKind, Reason, Schema};
+use pc_model::{Constraint, FILE_LIMIT, Fault, FileKind, Reason, Refusal, Schema};
 use pc_rows::{Rows, read_rows};
 use pc_schema::read_schema;
-use pc_script::read_script;
-use pc_session::Line;
+use pc_script::{read_script, said_lines};
 use std::alloc::Global;
 
 /// The greatest number of bytes of a document.
@@ -107,24 +105,29 @@ pub fn load_constraints<F: Shelf>(
     Ok(read_constraints(alloc, schema, bytes.as_slice())?)
 }
 
-/// Loads and reads the lines of a script, which begin with what was observed.
+/// Loads and reads a script, which begins with what was observed.
 pub fn load_script<F: Shelf>(
     alloc: Global,
     files: &mut F,
     name: &str,
     observed: &Observed,
-) -> Result<Seq<Line>, Stop>
+) -> Result<Script, Stop>
     requires { IsUsable observed.now }
-    ensures loaded { IsLoaded (reading_of F.told F.leads files.old files.new) kinds.Script name.now (script_of observed.now.schema (held_in (found_of observed.now))) result }
-    ensures can { IfOk result (CanFollowAll observed.now.schema (held_in (found_of observed.now))) }
+    ensures loaded { IsLoaded (reading_of F.told F.leads files.old files.new) kinds.Script name.now (numbered_script observed.now.schema (held_in (found_of observed.now))) result }
+    ensures can { IfOk result (λ script. CanFollowAll observed.now.schema (held_in (found_of observed.now)) script.lines) }
 {
     let bytes = load_bytes(alloc, files, FileKind::Script, name)?;
+    Ok(read_numbered(alloc, observed, bytes.as_slice())?)
+}
+
+#[tactic(auto, using(crate::proofs::Scripts::reads))]
+fn read_numbered(alloc: Global, observed: &Observed, bytes: &[u8]) -> Result<Script, Refusal>
+    requires { IsUsable observed.now }
+    ensures gives { Gives result (numbered_script observed.now.schema (held_in (found_of observed.now)) bytes.now) }
+    ensures can { IfOk result (λ script. CanFollowAll observed.now.schema (held_in (found_of observed.now)) script.lines) }
+{
     let constraints = observed.constraints.as_slice();
-    Ok(read_script(
-        alloc,
-        &observed.schema,
-        &observed.rows,
-        constraints,
-        bytes.as_slice(),
-    )?)
+    let lines = read_script(alloc, &observed.schema, &observed.rows, constraints, bytes)?;
+    let numbers = said_lines(alloc, bytes)?;
+    Ok(Script { lines, numbers })
 }

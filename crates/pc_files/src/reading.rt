@@ -4,15 +4,16 @@ ghost use Rattle.pc_model.specs.Refusals.{Gives};
 ghost use Rattle.pc_model.specs.WellFormed.{IsWellFormed};
 ghost use Rattle.pc_files.specs.Loading.{reading_of};
 ghost use Rattle.pc_files.specs.Outcome.{queries_of};
-ghost use Rattle.pc_files.specs.Reads.{IsShowable, IsUsable, ReadsListing, ReadsObserved};
+ghost use Rattle.pc_files.specs.Reads.{IsScripted, IsShowable, IsUsable, ReadsListing, ReadsObserved, ReadsScripted};
 
-use crate::loading::{load_constraints, load_rows, load_schema};
+use crate::loading::{load_constraints, load_rows, load_schema, load_script};
 use crate::stop::Stop;
 use pc_base::Shelf;
 use pc_lang::read_query;
 use pc_list::Seq;
 use pc_model::{Constraint, Query, Refusal, Schema};
 use pc_rows::Rows;
+use pc_session::Line;
 use std::alloc::Global;
 
 /// The schema, the observed rows and the constraints that answers are over.
@@ -28,6 +29,20 @@ pub struct Observed {
 pub struct Listing {
     pub schema: Schema,
     pub constraints: Seq<Constraint>,
+}
+
+/// The lines of a script that say something, each with its number in the file, from 1.
+#[derive(Debug, Drop)]
+pub struct Script {
+    pub lines: Seq<Line>,
+    pub numbers: Seq<u64>,
+}
+
+/// What a session begins with, and the script that it follows.
+#[derive(Debug, Drop)]
+pub struct Scripted {
+    pub observed: Observed,
+    pub script: Script,
 }
 
 /// Loads and reads a schema, observed rows and constraints, each once and in this order.
@@ -68,6 +83,23 @@ pub fn read_listing<F: Shelf>(
         schema,
         constraints,
     })
+}
+
+/// Loads and reads a schema, observed rows, constraints and a script, each once and in this order.
+pub fn read_scripted<F: Shelf>(
+    alloc: Global,
+    files: &mut F,
+    schema: &str,
+    rows: &str,
+    constraints: &str,
+    script: &str,
+) -> Result<Scripted, Stop>
+    ensures read { ReadsScripted (reading_of F.told F.leads files.old files.new) schema.now rows.now constraints.now script.now result }
+    ensures sound { IfOk result IsScripted }
+{
+    let observed = read_observed(alloc, files, schema, rows, constraints)?;
+    let script = load_script(alloc, files, script, &observed)?;
+    Ok(Scripted { observed, script })
 }
 
 /// Reads the queries in their order. The place of a fault is that of the query among them.

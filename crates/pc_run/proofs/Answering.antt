@@ -12,12 +12,11 @@ use Rattle.pc_base.specs.Files.{Files, IsAbsent, file_of}
 use Rattle.pc_schema.specs.SchemaFile.{schema_of}
 use Rattle.pc_rows.specs.RowFile.{rows_of}
 use Rattle.pc_lang.specs.Files.{constraints_of}
-use Rattle.pc_script.specs.Script.{script_of}
 use Rattle.pc_run_words.specs.Words.{Asked, bound, prove, check, show, conflict, quantile, session, gen, command_of}
 use Rattle.pc_run.specs.declared.input.Input.{Input}
 use Rattle.pc_run.specs.declared.input.Input.TheVariants.{Asks, Proves, Shows, Contradicts, Measures, Follows}
-use Rattle.pc_files.specs.Outcome.{Obstacle, refused, absent, NamedFile, Found, nothing, value_under, with_file, found_after, found_in, held_in, mapped, listing_in, outcome_of, needed, whole}
-use Rattle.pc_run.specs.Outcome.{files_of, made, case_in, measured_in, scripted_in, input_in, accepted_under}
+use Rattle.pc_files.specs.Outcome.{Obstacle, refused, absent, NamedFile, Found, nothing, value_under, with_file, found_after, found_in, held_in, mapped, listing_in, numbered_script, outcome_of, needed, scripted_in, whole}
+use Rattle.pc_run.specs.Outcome.{files_of, made, case_in, measured_in, input_in, accepted_under}
 use Rattle.pc_run.specs.Replies.{SaysInput}
 use Rattle.pc_run.specs.Meaning.{Call, HasEnded, IsRefused, HasReadFault, Means, IsAnswer, IsAnswerable, IsAnswerUnlessMemory}
 use Rattle.pc_files.proofs.ReadFiles.{joined, needs}
@@ -33,7 +32,7 @@ absent_file found kinds.Schema name shelf none = rw (absent_value kinds.Schema n
 absent_file found kinds.Rows name shelf none = rw (absent_value kinds.Rows name (rows_of found.schema) shelf none) refl
 absent_file found kinds.Constraints name shelf none = rw (absent_value kinds.Constraints name (constraints_of found.schema) shelf none) refl
 absent_file found kinds.Document name shelf none = rw (absent_value kinds.Document name whole shelf none) refl
-absent_file found kinds.Script name shelf none = rw (absent_value kinds.Script name (script_of found.schema (held_in found)) shelf none) refl
+absent_file found kinds.Script name shelf none = rw (absent_value kinds.Script name (numbered_script found.schema (held_in found)) shelf none) refl
 absent_file found kinds.Query name shelf none = refl
 
 stops_there : (read : Result Found Obstacle) (kind : FileKind) (name : List ℕ) (rest : List NamedFile) (shelf : Files) → file_of shelf name ≡ None → IsOk (read >>= λ found. found_after found ((kind, name) ∷ rest) shelf) → ⊥

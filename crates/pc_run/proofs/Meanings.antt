@@ -10,12 +10,13 @@ use Rattle.pc_run.specs.declared.input.Input.TheVariants.{Asks, Proves, Claims, 
 use Rattle.pc_run.specs.Inputs.{IsSoundInput}
 use Rattle.pc_files.specs.Loading.{LoadsAll, EndsAt}
 use Rattle.pc_files.specs.Outcome.{Obstacle, refused, absent}
+use Rattle.pc_files.specs.Replies.{after_failed_put}
 use Rattle.pc_files.specs.Texts.{malformed_line}
 use Rattle.pc_files.specs.Writing.{IsWritten, IsCutOff, IsTold}
 use Rattle.pc_run.specs.Outcome.{files_of, ComesTo}
 use Rattle.pc_model.specs.declared.fault.Fault.{Fault}
 use Rattle.pc_run.specs.Replies.{SaysInput, Says, status_of, SaysOutcome, SaysFault, RepliesToCommand, RepliesToNone, LoadsOutcome, Responds}
-use Rattle.pc_run.specs.Meaning.{Call, IsAnswered, HasEnded, HasWriteFault, IsNoCommand, IsRefused, HasReadFault, Means, after_failed_put}
+use Rattle.pc_run.specs.Meaning.{Call, IsAnswered, HasEnded, HasWriteFault, IsNoCommand, IsRefused, HasReadFault, Means}
 
 abbrev RespondsIn : Call → Status → List ℕ → Type 0
 RespondsIn call status text = Responds call.reading call.words status text

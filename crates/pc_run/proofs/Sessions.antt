@@ -17,8 +17,8 @@ use Rattle.pc_session.specs.declared.line.Line.{Line}
 use Rattle.pc_session.specs.declared.line.Line.TheVariants.{Asks, Edits}
 use Rattle.pc_session.specs.Edited.{Held, CanFollowAll, after_line, cases_of}
 use Rattle.pc_group.specs.Wanted.{wanted, wanted_by}
-use Rattle.pc_run.specs.declared.input.Scripted.{Scripted}
-use Rattle.pc_run.specs.Inputs.{IsFollowable, start_of}
+use Rattle.pc_files.specs.declared.reading.Scripted.{Scripted}
+use Rattle.pc_files.specs.Reads.{IsScripted, start_of}
 use Rattle.pc_run.specs.Replies.{SaysReport, SaysReports, SaysSession}
 use Rattle.pc_run.specs.Said.{blocks_said, said_by}
 use Rattle.pc_run.proofs.Documents.{as_many_blocks, blocks_are_of}
@@ -142,8 +142,8 @@ ask_each schema held (Asks query ∷ lines) can =
     All-cons (IsQuestion schema) (record { schema = schema; rows = held.rows; constraints = held.constraints; queries = query ∷ [] }) (cases_of schema held lines)
     (record { same = refl; query = query; alone = refl; asked = can.0 }) (ask_each schema held lines can.1)
 
-pub sessions_tell : (nodes budget : ℕ) (scripted other : Scripted) (text : List ℕ) → IsFollowable scripted → IsFollowable other → scripted.observed.schema ≡ other.observed.schema → (one : SaysSession nodes scripted text) (two : SaysSession budget other text) → AllZip (AllZip SaysAlike) (said_by one) (said_by two)
+pub sessions_tell : (nodes budget : ℕ) (scripted other : Scripted) (text : List ℕ) → IsScripted scripted → IsScripted other → scripted.observed.schema ≡ other.observed.schema → (one : SaysSession nodes scripted text) (two : SaysSession budget other text) → AllZip (AllZip SaysAlike) (said_by one) (said_by two)
 sessions_tell nodes budget scripted other text can also same one two =
-    reports_tell_each scripted.observed.schema can.usable.well_formed nodes budget (cases_of scripted.observed.schema (start_of scripted) scripted.lines) (cases_of other.observed.schema (start_of other) other.lines) text
-    (ask_each scripted.observed.schema (start_of scripted) scripted.lines can.can)
-    (subst (λ (s : Schema). All (IsQuestion s) (cases_of other.observed.schema (start_of other) other.lines)) (sym same) (ask_each other.observed.schema (start_of other) other.lines also.can)) one two
+    reports_tell_each scripted.observed.schema can.usable.well_formed nodes budget (cases_of scripted.observed.schema (start_of scripted) scripted.script.lines) (cases_of other.observed.schema (start_of other) other.script.lines) text
+    (ask_each scripted.observed.schema (start_of scripted) scripted.script.lines can.can)
+    (subst (λ (s : Schema). All (IsQuestion s) (cases_of other.observed.schema (start_of other) other.script.lines)) (sym same) (ask_each other.observed.schema (start_of other) other.script.lines also.can)) one two

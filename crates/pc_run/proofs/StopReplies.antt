@@ -9,7 +9,7 @@ use Rattle.pc_run.specs.declared.input.Input.{Input}
 use Rattle.pc_files.specs.declared.stop.Stop.{Stop}
 use Rattle.pc_files.specs.declared.stop.Stop.TheVariants as stops
 use Rattle.pc_run_words.specs.Words.{Asked, command_of}
-use Rattle.pc_run.specs.declared.reply.Reply.{Reply}
+use Rattle.pc_files.specs.declared.reply.Reply.{Reply}
 use Rattle.pc_run.specs.Inputs.{IsSoundInput}
 use Rattle.pc_files.specs.Loading.{IsRead, Reading, reading_of}
 use Rattle.pc_files.specs.Outcome.{refused}
@@ -31,17 +31,17 @@ input_replies reading asked input status text read sound says = inr (record { ou
 
 -- ---- and so are which loads there were
 
-module _ (reading : Reading) (asked : Asked) (result : Result Reply Memory) where
-  pub input_answers : (input : Input) → IsRead reading (files_of asked) (input_in asked) (Ok input) → IsSoundInput input → IfOk result (λ reply. SaysInput input reply.status reply.text.items) → AnswersCommand reading asked result
+module _ (reading : Reading) (asked : Asked) (result : Result (Reply Status) Memory) where
+  pub input_answers : (input : Input) → IsRead reading (files_of asked) (input_in asked) (Ok input) → IsSoundInput input → IfOk result (λ reply. SaysInput input reply.status reply.text) → AnswersCommand reading asked result
   input_answers input read sound says = record {
-    replies = IfOk-weaker result _ _ (λ reply said. input_replies reading asked input reply.status reply.text.items read sound said) says;
+    replies = IfOk-weaker result _ _ (λ reply said. input_replies reading asked input reply.status reply.text read sound said) says;
     in_order = all_in_order reading (files_of asked) read.loads;
     few = read.few;
   }
 
-  pub stop_answers : (stop : Stop) → IsRead {X = Input} reading (files_of asked) (input_in asked) (Err stop) → IfOk result (λ reply. RepliesToStop stop reply.status reply.text.items) → AnswersCommand reading asked result
+  pub stop_answers : (stop : Stop) → IsRead {X = Input} reading (files_of asked) (input_in asked) (Err stop) → IfOk result (λ reply. RepliesToStop stop reply.status reply.text) → AnswersCommand reading asked result
   stop_answers stop read says = record {
-    replies = IfOk-weaker result _ _ (λ reply said. stop_replies reading asked stop reply.status reply.text.items read said) says;
+    replies = IfOk-weaker result _ _ (λ reply said. stop_replies reading asked stop reply.status reply.text read said) says;
     in_order = until_in_order reading (files_of asked) stop read.loads;
     few = read.few;
   }
@@ -53,8 +53,8 @@ module _ (reading : Reading) (asked : Asked) (result : Result Reply Memory) wher
     few = rw is answers.few;
   }
 
-pub none_answers : {S : Type 0} (told : S → ShelfState) (leads : S → List ℕ → Loaded → S → Type 0) (shelf : S) (words : List (List ℕ)) (result : Result Reply Memory) →
-    IfOk result (λ reply. Responds (reading_of told leads shelf shelf) words reply.status reply.text.items) → AnswersWords (reading_of told leads shelf shelf) words result
+pub none_answers : {S : Type 0} (told : S → ShelfState) (leads : S → List ℕ → Loaded → S → Type 0) (shelf : S) (words : List (List ℕ)) (result : Result (Reply Status) Memory) →
+    IfOk result (λ reply. Responds (reading_of told leads shelf shelf) words reply.status reply.text) → AnswersWords (reading_of told leads shelf shelf) words result
 none_answers told leads shelf words result responds = record {
   responds = responds;
   in_order = nothing_loaded (reading_of told leads shelf shelf) (command_of words) refl;

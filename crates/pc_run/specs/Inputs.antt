@@ -6,10 +6,9 @@ use Rattle.pc_model.specs.Accepted.{AreConstraints, IsQuery}
 use Rattle.pc_model.specs.WellFormed.{IsWellFormed}
 use Rattle.pc_lang.specs.Quantiles.{IsQuantile}
 use Rattle.pc_rows.specs.declared.case.Case.{Case}
-use Rattle.pc_session.specs.Edited.{Held, CanFollowAll}
 use Rattle.pc_files.specs.declared.stop.Stop.{Stop}
 use Rattle.pc_files.specs.Loading.{Reading, IsRead}
-use Rattle.pc_files.specs.Reads.{IsShowable, IsUsable}
+use Rattle.pc_files.specs.Reads.{IsScripted, IsShowable, IsUsable}
 use Rattle.pc_run_words.specs.declared.command.Bound.{Bound}
 use Rattle.pc_run_words.specs.declared.command.Check.{Check}
 use Rattle.pc_run_words.specs.declared.command.Quantile.{Quantile}
@@ -22,7 +21,6 @@ use Rattle.pc_run.specs.declared.input.Claim.{Claim}
 use Rattle.pc_run.specs.declared.input.Input.{Input}
 use Rattle.pc_run.specs.declared.input.Input.TheVariants.{Asks, Proves, Claims, Shows, Contradicts, Measures, Follows, Makes}
 use Rattle.pc_run.specs.declared.input.Measured.{Measured}
-use Rattle.pc_run.specs.declared.input.Scripted.{Scripted}
 use Rattle.pc_run.specs.Outcome.{files_of, case_in, measured_in, input_in}
 
 -- what the answer and its report need of what was read
@@ -40,15 +38,6 @@ pub record IsMeasurable (measured : Measured) : Type 0 where
   pub usable : IsUsable measured.observed
   pub asked : IsQuantile measured.observed.schema measured.asked
 
--- what is held before the first line
-abbrev pub start_of : Scripted → Held
-start_of scripted = record { rows = scripted.observed.rows; constraints = scripted.observed.constraints }
-
--- what a session and its reports need of what was read
-pub record IsFollowable (scripted : Scripted) : Type 0 where
-  pub usable : IsUsable scripted.observed
-  pub can : CanFollowAll scripted.observed.schema (start_of scripted) scripted.lines
-
 -- what was read is as its command needs it
 abbrev pub IsSoundInput : Input → Type 0
 IsSoundInput (Asks nodes case) = IsSound case × IsBudget nodes
@@ -57,7 +46,7 @@ IsSoundInput (Claims claim) = IsCheckable claim
 IsSoundInput (Shows listing) = IsShowable listing
 IsSoundInput (Contradicts nodes listing) = IsShowable listing × IsBudget nodes
 IsSoundInput (Measures nodes measured) = IsMeasurable measured × IsBudget nodes
-IsSoundInput (Follows nodes scripted) = IsFollowable scripted × IsBudget nodes
+IsSoundInput (Follows nodes scripted) = IsScripted scripted × IsBudget nodes
 IsSoundInput (Makes numbers) = IsSize numbers.size
 
 -- what reading the files of a command answers
@@ -70,8 +59,8 @@ ReadsCommand reading command result = IsRead reading (files_of (asked_in command
 abbrev pub ReadsClaim : Reading → Check → Result Input Stop → Type 0
 ReadsClaim reading command result = ReadsCommand reading (commands.Check command) result
 
-abbrev pub ReadsScripted : Reading → Session → Result Input Stop → Type 0
-ReadsScripted reading command result = ReadsCommand reading (commands.Session command) result
+abbrev pub ReadsSession : Reading → Session → Result Input Stop → Type 0
+ReadsSession reading command result = ReadsCommand reading (commands.Session command) result
 
 abbrev pub ReadsMeasured : Reading → Quantile → Result Measured Stop → Type 0
 ReadsMeasured reading command result = IsRead reading (files_of (quantile (quantile_names command))) (measured_in (quantile_names command).query) result

@@ -139,13 +139,3 @@ pub record KeepsPromise (call : Call) (status : Status) : Type 0 where
   pub says_yes : (checks : ChecksClaim call) → SpellsUnbroken checks.claim → IsDoneUnlessMemory status
   pub says_no : (checks : ChecksClaim call) (line rule : ℕ) → BreaksFirst checks.claim line rule → SaysNoUnlessMemory status
   pub agrees : (checks : ChecksClaim call) → IsProved checks.claim → IsDoneUnlessMemory status
-
--- the status of a run whose text could not be put: a report that is cut off is a write fault, the line of a refusal stays
-abbrev pub after_failed_put : Status → Status
-after_failed_put ended.Done = ended.WriteFault
-after_failed_put ended.SaidNo = ended.WriteFault
-after_failed_put ended.Usage = ended.Usage
-after_failed_put ended.Malformed = ended.Malformed
-after_failed_put ended.ReadFault = ended.ReadFault
-after_failed_put ended.WriteFault = ended.WriteFault
-after_failed_put ended.Memory = ended.Memory

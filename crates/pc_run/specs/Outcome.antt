@@ -6,12 +6,11 @@ use Rattle.pc_base.specs.Files.{Files}
 use Rattle.pc_rows.specs.declared.case.Case.{Case}
 use Rattle.pc_lang.specs.Quantiles.{quantile_at}
 use Rattle.pc_files.specs.Loading.{Reading, IsInOrder}
-use Rattle.pc_files.specs.Outcome.{Obstacle, NamedFile, observed_files, listed_files, Found, observed_in, listing_in, or_refused, queries_of, mapped, outcome_of, needed, FilesComeTo}
+use Rattle.pc_files.specs.Outcome.{Obstacle, NamedFile, observed_files, listed_files, Found, observed_in, listing_in, or_refused, queries_of, script_files, scripted_in, mapped, outcome_of, needed, FilesComeTo}
 use Rattle.pc_run.specs.declared.input.Claim.{Claim}
 use Rattle.pc_run.specs.declared.input.Input.{Input}
 use Rattle.pc_run.specs.declared.input.Input.TheVariants.{Asks, Proves, Claims, Shows, Contradicts, Measures, Follows, Makes}
 use Rattle.pc_run.specs.declared.input.Measured.{Measured}
-use Rattle.pc_run.specs.declared.input.Scripted.{Scripted}
 use Rattle.pc_run_words.specs.Words.{GenNumbers, Asked, bound, prove, check, show, conflict, quantile, session, gen}
 
 -- ---- the files of a command
@@ -24,7 +23,7 @@ files_of (check names) = observed_files names.schema names.rows names.constraint
 files_of (show names) = listed_files names.schema names.constraints
 files_of (conflict names) = listed_files names.files.schema names.files.constraints
 files_of (quantile names) = observed_files names.schema names.rows names.constraints
-files_of (session names) = observed_files names.schema names.rows names.constraints ++ (kinds.Script, names.script) ∷ []
+files_of (session names) = script_files names.schema names.rows names.constraints names.script
 files_of (gen numbers) = []
 
 -- how many files a command has
@@ -48,9 +47,6 @@ abbrev pub measured_in : List ℕ → Found → Result Measured Obstacle
 measured_in text found = do
   asked ← or_refused (quantile_at found.schema 1 text)
   Ok (record { observed = observed_in found; asked = asked })
-
-abbrev pub scripted_in : Found → Scripted
-scripted_in found = record { observed = observed_in found; lines = found.lines }
 
 abbrev pub made : GenNumbers → Input
 made numbers = Makes (record { seed = numbers.seed; size = numbers.size })

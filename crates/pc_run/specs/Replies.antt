@@ -33,9 +33,11 @@ use Rattle.pc_files.specs.Outcome.{Obstacle, refused, absent}
 use Rattle.pc_files.specs.Loading.{Reading, IsUnread, LoadsAll, EndsAt, IsInOrder}
 use Rattle.pc_files.specs.Texts.{fault_line, malformed_line}
 use Rattle.pc_files.specs.declared.reading.Listing.{Listing}
+use Rattle.pc_files.specs.declared.reading.Scripted.{Scripted}
+use Rattle.pc_files.specs.declared.reply.Reply.{Reply}
+use Rattle.pc_files.specs.Reads.{start_of}
 use Rattle.pc_run.specs.Outcome.{files_of, file_count, AreInOrder, ComesTo}
-use Rattle.pc_run.specs.Inputs.{IsSoundInput, start_of}
-use Rattle.pc_run.specs.declared.reply.Reply.{Reply}
+use Rattle.pc_run.specs.Inputs.{IsSoundInput}
 use Rattle.pc_num.specs.declared.memory.Memory.{Memory}
 use Rattle.pc_base.specs.Shelves.{ShelfState, AreLoads}
 use Rattle.pc_run.specs.Reports.{usage_line, listing_of, yes_line, no_line}
@@ -46,7 +48,6 @@ use Rattle.pc_run.specs.declared.input.Claim.{Claim}
 use Rattle.pc_run.specs.declared.input.Input.{Input}
 use Rattle.pc_run.specs.declared.input.Input.TheVariants.{Asks, Proves, Claims, Shows, Contradicts, Measures, Follows, Makes}
 use Rattle.pc_run.specs.declared.input.Measured.{Measured}
-use Rattle.pc_run.specs.declared.input.Scripted.{Scripted}
 
 -- the reply where files give nothing
 abbrev pub RepliesToStop : Stop → Status → List ℕ → Type 0
@@ -162,7 +163,7 @@ pub record SaysReports (nodes : ℕ) (cases : List Case) (text : List ℕ) : Typ
 
 -- .. of the cases that the lines of a session ask about
 abbrev pub SaysSession : ℕ → Scripted → List ℕ → Type 0
-SaysSession nodes scripted text = SaysReports nodes (cases_of scripted.observed.schema (start_of scripted) scripted.lines) text
+SaysSession nodes scripted text = SaysReports nodes (cases_of scripted.observed.schema (start_of scripted) scripted.script.lines) text
 
 abbrev pub SaysInput : Input → Status → List ℕ → Type 0
 SaysInput (Asks nodes case) status text = (status ≡ ended.Done) × SaysReport nodes case text
@@ -225,13 +226,13 @@ abbrev pub AreLoadsFor : List (List ℕ) → ShelfState → ShelfState → Type 
 AreLoadsFor words before after = AreLoads (file_count (command_of words)) before after
 
 -- what is answered to a command, and which loads there were
-pub record AnswersCommand (reading : Reading) (asked : Asked) (result : Result Reply Memory) : Type 0 where
-  pub replies : IfOk result (λ reply. RepliesTo reading asked reply.status reply.text.items)
+pub record AnswersCommand (reading : Reading) (asked : Asked) (result : Result (Reply Status) Memory) : Type 0 where
+  pub replies : IfOk result (λ reply. RepliesTo reading asked reply.status reply.text)
   pub in_order : IsInOrder reading (files_of asked)
   pub few : AreLoads (length (files_of asked)) reading.before reading.after
 
 -- what is answered to any words
-pub record AnswersWords (reading : Reading) (words : List (List ℕ)) (result : Result Reply Memory) : Type 0 where
-  pub responds : IfOk result (λ reply. Responds reading words reply.status reply.text.items)
+pub record AnswersWords (reading : Reading) (words : List (List ℕ)) (result : Result (Reply Status) Memory) : Type 0 where
+  pub responds : IfOk result (λ reply. Responds reading words reply.status reply.text)
   pub in_order : AreInOrder reading (command_of words)
   pub few : AreLoadsFor words reading.before reading.after

@@ -3,11 +3,10 @@ ghost use Rattle.pc_model.specs.Accepted.{IsQuery};
 ghost use Rattle.pc_session.specs.Edited.{CanFollow, CanFollowAll, after_line, asked_case, case_at, cases_of};
 ghost use Rattle.pc_session.specs.Sessions.{IsSession, held_by};
 ghost use Rattle.pc_run_words.specs.Words.{IsBudget};
-ghost use Rattle.pc_run.specs.Inputs.{IsFollowable};
+ghost use Rattle.pc_files.specs.Reads.{IsScripted};
 ghost use Rattle.pc_run.specs.Replies.{SaysReport, SaysReports, SaysSession};
 
-use crate::input::Scripted;
-use pc_files::Observed;
+use pc_files::{Observed, Scripted};
 use pc_group::ask;
 use pc_list::Seq;
 use pc_model::Query;
@@ -23,18 +22,18 @@ pub(crate) fn report_script(
     scripted: Scripted,
     nodes: u32,
 ) -> Result<Vec<u8>, Memory>
-    requires followable { IsFollowable scripted }
+    requires scripted { IsScripted scripted }
     requires budget { IsBudget nodes }
     ensures { IfOk result (λ text. SaysSession nodes scripted text.items) }
 {
-    let Scripted { observed, lines } = scripted;
+    let Scripted { observed, script } = scripted;
     let Observed {
         schema,
         rows,
         constraints,
     } = observed;
     let session = Session::begin(alloc, schema, rows, constraints)?;
-    report_lines(alloc, session, lines, nodes)
+    report_lines(alloc, session, script.lines, nodes)
 }
 
 /// The reports of the questions of lines, which a session follows.

@@ -2,11 +2,12 @@ ghost use Rattle.std.specs.Prelude.{IfOk};
 ghost use Rattle.pc_run_words.specs.Commands.{HasNumbers};
 ghost use Rattle.pc_run_words.specs.Words.{IsBudget};
 ghost use Rattle.pc_files.specs.Loading.{reading_of};
-ghost use Rattle.pc_run.specs.Inputs.{IsMeasurable, IsSound, IsSoundInput, ReadsCase, ReadsClaim, ReadsCommand, ReadsMeasured, ReadsScripted};
+ghost use Rattle.pc_run.specs.Inputs.{IsMeasurable, IsSound, IsSoundInput, ReadsCase, ReadsClaim, ReadsCommand, ReadsMeasured, ReadsSession};
 
 use pc_base::Shelf;
 use pc_files::{
-    Listing, Observed, Stop, load_bytes, load_script, read_listing, read_observed, read_queries,
+    Listing, Observed, Scripted, Stop, load_bytes, read_listing, read_observed, read_queries,
+    read_scripted,
 };
 use pc_lang::{Quantile, read_quantile};
 use pc_list::Seq;
@@ -15,7 +16,6 @@ use pc_rows::Case;
 use pc_run_words::{
     Bound, Check, Command, Gen, Quantile as QuantileWords, Session as SessionWords,
 };
-use pc_session::Line;
 use std::alloc::Global;
 
 /// What is checked: the bytes of a document, and what it is for.
@@ -30,13 +30,6 @@ pub(crate) struct Claim {
 pub(crate) struct Measured {
     pub observed: Observed,
     pub asked: Quantile,
-}
-
-/// What a session begins with, and the lines that it follows.
-#[derive(Debug, Drop)]
-pub(crate) struct Scripted {
-    pub observed: Observed,
-    pub lines: Seq<Line>,
 }
 
 /// What a command comes to with its files: a case that is asked about, or answered with proofs, by searches of at most so
@@ -101,7 +94,7 @@ pub(crate) fn read_input<F: Shelf>(
             }),
             Err(stop) => Err(stop),
         },
-        Command::Session(command) => read_scripted(alloc, files, command),
+        Command::Session(command) => read_session(alloc, files, command),
         Command::Gen(command) => Ok(Input::Makes(*command)),
     }
 }
@@ -164,25 +157,27 @@ fn read_measured<F: Shelf>(
 }
 
 /// Reads the files of `session`, the last of which is the script.
-fn read_scripted<F: Shelf>(
+fn read_session<F: Shelf>(
     alloc: Global,
     files: &mut F,
     command: &SessionWords,
 ) -> Result<Input, Stop>
     requires { IsBudget command.now.nodes }
-    ensures read { ReadsScripted (reading_of F.told F.leads files.old files.new) command.now result }
+    ensures read { ReadsSession (reading_of F.told F.leads files.old files.new) command.now result }
     ensures sound { IfOk result IsSoundInput }
 {
-    let observed = read_observed(
+    match read_scripted(
         alloc,
         files,
         command.schema,
         command.rows,
         command.constraints,
-    )?;
-    let lines = load_script(alloc, files, command.script, &observed)?;
-    Ok(Input::Follows {
-        nodes: command.nodes,
-        scripted: Scripted { observed, lines },
-    })
+        command.script,
+    ) {
+        Ok(scripted) => Ok(Input::Follows {
+            nodes: command.nodes,
+            scripted,
+        }),
+        Err(stop) => Err(stop),
+    }
 }

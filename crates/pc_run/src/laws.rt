@@ -4,12 +4,12 @@ ghost use Rattle.pc_model.specs.WellFormed.{IsWellFormed};
 ghost use Rattle.pc_report.specs.Shown.{SaysAlike};
 ghost use Rattle.pc_rows.specs.declared.case.Case.{Case};
 ghost use Rattle.pc_files.specs.declared.reading.Listing.{Listing};
-ghost use Rattle.pc_files.specs.Reads.{IsShowable};
-ghost use Rattle.pc_run.specs.Inputs.{IsFollowable, IsMeasurable};
+ghost use Rattle.pc_files.specs.declared.reading.Scripted.{Scripted};
+ghost use Rattle.pc_files.specs.Reads.{IsScripted, IsShowable};
+ghost use Rattle.pc_run.specs.Inputs.{IsMeasurable};
 ghost use Rattle.pc_run.specs.Replies.{SaysConflict, SaysQuantile, SaysReport, SaysSession};
 ghost use Rattle.pc_run.specs.Said.{said_by};
 ghost use Rattle.pc_run.specs.declared.input.Measured.{Measured};
-ghost use Rattle.pc_run.specs.declared.input.Scripted.{Scripted};
 
 /// The bytes of a report determine its answers: two runs over the same schema that write the same bytes say the same, block
 /// after block, whatever rows, constraints and budgets they had.
@@ -29,7 +29,7 @@ pub fn quantiles_tell_their_answers()
 /// same bytes have asked equally many questions, and the blocks of each say the same, whatever was observed, edited and
 /// budgeted.
 pub fn sessions_tell_their_answers()
-    ensures { (nodes budget : ℕ) (scripted other : Scripted) (text : List ℕ) → IsFollowable scripted → IsFollowable other
+    ensures { (nodes budget : ℕ) (scripted other : Scripted) (text : List ℕ) → IsScripted scripted → IsScripted other
         → scripted.observed.schema ≡ other.observed.schema → (one : SaysSession nodes scripted text) (two : SaysSession budget other text)
         → AllZip (AllZip SaysAlike) (said_by one) (said_by two) }
 {}

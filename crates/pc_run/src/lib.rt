@@ -1,10 +1,10 @@
 //! The run of a command, from the bytes of its files to the bytes that it writes.
 #![tactic(auto)]
 
-ghost use Rattle.std.specs.Prelude.{◌≡◌, ◌≤◌, ◌+◌, ℕ, map, string_bytes};
+ghost use Rattle.std.specs.Prelude.{◌≤◌, ◌+◌, map, string_bytes};
 ghost use Rattle.pc_run.specs.Replies.{AreLoadsFor};
 ghost use Rattle.pc_files.specs.Writing.{writing_of};
-ghost use Rattle.pc_run.specs.Meaning.{KeepsPromise, call_of, after_failed_put};
+ghost use Rattle.pc_run.specs.Meaning.{KeepsPromise, call_of};
 ghost use Rattle.pc_files.specs.Loading.{reading_of};
 
 mod follow;
@@ -20,8 +20,8 @@ pub use laws::{
     conflicts_tell_their_answers, quantiles_tell_their_answers, reports_tell_their_answers,
     sessions_tell_their_answers,
 };
-use pc_base::{Put, Shelf, Sink, Status};
-use pc_files::put_text;
+use pc_base::{Shelf, Sink, Status};
+use pc_files::put_reply;
 use reply::respond;
 use std::alloc::Global;
 
@@ -32,22 +32,6 @@ pub fn run<F: Shelf, K: Sink>(alloc: Global, words: &[String], files: &mut F, ou
     ensures loads { AreLoadsFor (map string_bytes words.now) (F.told files.old) (F.told files.new) }
     ensures puts { (K.told out.new).calls ≤ (K.told out.old).calls + 1 }
 {
-    let Ok(reply) = respond(alloc, words, files) else {
-        return Status::Memory;
-    };
-    match put_text(out, reply.text.as_slice()) {
-        Put::All => reply.status,
-        Put::Failed => after_failed_put(reply.status),
-        Put::Memory => Status::Memory,
-    }
-}
-
-/// A report that was cut off is a write fault; the line of a refusal keeps its status.
-fn after_failed_put(status: Status) -> Status
-    ensures { result ≡ after_failed_put status }
-{
-    match status {
-        Status::Done | Status::SaidNo => Status::WriteFault,
-        _ => status,
-    }
+    let reply = respond(alloc, words, files);
+    put_reply(out, reply)
 }

@@ -13,8 +13,9 @@ use crate::show::{report_conflict, report_listing};
 use crate::verdict::report_verdict;
 use pc_base::{Shelf, Status};
 use pc_document::put_document;
-use pc_files::{Observed, Stop, fault_line, malformed_line};
+use pc_files::{Observed, Reply, Stop, fault_line, malformed_line};
 use pc_group::answer_all;
+use pc_list::Seq;
 use pc_num::Memory;
 use pc_quantile::{bound_quantile, put_quantile};
 use pc_report::put_report;
@@ -22,33 +23,30 @@ use pc_rows::Case;
 use pc_run_words::{Command, read_command};
 use std::alloc::Global;
 
-/// The status with which a run ends, and the text that it writes.
-#[derive(Debug, Drop)]
-pub(crate) struct Reply {
-    pub status: Status,
-    pub text: Vec<u8>,
-}
-
 /// The reply to any words.
 #[tactic(auto, using(crate::proofs::StopReplies::none_answers))]
 pub(crate) fn respond<F: Shelf>(
     alloc: Global,
     words: &[String],
     files: &mut F,
-) -> Result<Reply, Memory>
+) -> Result<Reply<Status>, Memory>
     ensures { AnswersWords (reading_of F.told F.leads files.old files.new) (map string_bytes words.now) result }
 {
     match read_command(alloc, words)? {
         Some(command) => reply_to(alloc, files, &command),
         None => Ok(Reply {
             status: Status::Usage,
-            text: usage_line(alloc)?.into_bytes(),
+            text: Seq::from_vec(usage_line(alloc)?.into_bytes()),
         }),
     }
 }
 
 /// The reply to a command.
-fn reply_to<F: Shelf>(alloc: Global, files: &mut F, command: &Command) -> Result<Reply, Memory>
+fn reply_to<F: Shelf>(
+    alloc: Global,
+    files: &mut F,
+    command: &Command,
+) -> Result<Reply<Status>, Memory>
     requires { HasNumbers command.now }
     ensures { AnswersCommand (reading_of F.told F.leads files.old files.new) (asked_in command.now) result }
 {
@@ -59,55 +57,55 @@ fn reply_to<F: Shelf>(alloc: Global, files: &mut F, command: &Command) -> Result
 }
 
 /// The reply where files give an input.
-fn reply_with(alloc: Global, input: Input) -> Result<Reply, Memory>
+fn reply_with(alloc: Global, input: Input) -> Result<Reply<Status>, Memory>
     requires { IsSoundInput input }
-    ensures { IfOk result (λ reply. SaysInput input reply.status reply.text.items) }
+    ensures { IfOk result (λ reply. SaysInput input reply.status reply.text) }
 {
     match input {
         Input::Asks { nodes, case } => Ok(Reply {
             status: Status::Done,
-            text: report_case(alloc, &case, nodes)?,
+            text: Seq::from_vec(report_case(alloc, &case, nodes)?),
         }),
         Input::Proves { nodes, case } => Ok(Reply {
             status: Status::Done,
-            text: prove_case(alloc, &case, nodes)?,
+            text: Seq::from_vec(prove_case(alloc, &case, nodes)?),
         }),
         Input::Claims(claim) => report_verdict(alloc, &claim),
         Input::Shows(listing) => Ok(Reply {
             status: Status::Done,
-            text: report_listing(alloc, &listing)?,
+            text: Seq::from_vec(report_listing(alloc, &listing)?),
         }),
         Input::Contradicts { nodes, listing } => Ok(Reply {
             status: Status::Done,
-            text: report_conflict(alloc, &listing, nodes)?,
+            text: Seq::from_vec(report_conflict(alloc, &listing, nodes)?),
         }),
         Input::Measures { nodes, measured } => Ok(Reply {
             status: Status::Done,
-            text: report_quantile(alloc, &measured, nodes)?,
+            text: Seq::from_vec(report_quantile(alloc, &measured, nodes)?),
         }),
         Input::Follows { nodes, scripted } => Ok(Reply {
             status: Status::Done,
-            text: report_script(alloc, scripted, nodes)?,
+            text: Seq::from_vec(report_script(alloc, scripted, nodes)?),
         }),
         Input::Makes(numbers) => Ok(Reply {
             status: Status::Done,
-            text: summarize(alloc, &numbers)?,
+            text: Seq::from_vec(summarize(alloc, &numbers)?),
         }),
     }
 }
 
 /// The reply where files give nothing.
-fn reply_to_stop(alloc: Global, stop: Stop) -> Result<Reply, Memory>
-    ensures { IfOk result (λ reply. RepliesToStop stop reply.status reply.text.items) }
+fn reply_to_stop(alloc: Global, stop: Stop) -> Result<Reply<Status>, Memory>
+    ensures { IfOk result (λ reply. RepliesToStop stop reply.status reply.text) }
 {
     match stop {
         Stop::Refused(fault) => Ok(Reply {
             status: Status::Malformed,
-            text: malformed_line(alloc, fault)?.into_bytes(),
+            text: Seq::from_vec(malformed_line(alloc, fault)?.into_bytes()),
         }),
         Stop::Unread(file) => Ok(Reply {
             status: Status::ReadFault,
-            text: fault_line(alloc, file)?.into_bytes(),
+            text: Seq::from_vec(fault_line(alloc, file)?.into_bytes()),
         }),
         Stop::Memory => Err(Memory),
     }

@@ -4,23 +4,23 @@ ghost use Rattle.pc_run.specs.Replies.{HasVerdict, SaysVerdict, status_of};
 
 use crate::input::Claim;
 use crate::line::verdict_line;
-use crate::reply::Reply;
 use pc_base::Status;
 use pc_check::{Verdict, check};
 use pc_document::{NoDocument, read_document};
-use pc_files::Observed;
+use pc_files::{Observed, Reply};
+use pc_list::Seq;
 use pc_num::Memory;
 use std::alloc::Global;
 
 /// What is said of a document.
-pub(crate) fn report_verdict(alloc: Global, claim: &Claim) -> Result<Reply, Memory>
+pub(crate) fn report_verdict(alloc: Global, claim: &Claim) -> Result<Reply<Status>, Memory>
     requires { IsCheckable claim.now }
-    ensures { IfOk result (λ reply. SaysVerdict claim.now reply.status reply.text.items) }
+    ensures { IfOk result (λ reply. SaysVerdict claim.now reply.status reply.text) }
 {
     let verdict = verdict_on(alloc, claim)?;
     Ok(Reply {
         status: status_of(verdict),
-        text: verdict_line(alloc, verdict)?.into_bytes(),
+        text: Seq::from_vec(verdict_line(alloc, verdict)?.into_bytes()),
     })
 }
 

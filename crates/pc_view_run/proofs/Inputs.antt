@@ -3,7 +3,7 @@ use Rattle.std.proofs.Common.{ℕ, List}
 use Rattle.pc_model.specs.declared.fault.Fault.{Fault}
 use Rattle.pc_base.specs.Shelves.{IsLoad, ShelfState}
 use Rattle.pc_base.specs.declared.outside.Loaded.{Loaded}
-use Rattle.pc_view_run.specs.declared.reply.Reply.{Reply}
+use Rattle.pc_view_run.specs.Replied.{Reply}
 use Rattle.pc_view_run.specs.Refusals.{IsPointed, Points, PointsAfter, PointsIn}
 use Rattle.pc_view_run.specs.Inputs.{input_name, limit}
 

@@ -3,6 +3,7 @@ pub mod Inputs
 pub mod Lines
 pub mod Reasons
 pub mod Refusals
+pub mod Replied
 pub mod Replies
 pub mod Views
 pub mod Words

@@ -5,7 +5,7 @@ use Rattle.pc_files.specs.declared.stop.Stop.{Stop}
 use Rattle.pc_files.specs.declared.stop.Stop.TheVariants as stops
 use Rattle.pc_files.specs.Texts.{fault_line, line_break, malformed_line}
 use Rattle.pc_view_run.specs.declared.ended.Ended.TheVariants as ends
-use Rattle.pc_view_run.specs.declared.reply.Reply.{Reply}
+use Rattle.pc_view_run.specs.Replied.{Reply}
 use Rattle.pc_view_run.specs.declared.input.Input.{Input}
 use Rattle.pc_view_run.specs.Inputs.{input_text}
 

@@ -11,7 +11,7 @@ use Rattle.pc_why.specs.declared.table.NoReasons.TheVariants as refusals
 use Rattle.pc_why.specs.Why.{IsTableOf, Refuses}
 use Rattle.pc_view_run.specs.declared.ended.Ended.TheVariants as ends
 use Rattle.pc_view_run.specs.declared.reasons.Explained.{Explained}
-use Rattle.pc_view_run.specs.declared.reply.Reply.{Reply}
+use Rattle.pc_view_run.specs.Replied.{Reply}
 use Rattle.pc_view_run.specs.declared.input.Input.TheVariants as inputs
 use Rattle.pc_view_run.specs.Lines.{IsStopReply, malformed, unfit}
 use Rattle.pc_view_run.specs.Inputs.{input_name}

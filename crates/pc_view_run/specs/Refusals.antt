@@ -9,7 +9,7 @@ use Rattle.pc_files.specs.Texts.{fault_line}
 use Rattle.pc_faults.specs.Faults.{fault_text}
 use Rattle.pc_faults.specs.Refusals.{refusal_in}
 use Rattle.pc_view_run.specs.declared.ended.Ended.TheVariants as ends
-use Rattle.pc_view_run.specs.declared.reply.Reply.{Reply}
+use Rattle.pc_view_run.specs.Replied.{Reply}
 use Rattle.pc_view_run.specs.declared.input.Input.TheVariants as inputs
 use Rattle.pc_view_run.specs.Lines.{malformed, unread}
 use Rattle.pc_view_run.specs.Inputs.{input_name, limit}

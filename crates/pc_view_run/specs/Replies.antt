@@ -1,7 +1,7 @@
 -- What is replied to words, by what the files and the input hold.
 use Rattle.std.specs.Prelude.{◌≡◌, []}
 use Rattle.pc_files.specs.Loading.{Reading}
-use Rattle.pc_view_run.specs.declared.reply.Reply.{Reply}
+use Rattle.pc_view_run.specs.Replied.{Reply}
 use Rattle.pc_view_run.specs.Lines.{usage}
 use Rattle.pc_view_run.specs.Reasons.{Explains}
 use Rattle.pc_view_run.specs.Refusals.{Points}

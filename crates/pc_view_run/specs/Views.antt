@@ -4,7 +4,7 @@ use Rattle.pc_files.specs.Loading.{Reading}
 use Rattle.pc_files.specs.Writing.{IsCutOff, IsUntouched, IsWritten, Writing}
 use Rattle.pc_view_run.specs.declared.ended.Ended.{Ended}
 use Rattle.pc_view_run.specs.declared.ended.Ended.TheVariants as ends
-use Rattle.pc_view_run.specs.declared.reply.Reply.{Reply}
+use Rattle.pc_view_run.specs.Replied.{Reply}
 use Rattle.pc_view_run.specs.Replies.{Responds}
 use Rattle.pc_view_run.specs.Words.{Asked}
 

@@ -8,16 +8,10 @@ use crate::line::usage;
 use crate::reasons::explain;
 use crate::refusal::point;
 use pc_base::Shelf;
-use pc_list::Seq;
 use pc_num::Memory;
 use std::alloc::Global;
 
-/// The status with which a run ends, and the text that it writes.
-#[derive(Debug, Drop)]
-pub(crate) struct Reply {
-    pub status: Ended,
-    pub text: Seq<u8>,
-}
+pub(crate) type Reply = pc_files::Reply<Ended>;
 
 /// The reply to any words.
 pub(crate) fn respond<F: Shelf>(

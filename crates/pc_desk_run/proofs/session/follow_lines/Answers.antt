@@ -1,4 +1,4 @@
-use Rattle.std.proofs.Common.{◌≡◌, List, ◌∷◌, ◌++◌, ◌+◌, [], length, append_assoc, ap, arith, refl, rules, subst, sym, ◌∙◌}
+use Rattle.std.proofs.Common.{◌≡◌, List, ◌∷◌, ◌++◌, ◌+◌, [], get_or, length, append_assoc, ap, arith, refl, rules, subst, sym, ◌∙◌}
 use Rattle.std.proofs.lemmas.List.{length-append}
 use Rattle.std.specs.Vec.Iter.{into_iter_items}
 use Rattle.pc_model.specs.declared.schema.Schema.{Schema}
@@ -16,7 +16,7 @@ loop-line-init c = record {
   place = refl;
   session = c.requires.session;
   schema = refl;
-  followed = rw c.new-entries.ensures.items (shows_none c.args.session.schema (held_by c.args.session) c.args.nodes);
+  followed = rw c.new-entries.ensures.items (shows_none c.args.session.schema (held_by c.args.session) c.args.nodes c.args.script.numbers);
 }
 
 pub follow-requires-clause-can : goal.follow-requires-clause-can
@@ -25,7 +25,7 @@ follow-requires-clause-can c =
     let start = held_by c.args.session in
     let rest = into_iter_items c.next.new.self in
     let steps : into_iter_items at.line-iterator ≡ c.in-Some.line ∷ rest = c.in-Some.ensures.steps.0 in
-    let whole : at.yielded ++ c.in-Some.line ∷ rest ≡ c.args.lines = rw (← steps) at.invariant.lines in
+    let whole : at.yielded ++ c.in-Some.line ∷ rest ≡ c.args.script.lines = rw (← steps) at.invariant.lines in
     let can = next_follows c.args.session.schema start at.yielded c.in-Some.line rest (subst (λ (lines : List Line). CanFollowAll c.args.session.schema start lines) (sym whole) c.requires.can) in
     subst (λ (schema : Schema). CanFollow schema (held_by at.session) c.in-Some.line) (sym at.invariant.schema)
     (subst (λ (held : Held). CanFollow c.args.session.schema held c.in-Some.line) (sym at.invariant.followed.held_is) can)
@@ -38,16 +38,17 @@ loop-line-preserved c =
     let was = at.invariant.left in
     let gone = c.in-Some.ensures.steps.1 in
     let short = ap length steps in
-    let here : at.place + 1 ≡ 1 + length at.yielded = let is = at.invariant.place in omega (arith, is) in
     let next : length (at.yielded ++ c.in-Some.line ∷ []) ≡ length at.yielded + 1 = length-append at.yielded (c.in-Some.line ∷ []) in
-    let shown = subst (λ (schema : Schema). ArePosed (posed_at schema c.args.nodes (held_by at.session) (at.place + 1) c.in-Some.line) c.in_ok-more.more) at.invariant.schema c.in_ok-more.ensures.shown in
+    let numbers = c.args.script.numbers in
+    let number : c.number_at-number.result ≡ get_or numbers (length at.yielded) 0 = rw (c.number_at-number.ensures, c.as_slice.ensures, at.invariant.place) refl in
+    let shown = subst (λ (schema : Schema). ArePosed (posed_at schema c.args.nodes (held_by at.session) c.number_at-number.result c.in-Some.line) c.in_ok-more.more) at.invariant.schema c.in_ok-more.ensures.shown in
     let more : c.append.new.self.items ≡ at.entries.items ++ c.in_ok-more.more = search rules in
     record {
       lines = append_assoc at.yielded (c.in-Some.line ∷ []) _ ∙ rw (← steps) at.invariant.lines;
       left = omega arith;
-      place = here ∙ let same : 1 + length at.yielded ≡ length (at.yielded ++ c.in-Some.line ∷ []) = omega (arith, next) in same;
+      place = let is = at.invariant.place in omega (arith, is, next);
       session = c.in_ok-more.ensures.session;
       schema = c.in_ok-more.ensures.schema ∙ at.invariant.schema;
       followed = rw (c.in_ok-more.ensures.held, more)
-          (shows_line c.args.session.schema start c.args.nodes at.yielded (held_by at.session) at.entries.items c.in-Some.line c.in_ok-more.more at.invariant.followed (rw here at shown));
+          (shows_line c.args.session.schema start c.args.nodes numbers at.yielded (held_by at.session) at.entries.items c.in-Some.line c.in_ok-more.more at.invariant.followed (rw number at shown));
     }

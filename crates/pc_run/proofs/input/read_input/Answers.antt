@@ -58,7 +58,7 @@ returns-in-Err-read_measured-clause-read g c =
     rw c.in-Quantile.is (read_as (Measures names.nodes) (files_of (quantile names)) (measured_in names.query) reading (Err c.in-Err-read_measured.stop) c.in-Err-read_measured.ensures.read)
 
 pub returns-in-Session-clause-read : goal.returns-in-Session-clause-read
-returns-in-Session-clause-read g c = rw c.in-Session.is c.read_scripted.ensures.read
+returns-in-Session-clause-read g c = rw c.in-Session.is c.read_session.ensures.read
 
 pub returns-in-Gen-clause-read : goal.returns-in-Gen-clause-read
 returns-in-Gen-clause-read g c = rw c.in-Gen.is (none_to_read g.F.Shelf.told g.F.Shelf.leads c.args.files.now (Makes c.in-Gen.command))
