@@ -35,8 +35,8 @@ _pc_view() {
   local word=${COMP_WORDS[COMP_CWORD]}
   COMPREPLY=()
   if [ "$COMP_CWORD" -eq 1 ]; then
-    mapfile -t COMPREPLY < <(compgen -W "why fault" -- "$word")
-  elif [[ ${COMP_WORDS[1]} == why && $COMP_CWORD -le 3 || ${COMP_WORDS[1]} == fault && $COMP_CWORD -eq 2 ]]; then
+    mapfile -t COMPREPLY < <(compgen -W "why" -- "$word")
+  elif [[ ${COMP_WORDS[1]} == why && $COMP_CWORD -le 3 ]]; then
     compopt -o filenames
     mapfile -t COMPREPLY < <(compgen -f -- "$word")
   fi

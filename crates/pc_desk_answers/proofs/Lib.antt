@@ -1,5 +1,6 @@
 mod Asked
 mod Between
+mod Dividing
 mod LeftRows
 mod Repeats
 pub mod Shown

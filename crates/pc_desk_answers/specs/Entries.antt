@@ -1,5 +1,5 @@
 -- What is shown of an answer.
-use Rattle.std.specs.Prelude.{ℕ, List, Option, Some, None, option_map, slice_get}
+use Rattle.std.specs.Prelude.{ℕ, Option, Some, None, option_map, slice_get}
 use Rattle.pc_model.specs.declared.schema.Column.{Column}
 use Rattle.pc_model.specs.declared.schema.Schema.{Schema}
 use Rattle.pc_model.specs.declared.query.Query.{Query}

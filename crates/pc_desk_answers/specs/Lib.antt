@@ -1,4 +1,5 @@
 pub mod Blocks
+pub mod Divided
 pub mod Entries
 pub mod Left
 pub mod Questions

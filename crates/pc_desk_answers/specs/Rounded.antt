@@ -1,5 +1,5 @@
 -- Fractions as decimals with six places.
-use Rattle.std.specs.Prelude.{ℕ, ℤ, pos, int_lt, ◌+◌, ◌-◌, ◌*◌, ◌/◌, ◌^◌, ◌≤◌, ◌<◌, ◌&&◌, nat_le, nat_lt, Bool, true, false, unsigned_abs, Option, Some, None, if◌then◌else◌}
+use Rattle.std.specs.Prelude.{ℕ, ℤ, pos, int_lt, ◌+◌, ◌-◌, ◌*◌, ◌/◌, ◌^◌, ◌&&◌, nat_le, nat_lt, Bool, true, false, unsigned_abs, Option, Some, None, if◌then◌else◌}
 use Rattle.pc_num.specs.Scaled.{signed}
 use Rattle.pc_num.specs.declared.fraction.Frac.{Frac}
 use Rattle.pc_desk_answers.specs.declared.rounding.Rounding.{Rounding}

@@ -1,5 +1,5 @@
 -- What is shown of the values of answers.
-use Rattle.std.specs.Prelude.{ℕ, ℤ, pos, ◌-◌, ◌*◌, ◌^◌, ◌*ℤ◌, ◌-ℤ◌, Bool, true, false, nat_le, bytes_eq, unsigned_abs, List, [], ◌∷◌, map, Option, Some, None, option_map, if◌then◌else◌}
+use Rattle.std.specs.Prelude.{ℕ, ℤ, pos, ◌-◌, ◌^◌, ◌*ℤ◌, ◌-ℤ◌, Bool, true, false, nat_le, bytes_eq, unsigned_abs, List, [], ◌∷◌, map, Option, Some, None, if◌then◌else◌}
 use Rattle.pc_num.specs.Put.{scaled_text}
 use Rattle.pc_num.specs.declared.fraction.Frac.{Frac}
 use Rattle.pc_model.specs.declared.schema.Kind.{Kind}

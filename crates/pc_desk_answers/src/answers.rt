@@ -1,16 +1,15 @@
 ghost use Rattle.std.specs.Prelude.{◌≡◌, ◌≤◌, map, All, IfOk};
 ghost use Rattle.pc_model.specs.Accepted.{IsQuery};
-ghost use Rattle.pc_cells_tree.specs.Linked.{IsTree};
 ghost use Rattle.pc_session.specs.Sessions.{IsSession, held_by};
 ghost use Rattle.pc_files.specs.Reads.{IsUsable};
 ghost use Rattle.pc_group.specs.Wanted.{wanted_by};
 ghost use Rattle.pc_desk_answers.specs.Blocks.{AreShown, IsGround, asked, asked_by, block, ground_held, ground_in, ground_of};
+ghost use Rattle.pc_desk_answers.specs.Divided.{AreDivided, AreTrees, IsDivided};
 ghost use Rattle.pc_desk_answers.specs.Questions.{IsQuestion};
 
-use crate::blocks::{block_entries, quantile_entry};
+use crate::blocks::{block_entries, quantile_entry, where_nothing_is_lost};
 use crate::question::Question;
-use crate::refining::refine_for;
-use pc_cells::Shared;
+use crate::trees::{Trees, trees_for};
 use pc_desk_table::Entry;
 use pc_files::Observed;
 use pc_group::{answer_seen, ask, folds_of};
@@ -33,8 +32,8 @@ pub(crate) struct Scope<'a> {
     pub line: Option<u64>,
 }
 
-/// What is shown of the answers to questions, in their order, by searches of at most so many nodes each, over one tree of cuts
-/// that is cut on for all of them before the first is answered.
+/// What is shown of the answers to questions, in their order, by searches of at most so many nodes each, over trees of cuts
+/// that are cut on for all of them before the first is answered.
 pub fn answer_questions(
     alloc: Global,
     observed: &Observed,
@@ -53,9 +52,8 @@ pub fn answer_questions(
         nodes,
         line: None,
     };
-    let mut shared = Shared::new(alloc, scope.schema)?;
-    refine_for(alloc, &scope, questions, &mut shared)?;
-    answer_all(alloc, &scope, questions, &mut shared)
+    let trees = trees_for(alloc, &scope, questions)?;
+    answer_all(alloc, &scope, questions, &trees)
 }
 
 // The answers one after the other.
@@ -63,16 +61,17 @@ fn answer_all(
     alloc: Global,
     scope: &Scope<'_>,
     questions: &[Question],
-    shared: &mut Shared,
+    trees: &Trees,
 ) -> Result<Seq<Entry>, Memory>
     requires ground { IsGround (ground_in scope.now) }
     requires asked { All (IsQuestion scope.now.schema.now) questions.now }
-    requires tree { IsTree scope.now.schema.now shared.old.nodes }
+    requires trees { AreTrees scope.now.schema.now trees.now }
+    requires divided { All (IsDivided (ground_in scope.now) trees.now) questions.now }
     ensures shown { IfOk result (AreShown (ground_in scope.now) (asked scope.now.schema.now questions.now)) }
 {
     let mut entries = Vec::new(alloc);
     for question in questions {
-        let more = answer_one(alloc, scope, question, shared)?;
+        let more = answer_one(alloc, scope, question, trees)?;
         entries.append(&mut more.into_vec())?;
     }
     Ok(Seq::from_vec(entries))
@@ -82,16 +81,16 @@ fn answer_one(
     alloc: Global,
     scope: &Scope<'_>,
     question: &Question,
-    shared: &mut Shared,
+    trees: &Trees,
 ) -> Result<Seq<Entry>, Memory>
     requires ground { IsGround (ground_in scope.now) }
     requires asked { IsQuestion scope.now.schema.now question.now }
-    requires tree { IsTree scope.now.schema.now shared.old.nodes }
-    ensures tree { IsTree scope.now.schema.now shared.new.nodes }
+    requires trees { AreTrees scope.now.schema.now trees.now }
+    requires divided { IsDivided (ground_in scope.now) trees.now question.now }
     ensures shown { IfOk result (AreShown (ground_in scope.now) (asked_by scope.now.schema.now question.now)) }
 {
     match question {
-        Question::Plain(query) => answer_query(alloc, scope, query, shared),
+        Question::Plain(query) => answer_query(alloc, scope, query, trees),
         Question::Share(asked) => {
             let entry = quantile_entry(alloc, scope, asked)?;
             let mut entries = Seq::new(alloc);
@@ -105,12 +104,12 @@ fn answer_query(
     alloc: Global,
     scope: &Scope<'_>,
     query: &Query,
-    shared: &mut Shared,
+    trees: &Trees,
 ) -> Result<Seq<Entry>, Memory>
     requires ground { IsGround (ground_in scope.now) }
     requires asked { IsQuery scope.now.schema.now query.now }
-    requires tree { IsTree scope.now.schema.now shared.old.nodes }
-    ensures tree { IsTree scope.now.schema.now shared.new.nodes }
+    requires trees { AreTrees scope.now.schema.now trees.now }
+    requires divided { AreDivided (ground_in scope.now) trees.now (wanted_by scope.now.schema.now query.now) }
     ensures shown { IfOk result (AreShown (ground_in scope.now) (map block (wanted_by scope.now.schema.now query.now))) }
 {
     let folds = folds_of(alloc, scope.schema, scope.rows, query)?;
@@ -120,15 +119,24 @@ fn answer_query(
         folds.as_slice(),
         scope.constraints,
         query,
-        shared,
+        &trees.constrained,
+        scope.nodes,
+    )?;
+    let left = answer_seen(
+        alloc,
+        scope.schema,
+        folds.as_slice(),
+        &[],
+        query,
+        &trees.whole,
         scope.nodes,
     )?;
     block_entries(
         alloc,
         scope,
         query,
-        folds.as_slice(),
         document.blocks.as_slice(),
+        left.blocks.as_slice(),
     )
 }
 
@@ -149,7 +157,6 @@ pub fn ask_session(
     ensures shown { IfOk result (AreShown (ground_held session.old.schema (held_by session.old) line nodes) (map block (wanted_by session.old.schema query.now))) }
 {
     let document = ask(alloc, session, from_ref(query), nodes)?;
-    let folds = folds_of(alloc, &session.schema, &session.rows, query)?;
     let scope = Scope {
         schema: &session.schema,
         rows: &session.rows,
@@ -157,11 +164,12 @@ pub fn ask_session(
         nodes,
         line: Some(line),
     };
+    let left = where_nothing_is_lost(alloc, &scope, query)?;
     block_entries(
         alloc,
         &scope,
         query,
-        folds.as_slice(),
         document.blocks.as_slice(),
+        left.blocks.as_slice(),
     )
 }

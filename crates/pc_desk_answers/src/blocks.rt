@@ -6,7 +6,6 @@ ghost use Rattle.pc_lang.specs.Canonical.{query_text};
 ghost use Rattle.pc_lang.specs.Quantiles.{IsQuantile, quantile_text};
 ghost use Rattle.pc_group.specs.Answers.{AnswersWanted};
 ghost use Rattle.pc_group.specs.Trees.{told};
-ghost use Rattle.pc_group.specs.Scopes.{AreFolds, AreFoldsFor};
 ghost use Rattle.pc_group.specs.Wanted.{wanted_by};
 ghost use Rattle.pc_quantile.specs.Licensed.{Owes};
 ghost use Rattle.pc_quantile.specs.Measured.{least_of};
@@ -18,55 +17,53 @@ use crate::entry::{Title, entry_of, group_of};
 use crate::text::shown;
 use pc_cells::Shared;
 use pc_desk_table::Entry;
-use pc_group::answer_seen;
+use pc_group::{answer_seen, divide_for, folds_of};
 use pc_lang::{Quantile, put_quantile_query, put_query};
 use pc_list::{Seq, Text};
-use pc_model::{Agg, Constraint, Folded, Query, Schema};
+use pc_model::{Agg, Constraint, Query, Schema};
 use pc_num::Memory;
 use pc_proof::{Block, Document};
 use pc_quantile::{QuantileAnswer, bound_quantile};
 use pc_report::Told;
 use std::alloc::Global;
 
-/// What is shown of the blocks of a query, of which each has its fold, beside what it comes to where nothing is lost.
+/// What is shown of the blocks of a query, beside what they come to where nothing is lost.
 pub(crate) fn block_entries(
     alloc: Global,
     scope: &Scope<'_>,
     query: &Query,
-    folds: &[Folded],
     blocks: &[Block],
+    lefts: &[Block],
 ) -> Result<Seq<Entry>, Memory>
     requires ground { IsGround (ground_in scope.now) }
     requires asked { IsQuery scope.now.schema.now query.now }
-    requires folds { AreFolds (wanted_by scope.now.schema.now query.now) scope.now.rows.now folds.now }
-    requires fit { AreFoldsFor (wanted_by scope.now.schema.now query.now) folds.now }
     requires answers { AllZip (AnswersWanted scope.now.nodes scope.now.schema.now scope.now.rows.now scope.now.constraints.now) (wanted_by scope.now.schema.now query.now) (told blocks.now) }
+    requires nothing_lost { AllZip (AnswersWanted scope.now.nodes scope.now.schema.now scope.now.rows.now []) (wanted_by scope.now.schema.now query.now) (told lefts.now) }
     ensures { IfOk result (AreShown (ground_in scope.now) (map block (wanted_by scope.now.schema.now query.now))) }
 {
-    let left = where_nothing_is_lost(alloc, scope, query, folds)?;
-    entries_between(alloc, scope, query, blocks, left.blocks.as_slice())
+    entries_between(alloc, scope, query, blocks, lefts)
 }
 
-fn where_nothing_is_lost(
+/// The blocks of a query under no constraints, over a tree of their own.
+pub(crate) fn where_nothing_is_lost(
     alloc: Global,
     scope: &Scope<'_>,
     query: &Query,
-    folds: &[Folded],
 ) -> Result<Document, Memory>
     requires ground { IsGround (ground_in scope.now) }
     requires asked { IsQuery scope.now.schema.now query.now }
-    requires folds { AreFolds (wanted_by scope.now.schema.now query.now) scope.now.rows.now folds.now }
-    requires fit { AreFoldsFor (wanted_by scope.now.schema.now query.now) folds.now }
     ensures nothing_lost { IfOk result (λ document. AllZip (AnswersWanted scope.now.nodes scope.now.schema.now scope.now.rows.now []) (wanted_by scope.now.schema.now query.now) (told document.blocks)) }
 {
+    let folds = folds_of(alloc, scope.schema, scope.rows, query)?;
     let mut whole = Shared::new(alloc, scope.schema)?;
+    divide_for(alloc, scope.schema, &[], query, &mut whole)?;
     answer_seen(
         alloc,
         scope.schema,
-        folds,
+        folds.as_slice(),
         &[],
         query,
-        &mut whole,
+        &whole,
         scope.nodes,
     )
 }

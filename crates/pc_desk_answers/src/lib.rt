@@ -7,10 +7,10 @@ mod entry;
 mod laws;
 mod question;
 mod range;
-mod refining;
 mod repeated;
 mod rounding;
 mod text;
+mod trees;
 mod value;
 
 pub use answers::{answer_questions, ask_session};

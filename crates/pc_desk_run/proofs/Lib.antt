@@ -1,3 +1,4 @@
+mod Explained
 mod FaultFiles
 mod Following
 mod Replies

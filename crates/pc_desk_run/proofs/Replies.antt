@@ -1,12 +1,14 @@
 -- What was read, and what is said of it, is the reply to a call.
 use Rattle.std.proofs.Common.{◌≡◌, Result, Ok, Err, refl}
+use Rattle.pc_files.specs.declared.kept.Kept.{Kept}
 use Rattle.pc_files.specs.declared.stop.Stop.{Stop}
 use Rattle.pc_files.specs.declared.stop.Stop.TheVariants as stops
+use Rattle.pc_files.specs.Keeping.{KeptUntil}
 use Rattle.pc_files.specs.Loading.{IsRead, Reading}
 use Rattle.pc_desk_words.specs.Words.{Asked}
 use Rattle.pc_desk_run.specs.declared.reply.Reply.{Reply}
 use Rattle.pc_desk_run.specs.declared.reply.Reply.TheVariants as replies
-use Rattle.pc_desk_run.specs.Inputs.{IsSoundInput}
+use Rattle.pc_desk_run.specs.Inputs.{IsSoundInput, names_in}
 use Rattle.pc_desk_run.specs.Outcome.{Input, files_of, form_of, input_in}
 use Rattle.pc_desk_run.specs.Replies.{IsStopReply, RepliesTo, SaysInput}
 use Rattle.pc_desk_run.specs.Texts.{named_in}
@@ -26,7 +28,9 @@ module _ (reading : Reading) (asked : Asked) where
   }
   says_input input read sound (replies.Refuses ended text) says = absurd says.2
 
-  pub says_stop : (stop : Stop) → IsRead {X = Input} reading (files_of asked) (input_in asked) (Err stop) → (reply : Reply) → IsStopReply (named_in asked) stop reply → RepliesTo reading asked reply
-  says_stop (stops.Refused fault) read reply is = rw is (record { fault = fault; agrees = read.agrees; loads = read.loads; told = refl })
-  says_stop (stops.Unread kind) read reply is = rw is (record { kind = kind; unread = read.loads; told = refl })
-  says_stop stops.Memory read reply is = absurd is
+  pub says_stop : (kept : Kept) (stop : Stop) → IsRead {X = Input} reading (files_of asked) (input_in asked) (Err stop) → KeptUntil reading.before.files (names_in (named_in asked)) kept stop →
+      (reply : Reply) → IsStopReply (named_in asked) kept stop reply → RepliesTo reading asked reply
+  says_stop kept (stops.Refused fault) read explains reply is =
+      rw is.2 (record { fault = fault; agrees = read.agrees; loads = read.loads; kept = kept; explains = explains; told = is.1 })
+  says_stop kept (stops.Unread kind) read explains reply is = rw is (record { kind = kind; unread = read.loads; told = refl })
+  says_stop kept stops.Memory read explains reply is = absurd is

@@ -1,13 +1,18 @@
 -- What was read of the files of a call.
-use Rattle.std.specs.Prelude.{All, Result}
+use Rattle.std.specs.Prelude.{ℕ, All, List, Option, Result}
+use Rattle.pc_model.specs.declared.fault.FileKind.{FileKind}
+use Rattle.pc_base.specs.Files.{Files}
+use Rattle.pc_files.specs.declared.kept.Kept.{Kept}
 use Rattle.pc_files.specs.declared.stop.Stop.{Stop}
+use Rattle.pc_files.specs.Keeping.{KeptFrom, names_of}
 use Rattle.pc_files.specs.Loading.{IsRead, Reading}
 use Rattle.pc_files.specs.declared.reading.Scripted.{Scripted}
 use Rattle.pc_files.specs.Reads.{IsScripted, IsUsable, ReadsScripted}
 use Rattle.pc_desk_answers.specs.Questions.{IsQuestion}
-use Rattle.pc_desk_words.specs.Words.{AskNames, IsBudget, SessionNames}
+use Rattle.pc_desk_words.specs.Words.{AskNames, Asked, IsBudget, SessionNames}
 use Rattle.pc_desk_run.specs.declared.input.Asking.{Asking}
 use Rattle.pc_desk_run.specs.Outcome.{Input, asking_in, asks, data_files, follows}
+use Rattle.pc_desk_run.specs.Texts.{Named, named_in}
 
 -- what answers need of what was read
 pub record IsAsking (asking : Asking) : Type 0 where
@@ -24,3 +29,11 @@ ReadsAsking reading names result = IsRead reading (data_files names.files) (aski
 
 abbrev pub ReadsSession : Reading → SessionNames → Result Scripted Stop → Type 0
 ReadsSession reading names result = ReadsScripted reading names.files.schema names.files.rows names.files.constraints names.script result
+
+-- the name of each kind of file that a call reads
+abbrev pub names_in : Named → FileKind → List ℕ
+names_in named = names_of named.files.schema named.files.rows named.files.constraints named.script
+
+-- which bytes of them are kept where reading them answers this
+abbrev pub KeepsAsked : {X : Type 0} → Option Files → Asked → Kept → Result X Stop → Type 0
+KeepsAsked told asked kept result = KeptFrom told (names_in (named_in asked)) kept result

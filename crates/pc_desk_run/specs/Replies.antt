@@ -2,8 +2,10 @@
 use Rattle.std.specs.Prelude.{◌≡◌, ◌⊎◌, ℕ, List, [], Some, None, Ok, Err}
 use Rattle.pc_model.specs.declared.fault.Fault.{Fault}
 use Rattle.pc_model.specs.declared.fault.FileKind.{FileKind}
+use Rattle.pc_files.specs.declared.kept.Kept.{Kept}
 use Rattle.pc_files.specs.declared.stop.Stop.{Stop}
 use Rattle.pc_files.specs.declared.stop.Stop.TheVariants as stops
+use Rattle.pc_files.specs.Keeping.{ExplainsFault}
 use Rattle.pc_files.specs.Loading.{EndsAt, IsUnread, LoadsAll, Reading}
 use Rattle.pc_files.specs.Outcome.{refused}
 use Rattle.pc_files.specs.Reads.{start_of}
@@ -16,9 +18,9 @@ use Rattle.pc_desk_run.specs.declared.ended.Ended.TheVariants as ends
 use Rattle.pc_desk_run.specs.declared.reply.Reply.{Reply}
 use Rattle.pc_desk_run.specs.declared.reply.Reply.TheVariants as replies
 use Rattle.pc_desk_run.specs.Endings.{ended_of}
-use Rattle.pc_desk_run.specs.Inputs.{IsSoundInput}
+use Rattle.pc_desk_run.specs.Inputs.{IsSoundInput, names_in}
 use Rattle.pc_desk_run.specs.Outcome.{ComesTo, Input, asks, files_of, follows, form_of}
-use Rattle.pc_desk_run.specs.Texts.{Named, named_in, note_on, refused_lines, text_of, unread_line}
+use Rattle.pc_desk_run.specs.Texts.{AreRefusedLines, Named, named_in, note_on, text_of, unread_line}
 
 -- The entries show answers to what is asked: each is right, by searches of at most so many nodes, and stands beside the answer to
 -- the same where nothing is lost; of a script each has the number of its line in the file.
@@ -41,10 +43,10 @@ abbrev pub SaysInput : Form → Input → Reply → Type 0
 SaysInput form input reply = (entries : List Entry) × AnswersInput input entries × Shows form entries (note_for input) reply
 
 -- why files give nothing; without memory there is no reply
-abbrev pub IsStopReply : Named → Stop → Reply → Type 0
-IsStopReply named (stops.Refused fault) reply = reply ≡ replies.Refuses ends.Refused (refused_lines named fault)
-IsStopReply named (stops.Unread kind) reply = reply ≡ replies.Refuses ends.ReadFault (unread_line named kind)
-IsStopReply named stops.Memory reply = ⊥
+abbrev pub IsStopReply : Named → Kept → Stop → Reply → Type 0
+IsStopReply named kept (stops.Refused fault) reply = (text : List ℕ) × AreRefusedLines named kept fault text × (reply ≡ replies.Refuses ends.Refused text)
+IsStopReply named kept (stops.Unread kind) reply = reply ≡ replies.Refuses ends.ReadFault (unread_line named kind)
+IsStopReply named kept stops.Memory reply = ⊥
 
 -- The files are accepted and come to this input; and this is the text of what is shown of its answers, with this status and note.
 pub record SaysAnswers (reading : Reading) (asked : Asked) (ended : Ended) (text note : List ℕ) : Type 0 where
@@ -58,12 +60,15 @@ pub record SaysAnswers (reading : Reading) (asked : Asked) (ended : Ended) (text
   pub spelled : text ≡ text_of (form_of asked) entries
   pub noted : note ≡ note_for input
 
--- a file or a query has a first fault, and nothing was loaded after that file
+-- A file or a query has a first fault, and nothing was loaded after that file. What explains it is told of the bytes that the shelf
+-- holds under the names of the schema and of the refused file.
 pub record RefusesFault (reading : Reading) (asked : Asked) (text : List ℕ) : Type 0 where
   pub fault : Fault
   pub agrees : ComesTo reading.before.files asked (Err (refused fault))
   pub loads : EndsAt reading (files_of asked) fault.file
-  pub told : text ≡ refused_lines (named_in asked) fault
+  pub kept : Kept
+  pub explains : ExplainsFault reading.before.files (names_in (named_in asked)) kept fault.file
+  pub told : AreRefusedLines (named_in asked) kept fault text
 
 -- the last load failed, and no other
 pub record RefusesLoad (reading : Reading) (asked : Asked) (text : List ℕ) : Type 0 where

@@ -1,12 +1,14 @@
 -- The texts that a run writes.
-use Rattle.std.specs.Prelude.{ℕ, ◌-◌, ◌==◌, ◌||◌, Bool, true, false, List, [], ◌∷◌, ◌++◌, codes, decimal, get_or, length, map, if◌then◌else◌}
+use Rattle.std.specs.Prelude.{◌≡◌, ℕ, ◌-◌, ◌==◌, ◌||◌, Bool, true, false, List, [], ◌∷◌, ◌++◌, codes, decimal, get_or, length, map, if◌then◌else◌}
 use Rattle.std.specs.List.{concat}
 use Rattle.pc_model.specs.declared.constraint.Constraint.{Constraint}
 use Rattle.pc_model.specs.declared.fault.Fault.{Fault}
 use Rattle.pc_model.specs.declared.fault.FileKind.{FileKind}
 use Rattle.pc_model.specs.declared.fault.FileKind.TheVariants as kinds
 use Rattle.pc_model.specs.FaultTexts.{file_name_of}
+use Rattle.pc_files.specs.declared.kept.Kept.{Kept}
 use Rattle.pc_files.specs.Texts.{line_break, malformed_line}
+use Rattle.pc_desk_fault.specs.Explained.{IsExplained}
 use Rattle.pc_desk_draw.specs.Charts.{chart_text}
 use Rattle.pc_desk_draw.specs.Pictures.{picture_text}
 use Rattle.pc_desk_table.specs.declared.entry.Entry.{Entry}
@@ -54,7 +56,7 @@ name_of named kinds.Document place = []
 -- what the places of a file count, which is asked of those that have places
 abbrev pub part_name : FileKind → List ℕ
 part_name kinds.Rows = codes "record"
-part_name kinds.Schema = codes "line"
+part_name kinds.Schema = codes "record"
 part_name kinds.Constraints = codes "line"
 part_name kinds.Script = codes "line"
 part_name kinds.Document = codes "line"
@@ -69,14 +71,17 @@ is_query kinds.Script = false
 is_query kinds.Document = false
 
 -- the file, with the line or record where it has one; or the query
-abbrev pub place_line : Named → FileKind → ℕ → List ℕ
-place_line named kind place =
-    if is_query kind || (place == 0) then concat (codes "  " ∷ name_of named kind place ∷ line_break ∷ [])
-    else concat (codes "  " ∷ name_of named kind place ∷ codes ", " ∷ part_name kind ∷ codes " " ∷ decimal place ∷ line_break ∷ [])
+abbrev pub place_text : Named → FileKind → ℕ → List ℕ
+place_text named kind place =
+    if is_query kind || (place == 0) then concat (codes "  " ∷ name_of named kind place ∷ [])
+    else concat (codes "  " ∷ name_of named kind place ∷ codes ", " ∷ part_name kind ∷ codes " " ∷ decimal place ∷ [])
 
--- the line of a refusal, and below it what it speaks of
-abbrev pub refused_lines : Named → Fault → List ℕ
-refused_lines named fault = malformed_line fault ++ place_line named fault.file fault.place
+-- The line of a refusal; below it what it speaks of; and behind that where the fault is and what is to stand there, which is told
+-- of the bytes that are kept.
+pub record AreRefusedLines (named : Named) (kept : Kept) (fault : Fault) (text : List ℕ) : Type 0 where
+  pub below : List ℕ
+  pub explains : IsExplained kept.schema fault kept.last (get_or named.queries (fault.place - 1) []) below
+  pub told : text ≡ malformed_line fault ++ (place_text named fault.file fault.place ++ below)
 
 abbrev pub unread_line : Named → FileKind → List ℕ
 unread_line named kind = concat (codes "read fault: " ∷ file_name_of kind ∷ codes ": " ∷ name_of named kind 0 ∷ line_break ∷ [])

@@ -1,13 +1,14 @@
 ghost use Rattle.std.specs.Prelude.{IfOk};
 ghost use Rattle.pc_files.specs.Loading.{reading_of};
 ghost use Rattle.pc_desk_words.specs.Calls.{ask_names, session_names};
+ghost use Rattle.pc_desk_words.specs.Words as words;
 ghost use Rattle.pc_files.specs.Reads.{IsScripted};
-ghost use Rattle.pc_desk_run.specs.Inputs.{IsAsking, ReadsAsking, ReadsSession};
+ghost use Rattle.pc_desk_run.specs.Inputs.{IsAsking, KeepsAsked, ReadsAsking, ReadsSession};
 
 use pc_base::Shelf;
 use pc_desk_answers::{Question, read_questions};
 use pc_desk_words::{Ask, Session};
-use pc_files::{Observed, Scripted, Stop, read_observed, read_scripted};
+use pc_files::{Kept, Observed, Scripted, Stop, read_observed_keeping, read_scripted_keeping};
 use pc_list::Seq;
 use std::alloc::Global;
 
@@ -19,12 +20,25 @@ pub(crate) struct Asking {
 }
 
 /// Reads the files of `ask`, and then its queries.
-pub(crate) fn read_asking<F: Shelf>(alloc: Global, files: &mut F, ask: &Ask) -> Result<Asking, Stop>
+pub(crate) fn read_asking<F: Shelf>(
+    alloc: Global,
+    files: &mut F,
+    ask: &Ask,
+    kept: &mut Kept,
+) -> Result<Asking, Stop>
     ensures read { ReadsAsking (reading_of F.told F.leads files.old files.new) (ask_names ask.now) result }
     ensures sound { IfOk result IsAsking }
+    ensures kept { KeepsAsked (F.told files.old).files (words.ask (ask_names ask.now)) kept.new result }
 {
     let names = ask.files;
-    let observed = read_observed(alloc, files, names.schema, names.rows, names.constraints)?;
+    let observed = read_observed_keeping(
+        alloc,
+        files,
+        names.schema,
+        names.rows,
+        names.constraints,
+        kept,
+    )?;
     let questions = read_questions(alloc, &observed.schema, ask.queries.as_slice())?;
     Ok(Asking {
         observed,
@@ -37,17 +51,20 @@ pub(crate) fn read_session<F: Shelf>(
     alloc: Global,
     files: &mut F,
     session: &Session,
+    kept: &mut Kept,
 ) -> Result<Scripted, Stop>
     ensures read { ReadsSession (reading_of F.told F.leads files.old files.new) (session_names session.now) result }
     ensures sound { IfOk result IsScripted }
+    ensures kept { KeepsAsked (F.told files.old).files (words.session (session_names session.now)) kept.new result }
 {
     let names = session.files;
-    read_scripted(
+    read_scripted_keeping(
         alloc,
         files,
         names.schema,
         names.rows,
         names.constraints,
         session.script,
+        kept,
     )
 }

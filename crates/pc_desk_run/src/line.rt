@@ -1,10 +1,11 @@
 ghost use Rattle.std.specs.Prelude.{◌≡◌, ◌-◌, [], IfOk, get_or, map, string_bytes};
 ghost use Rattle.pc_desk_words.specs.Calls.{ask_names, session_names};
 ghost use Rattle.pc_desk_words.specs.Words as words;
-ghost use Rattle.pc_desk_run.specs.Texts.{is_query, name_of, named_in, named_of, part_name, place_line, refused_lines, unread_line};
+ghost use Rattle.pc_desk_run.specs.Texts.{AreRefusedLines, is_query, name_of, named_in, named_of, part_name, place_text, unread_line};
 
+use pc_desk_fault::{About, explained};
 use pc_desk_words::{Ask, Files, Session};
-use pc_files::{Stop, malformed_line};
+use pc_files::{Kept, malformed_line};
 use pc_list::Seq;
 use pc_model::{Fault, FileKind};
 use pc_num::Memory;
@@ -40,35 +41,45 @@ pub(crate) fn sources_of_session<'a>(session: &Session<'a>) -> Sources<'a>
     }
 }
 
-/// The lines that tell of a file or a query that is refused: that of `pc`, and below it where the fault is.
+/// The lines that tell of a file or a query that is refused: that of `pc`, and below it where the fault is and what is to stand
+/// there, from the bytes that are kept.
+#[tactic(auto, using(crate::proofs::Explained::explains))]
 pub(crate) fn refused_lines(
     alloc: Global,
     sources: &Sources,
+    kept: &Kept,
     fault: Fault,
 ) -> Result<Seq<u8>, Memory>
-    ensures { IfOk result (λ text. text ≡ refused_lines (named_of sources.now) fault) }
+    ensures { IfOk result (AreRefusedLines (named_of sources.now) kept.now fault) }
 {
     let mut text = malformed_line(alloc, fault)?.into_bytes();
-    let below = place_line(alloc, sources, fault.file, fault.place)?;
-    text.extend_from_slice(below.as_bytes())?;
+    let place = place_text(alloc, sources, fault.file, fault.place)?;
+    text.extend_from_slice(place.as_bytes())?;
+    let about = About {
+        schema: kept.schema.as_slice(),
+        file: kept.last.as_slice(),
+        query: query_at(sources.queries, fault.place),
+    };
+    let below = explained(alloc, &about, fault)?;
+    text.extend_from_slice(below.as_slice())?;
     Ok(Seq::from_vec(text))
 }
 
 // The file, with the line or record where it has one; or the query.
-fn place_line(
+fn place_text(
     alloc: Global,
     sources: &Sources,
     kind: FileKind,
     place: u64,
 ) -> Result<String, Memory>
-    ensures { IfOk result (λ text. string_bytes text ≡ place_line (named_of sources.now) kind place) }
+    ensures { IfOk result (λ text. string_bytes text ≡ place_text (named_of sources.now) kind place) }
 {
     let name = name_of(sources, kind, place);
     if kind == FileKind::Query || place == 0 {
-        return Ok(format!(in alloc; "  {name}\n")?);
+        return Ok(format!(in alloc; "  {name}")?);
     }
     let part = part_name(kind);
-    Ok(format!(in alloc; "  {name}, {part} {place}\n")?)
+    Ok(format!(in alloc; "  {name}, {part} {place}")?)
 }
 
 /// The line that tells of a file that could not be read.
@@ -113,7 +124,7 @@ fn part_name(kind: FileKind) -> &'static str
     ensures { result.now ≡ part_name kind }
 {
     match kind {
-        FileKind::Rows => "record",
+        FileKind::Schema | FileKind::Rows => "record",
         _ => "line",
     }
 }

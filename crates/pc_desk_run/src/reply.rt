@@ -21,7 +21,7 @@ use pc_base::Shelf;
 use pc_desk_answers::answer_questions;
 use pc_desk_table::Entry;
 use pc_desk_words::{Ask, Call, Form, Session, read_call};
-use pc_files::{Scripted, Stop};
+use pc_files::{Kept, Scripted, Stop};
 use pc_list::Seq;
 use pc_num::Memory;
 use std::alloc::Global;
@@ -82,9 +82,10 @@ fn reply_to_ask<F: Shelf>(alloc: Global, files: &mut F, ask: &Ask) -> Result<Rep
     requires { IsBudget ask.now.nodes }
     ensures { IfOk result (RepliesTo (reading_of F.told F.leads files.old files.new) (words.ask (ask_names ask.now))) }
 {
-    match read_asking(alloc, files, ask) {
+    let mut kept = Kept::new(alloc);
+    match read_asking(alloc, files, ask, &mut kept) {
         Ok(asking) => answered(alloc, &asking, ask.form, ask.nodes),
-        Err(stop) => stopped(alloc, &sources_of_ask(ask), stop),
+        Err(stop) => stopped(alloc, &sources_of_ask(ask), &kept, stop),
     }
 }
 
@@ -96,9 +97,10 @@ fn reply_to_session<F: Shelf>(
     requires { IsBudget session.now.nodes }
     ensures { IfOk result (RepliesTo (reading_of F.told F.leads files.old files.new) (words.session (session_names session.now))) }
 {
-    match read_session(alloc, files, session) {
+    let mut kept = Kept::new(alloc);
+    match read_session(alloc, files, session, &mut kept) {
         Ok(scripted) => followed(alloc, scripted, session.form, session.nodes),
-        Err(stop) => stopped(alloc, &sources_of_session(session), stop),
+        Err(stop) => stopped(alloc, &sources_of_session(session), &kept, stop),
     }
 }
 
@@ -136,13 +138,13 @@ fn shown(alloc: Global, form: Form, entries: &[Entry], note: &'static str) -> Re
     })
 }
 
-fn stopped(alloc: Global, sources: &Sources, stop: Stop) -> Result<Reply, Memory>
-    ensures { IfOk result (IsStopReply (named_of sources.now) stop) }
+fn stopped(alloc: Global, sources: &Sources, kept: &Kept, stop: Stop) -> Result<Reply, Memory>
+    ensures { IfOk result (IsStopReply (named_of sources.now) kept.now stop) }
 {
     match stop {
         Stop::Refused(fault) => Ok(Reply::Refuses {
             ended: Ended::Refused,
-            text: refused_lines(alloc, sources, fault)?,
+            text: refused_lines(alloc, sources, kept, fault)?,
         }),
         Stop::Unread(kind) => Ok(Reply::Refuses {
             ended: Ended::ReadFault,

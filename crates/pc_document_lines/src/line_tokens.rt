@@ -6,9 +6,8 @@ ghost use Rattle.pc_document_lines.specs.Numbers.{is_within, likely_number};
 ghost use Rattle.pc_document_lines.specs.TokenLines.{name_of, number_of, token_at, tokens_if};
 
 use crate::numbers::likely_number;
-use pc_lang_tokens::{Token, read_tokens};
+use pc_lang_tokens::{NoTokens, Token, read_tokens};
 use pc_list::Seq;
-use pc_model::ReadStop;
 use pc_num::{GREATEST_SIZE, Memory};
 use std::alloc::Global;
 
@@ -17,9 +16,9 @@ pub(crate) fn tokens_of(alloc: Global, line: &[u8]) -> Result<Seq<Token>, Memory
     ensures { IfOk result (λ list. list ≡ tokens_if (tokens_of line.now)) }
 {
     match read_tokens(alloc, line) {
-        Ok(list) => Ok(list),
-        Err(ReadStop::Reason(_)) => Ok(Seq::new(alloc)),
-        Err(ReadStop::Memory) => Err(Memory),
+        Ok(tokens) => Ok(tokens.list),
+        Err(NoTokens::At(_)) => Ok(Seq::new(alloc)),
+        Err(NoTokens::Memory) => Err(Memory),
     }
 }
 

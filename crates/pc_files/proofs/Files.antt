@@ -51,7 +51,7 @@ abbrev pub stopped : {X : Type 0} → Result X Refusal → Result X Stop
 stopped (Ok x) = Ok x
 stopped (Err refusal) = Err (stop_of refusal)
 
-same_bytes : (held : Result (List ℕ) Obstacle) → (held >>= λ bytes. or_refused (whole bytes)) ≡ held
+pub same_bytes : (held : Result (List ℕ) Obstacle) → (held >>= λ bytes. or_refused (whole bytes)) ≡ held
 same_bytes (Ok bytes) = refl
 same_bytes (Err obstacle) = refl
 

@@ -1,9 +1,9 @@
 -- The lines of a script, with their numbers.
-use Rattle.std.proofs.Common.{◌≡◌, ℕ, List, Ok, Err, refl}
+use Rattle.std.proofs.Common.{◌≡◌, ℕ, List, Ok, refl}
 use Rattle.pc_model.specs.declared.fault.Refusal.{Refusal}
 use Rattle.pc_model.specs.declared.fault.Refusal.TheVariants as refusals
 use Rattle.pc_model.specs.declared.schema.Schema.{Schema}
-use Rattle.pc_model.specs.Refusals.{◌>>=◌, RefusesAs}
+use Rattle.pc_model.specs.Refusals.{RefusesAs}
 use Rattle.pc_session.specs.Edited.{Held}
 use Rattle.pc_session.specs.declared.line.Line.{Line}
 use Rattle.pc_script.specs.Numbers.{said_lines}

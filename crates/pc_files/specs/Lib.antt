@@ -1,3 +1,4 @@
+pub mod Keeping
 pub mod Loading
 pub mod Outcome
 pub mod Reads

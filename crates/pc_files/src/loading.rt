@@ -10,8 +10,9 @@ ghost use Rattle.pc_schema.specs.SchemaFile.{schema_of};
 ghost use Rattle.pc_rows.specs.RowFile.{rows_of};
 ghost use Rattle.pc_lang.specs.Files.{constraints_of};
 ghost use Rattle.pc_session.specs.Edited.{CanFollowAll};
+ghost use Rattle.pc_files.specs.Keeping.{KeepsFile};
 ghost use Rattle.pc_files.specs.Loading.{reading_of, IsLoaded};
-ghost use Rattle.pc_files.specs.Outcome.{held_in, limit_of, numbered_script, whole};
+ghost use Rattle.pc_files.specs.Outcome.{held_in, limit_of, mapped, numbered_script, whole};
 ghost use Rattle.pc_files.specs.Reads.{IsUsable, found_of};
 
 use crate::reading::{Observed, Script};
@@ -46,6 +47,22 @@ pub fn load_bytes<F: Shelf>(
     }
 }
 
+/// Loads the bytes of a file in the place of those of the file before it.
+fn load_last<F: Shelf>(
+    alloc: Global,
+    files: &mut F,
+    file: FileKind,
+    name: &str,
+    last: &mut Seq<u8>,
+) -> Result<(), Stop>
+    ensures loaded { IsLoaded (reading_of F.told F.leads files.old files.new) file name.now whole (mapped (λ done. last.new) result) }
+    ensures kept { KeepsFile (F.told files.old).files file name.now last.new result }
+{
+    *last = Seq::new(alloc);
+    *last = load_bytes(alloc, files, file, name)?;
+    Ok(())
+}
+
 /// The greatest number of bytes that a file may have.
 fn limit_of(file: FileKind) -> usize
     ensures { result ≡ limit_of file }
@@ -66,58 +83,70 @@ fn too_long(file: FileKind) -> Fault
     }
 }
 
-/// Loads and reads the schema.
-pub fn load_schema<F: Shelf>(alloc: Global, files: &mut F, name: &str) -> Result<Schema, Stop>
+/// Loads and reads the schema, and keeps its bytes.
+pub fn load_schema<F: Shelf>(
+    alloc: Global,
+    files: &mut F,
+    name: &str,
+    last: &mut Seq<u8>,
+) -> Result<Schema, Stop>
     ensures loaded { IsLoaded (reading_of F.told F.leads files.old files.new) kinds.Schema name.now schema_of result }
+    ensures kept { KeepsFile (F.told files.old).files kinds.Schema name.now last.new result }
     ensures well_formed { IfOk result IsWellFormed }
 {
-    let bytes = load_bytes(alloc, files, FileKind::Schema, name)?;
-    Ok(read_schema(alloc, bytes.as_slice())?)
+    load_last(alloc, files, FileKind::Schema, name, last)?;
+    Ok(read_schema(alloc, last.as_slice())?)
 }
 
-/// Loads and reads the observed rows.
+/// Loads and reads the observed rows, and keeps their bytes.
 pub fn load_rows<F: Shelf>(
     alloc: Global,
     files: &mut F,
     name: &str,
     schema: &Schema,
+    last: &mut Seq<u8>,
 ) -> Result<Rows, Stop>
     requires { HaveFewNames schema.now.columns }
     ensures loaded { IsLoaded (reading_of F.told F.leads files.old files.new) kinds.Rows name.now (rows_of schema.now) result }
+    ensures kept { KeepsFile (F.told files.old).files kinds.Rows name.now last.new result }
     ensures seen { IfOk result (AllPass (in_domain schema.now)) }
 {
-    let bytes = load_bytes(alloc, files, FileKind::Rows, name)?;
-    Ok(read_rows(alloc, schema, bytes.as_slice())?)
+    load_last(alloc, files, FileKind::Rows, name, last)?;
+    Ok(read_rows(alloc, schema, last.as_slice())?)
 }
 
-/// Loads and reads the constraints.
+/// Loads and reads the constraints, and keeps their bytes.
 pub fn load_constraints<F: Shelf>(
     alloc: Global,
     files: &mut F,
     name: &str,
     schema: &Schema,
+    last: &mut Seq<u8>,
 ) -> Result<Seq<Constraint>, Stop>
     requires well_formed { IsWellFormed schema.now }
     ensures loaded { IsLoaded (reading_of F.told F.leads files.old files.new) kinds.Constraints name.now (constraints_of schema.now) result }
+    ensures kept { KeepsFile (F.told files.old).files kinds.Constraints name.now last.new result }
     ensures accepted { IfOk result (AreConstraints schema.now) }
 {
-    let bytes = load_bytes(alloc, files, FileKind::Constraints, name)?;
-    Ok(read_constraints(alloc, schema, bytes.as_slice())?)
+    load_last(alloc, files, FileKind::Constraints, name, last)?;
+    Ok(read_constraints(alloc, schema, last.as_slice())?)
 }
 
-/// Loads and reads a script, which begins with what was observed.
+/// Loads and reads a script, which begins with what was observed, and keeps its bytes.
 pub fn load_script<F: Shelf>(
     alloc: Global,
     files: &mut F,
     name: &str,
     observed: &Observed,
+    last: &mut Seq<u8>,
 ) -> Result<Script, Stop>
     requires { IsUsable observed.now }
     ensures loaded { IsLoaded (reading_of F.told F.leads files.old files.new) kinds.Script name.now (numbered_script observed.now.schema (held_in (found_of observed.now))) result }
+    ensures kept { KeepsFile (F.told files.old).files kinds.Script name.now last.new result }
     ensures can { IfOk result (λ script. CanFollowAll observed.now.schema (held_in (found_of observed.now)) script.lines) }
 {
-    let bytes = load_bytes(alloc, files, FileKind::Script, name)?;
-    Ok(read_numbered(alloc, observed, bytes.as_slice())?)
+    load_last(alloc, files, FileKind::Script, name, last)?;
+    Ok(read_numbered(alloc, observed, last.as_slice())?)
 }
 
 #[tactic(auto, using(crate::proofs::Scripts::reads))]

@@ -1,11 +1,13 @@
-ghost use Rattle.std.specs.Prelude.{map, All, IfOk};
+ghost use Rattle.std.specs.Prelude.{ℕ, List, map, All, IfOk};
 ghost use Rattle.pc_model.specs.Accepted.{IsQuery};
 ghost use Rattle.pc_model.specs.Refusals.{Gives};
 ghost use Rattle.pc_model.specs.WellFormed.{IsWellFormed};
+ghost use Rattle.pc_files.specs.Keeping.{KeptFrom, names_of};
 ghost use Rattle.pc_files.specs.Loading.{reading_of};
 ghost use Rattle.pc_files.specs.Outcome.{queries_of};
 ghost use Rattle.pc_files.specs.Reads.{IsScripted, IsShowable, IsUsable, ReadsListing, ReadsObserved, ReadsScripted};
 
+use crate::kept::Kept;
 use crate::loading::{load_constraints, load_rows, load_schema, load_script};
 use crate::stop::Stop;
 use pc_base::Shelf;
@@ -46,7 +48,6 @@ pub struct Scripted {
 }
 
 /// Loads and reads a schema, observed rows and constraints, each once and in this order.
-#[tactic(auto, using(pc_model::proofs::FewNames::have_few_names))]
 pub fn read_observed<F: Shelf>(
     alloc: Global,
     files: &mut F,
@@ -57,9 +58,28 @@ pub fn read_observed<F: Shelf>(
     ensures read { ReadsObserved (reading_of F.told F.leads files.old files.new) schema.now rows.now constraints.now result }
     ensures sound { IfOk result IsUsable }
 {
-    let schema = load_schema(alloc, files, schema)?;
-    let rows = load_rows(alloc, files, rows, &schema)?;
-    let constraints = load_constraints(alloc, files, constraints, &schema)?;
+    let mut kept = Kept::new(alloc);
+    read_observed_keeping(alloc, files, schema, rows, constraints, &mut kept)
+}
+
+/// The same, and keeps the bytes that explain a refusal.
+#[tactic(auto, using(pc_model::proofs::FewNames::have_few_names))]
+pub fn read_observed_keeping<F: Shelf>(
+    alloc: Global,
+    files: &mut F,
+    schema: &str,
+    rows: &str,
+    constraints: &str,
+    kept: &mut Kept,
+) -> Result<Observed, Stop>
+    ensures read { ReadsObserved (reading_of F.told F.leads files.old files.new) schema.now rows.now constraints.now result }
+    ensures sound { IfOk result IsUsable }
+    ensures kept { (script : List ℕ) → KeptFrom (F.told files.old).files (names_of schema.now rows.now constraints.now script) kept.new result }
+{
+    let schema = load_schema(alloc, files, schema, &mut kept.last)?;
+    kept.set_schema_apart(alloc);
+    let rows = load_rows(alloc, files, rows, &schema, &mut kept.last)?;
+    let constraints = load_constraints(alloc, files, constraints, &schema, &mut kept.last)?;
     Ok(Observed {
         schema,
         rows,
@@ -77,8 +97,9 @@ pub fn read_listing<F: Shelf>(
     ensures read { ReadsListing (reading_of F.told F.leads files.old files.new) schema.now constraints.now result }
     ensures sound { IfOk result IsShowable }
 {
-    let schema = load_schema(alloc, files, schema)?;
-    let constraints = load_constraints(alloc, files, constraints, &schema)?;
+    let mut last = Seq::new(alloc);
+    let schema = load_schema(alloc, files, schema, &mut last)?;
+    let constraints = load_constraints(alloc, files, constraints, &schema, &mut last)?;
     Ok(Listing {
         schema,
         constraints,
@@ -97,8 +118,26 @@ pub fn read_scripted<F: Shelf>(
     ensures read { ReadsScripted (reading_of F.told F.leads files.old files.new) schema.now rows.now constraints.now script.now result }
     ensures sound { IfOk result IsScripted }
 {
-    let observed = read_observed(alloc, files, schema, rows, constraints)?;
-    let script = load_script(alloc, files, script, &observed)?;
+    let mut kept = Kept::new(alloc);
+    read_scripted_keeping(alloc, files, schema, rows, constraints, script, &mut kept)
+}
+
+/// The same, and keeps the bytes that explain a refusal.
+pub fn read_scripted_keeping<F: Shelf>(
+    alloc: Global,
+    files: &mut F,
+    schema: &str,
+    rows: &str,
+    constraints: &str,
+    script: &str,
+    kept: &mut Kept,
+) -> Result<Scripted, Stop>
+    ensures read { ReadsScripted (reading_of F.told F.leads files.old files.new) schema.now rows.now constraints.now script.now result }
+    ensures sound { IfOk result IsScripted }
+    ensures kept { KeptFrom (F.told files.old).files (names_of schema.now rows.now constraints.now script.now) kept.new result }
+{
+    let observed = read_observed_keeping(alloc, files, schema, rows, constraints, kept)?;
+    let script = load_script(alloc, files, script, &observed, &mut kept.last)?;
     Ok(Scripted { observed, script })
 }
 

@@ -5,6 +5,8 @@ use Rattle.pc_model.specs.declared.schema.Schema.{Schema}
 use Rattle.pc_model.specs.declared.constraint.Constraint.{Constraint}
 use Rattle.pc_model.specs.declared.area.Area.{Area}
 use Rattle.pc_model.specs.declared.tree.CutNode.{CutNode}
+use Rattle.pc_group.specs.Trees.{AreDividedFor}
+use Rattle.pc_group.specs.Wanted.{Wanted, area_of}
 use Rattle.pc_cells_tree.specs.Linked.{IsTree, IsDividedFor, KeepsInner}
 use Rattle.pc_cells_tree.proofs.TreeLaws.{kept_stays_divided}
 
@@ -16,3 +18,10 @@ divided_more schema constraints areas i area before after inside is tree kept di
     let P = λ (r : Area). IsDividedFor schema constraints r after in
     let still = All-weaker (λ (r : Area). IsDividedFor schema constraints r before) P (λ r h. kept_stays_divided schema constraints r before after tree kept h) (take i areas) earlier in
     All-more P areas i area inside still (subst P is divided)
+
+-- blocks that a tree was divided for
+pub still_divided : (schema : Schema) (constraints : List Constraint) (before after : List CutNode) → IsTree schema before → KeepsInner before after →
+    (blocks : List Wanted) → AreDividedFor schema constraints before blocks → AreDividedFor schema constraints after blocks
+still_divided schema constraints before after tree kept blocks divided =
+    All-weaker (λ (w : Wanted). IsDividedFor schema constraints (area_of w) before) (λ (w : Wanted). IsDividedFor schema constraints (area_of w) after)
+    (λ w h. kept_stays_divided schema constraints (area_of w) before after tree kept h) blocks divided

@@ -25,7 +25,6 @@ use pc_num::Memory;
 use pc_proof::Document;
 use pc_rows::{Case, Rows};
 use std::alloc::Global;
-use std::slice::from_ref;
 
 /// The blocks of the queries, by searches of at most so many nodes each, over one tree of cuts that is cut on for
 /// all of them before the first is answered.
@@ -63,14 +62,15 @@ pub fn answer_with(
     })
 }
 
-/// The blocks of a query, as `answer_with` gives them, by what the observed rows come to for each of its blocks.
+/// The blocks of a query, as `answer_with` gives them, by what the observed rows come to for each of its blocks, over a
+/// tree that is divided for them.
 pub fn answer_seen(
     alloc: Global,
     schema: &Schema,
     folds: &[Folded],
     constraints: &[Constraint],
     query: &Query,
-    shared: &mut Shared,
+    shared: &Shared,
     nodes: u32,
 ) -> Result<Document, Memory>
     requires well_formed { IsWellFormed schema.now }
@@ -78,13 +78,10 @@ pub fn answer_seen(
     requires accepted { AreConstraints schema.now constraints.now }
     requires asked { IsQuery schema.now query.now }
     requires budget { (1 ≤ nodes) × (nodes ≤ 100_000) }
-    requires tree { IsTree schema.now shared.old.nodes }
-    ensures tree { IsTree schema.now shared.new.nodes }
-    ensures kept { KeepsInner shared.old.nodes shared.new.nodes }
+    requires tree { IsTree schema.now shared.now.nodes }
+    requires divided { AreDividedFor schema.now constraints.now shared.now.nodes (wanted_by schema.now query.now) }
     ensures answers { IfOk result (λ document. (observed : List Row) → AreFolds (wanted_by schema.now query.now) observed folds.now → AllZip (AnswersWanted nodes schema.now observed constraints.now) (wanted_by schema.now query.now) (told document.blocks)) }
 {
-    let areas = areas_of(alloc, schema, from_ref(query))?;
-    refine_for_all(schema, constraints, areas.as_slice(), shared)?;
     let scope = Scope {
         schema,
         constraints,

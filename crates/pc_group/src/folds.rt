@@ -1,6 +1,5 @@
 ghost use Rattle.std.specs.Prelude.{◌≡◌, IfOk, None, Some};
 ghost use Rattle.std.specs.List.{AllPass};
-ghost use Rattle.pc_model.specs.Accepted.{IsQuery};
 ghost use Rattle.pc_model.specs.Membership.{in_domain};
 ghost use Rattle.pc_model.specs.WellFormed.{IsWellFormed};
 ghost use Rattle.pc_group.specs.Scopes.{AreFolds, AreFoldsFor};
@@ -22,7 +21,6 @@ pub fn folds_of(
 ) -> Result<Seq<Folded>, Memory>
     requires well_formed { IsWellFormed schema.now }
     requires seen { AllPass (in_domain schema.now) rows.now }
-    requires asked { IsQuery schema.now query.now }
     ensures folds { IfOk result (AreFolds (wanted_by schema.now query.now) rows.now) }
     ensures fit { IfOk result (AreFoldsFor (wanted_by schema.now query.now)) }
 {

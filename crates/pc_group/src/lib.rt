@@ -14,4 +14,4 @@ mod wanted;
 pub use answers::{answer_all, answer_seen, answer_with};
 pub use asking::ask;
 pub use folds::folds_of;
-pub use refining::refine_for_all;
+pub use refining::{divide_for, refine_for_all};

@@ -1,8 +1,6 @@
 -- The name of a line that is read is a name.
-use Rattle.std.proofs.Common.{◌≡◌, ℕ, true, List, ◌++◌, Result, Ok, Err, IfOk}
+use Rattle.std.proofs.Common.{◌≡◌, ℕ, true, List, ◌++◌, Ok}
 use Rattle.std.proofs.lemmas.Bool.{and_parts}
-use Rattle.pc_model.specs.declared.fault.ReadStop.{ReadStop}
-use Rattle.pc_model.specs.Refusals.{Answers}
 use Rattle.pc_model.specs.Texts.{is_name}
 use Rattle.pc_lang_tokens.specs.declared.token.Token.{Token}
 use Rattle.pc_lang_tokens.specs.Lexing.{tokens_of}
@@ -26,13 +24,9 @@ first_named : (line : Line) → are_spelled (line_tokens line) ≡ true → IsNa
 unfolding line_tokens
 first_named line spelled = head_named line.head _ _ spelled
 
-named : (text : List ℕ) (list : List Token) (line : Line) → tokens_of text ≡ Ok list → line_of list ≡ Ok line → IsNamed line.head
-named text list line read spells =
+pub line_is_named : (text : List ℕ) (list : List Token) (line : Line) → tokens_of text ≡ Ok list → line_of list ≡ Ok line → IsNamed line.head
+line_is_named text list line read spells =
     let same = lines_spelled list line spells in
     first_named line (rw same (tokens_are_spelled text list read))
-
-pub line_is_named : (text : List ℕ) (list : List Token) (result : Result Line ReadStop) → tokens_of text ≡ Ok list → Answers result (line_of list) → IfOk result (λ (line : Line). IsNamed line.head)
-line_is_named text list (Ok line) read spells = named text list line read spells
-line_is_named text list (Err stop) read spells = tt
 
 pub ruleset line_steps = (line_is_named)

@@ -167,7 +167,7 @@ fn line_from(alloc: Global, text: &[u8]) -> Result<Line, ReadStop>
     ensures named { IfOk result (λ line. IsNamed line.head) }
 {
     let tokens = read_tokens(alloc, text)?;
-    read_line(alloc, tokens.as_slice())
+    Ok(read_line(alloc, tokens.list.as_slice())?)
 }
 
 #[tactic(auto, unfolding(crate::specs::Files::question_from))]
@@ -175,7 +175,7 @@ fn question_from(alloc: Global, text: &[u8]) -> Result<Question, ReadStop>
     ensures { Answers result (question_from text.now) }
 {
     let tokens = read_tokens(alloc, text)?;
-    read_question(alloc, tokens.as_slice())
+    Ok(read_question(alloc, tokens.list.as_slice())?)
 }
 
 /// Reads the query that all of a text spells.

@@ -76,7 +76,7 @@ fn question_from(alloc: Global, text: &[u8]) -> Result<QuantileQuestion, ReadSto
     ensures { Answers result (quantile_question_from text.now) }
 {
     let tokens = read_tokens(alloc, text)?;
-    read_quantile_question(alloc, tokens.as_slice())
+    Ok(read_quantile_question(alloc, tokens.list.as_slice())?)
 }
 
 // The quantile that a question stands for.

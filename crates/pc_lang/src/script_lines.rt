@@ -47,5 +47,5 @@ pub fn rule_from(alloc: Global, text: &[u8]) -> Result<Text, ReadStop>
     ensures answers { Answers result (rule_from text.now) }
 {
     let tokens = read_tokens(alloc, text)?;
-    rule_of(alloc, tokens.as_slice())
+    Ok(rule_of(alloc, tokens.list.as_slice())?)
 }

@@ -1,13 +1,15 @@
 -- The readers are exact against the grammar.
-use Rattle.std.proofs.Common.{◌≡◌, ◌≢◌, List, Ok, Err, sym, ◌∙◌}
+use Rattle.std.proofs.Common.{◌≡◌, ◌≢◌, List, [], ◌∷◌, Ok, Err, sym, ◌∙◌}
 use Rattle.pc_model.specs.declared.fault.Reason.{Reason}
 use Rattle.pc_model.specs.declared.fault.Reason.TheVariants as reasons
+use Rattle.pc_lang_tokens.specs.declared.token.Word.TheVariants as words
 use Rattle.pc_lang_tokens.specs.declared.token.Token.{Token}
+use Rattle.pc_lang_tokens.specs.declared.token.Token.TheVariants as tokens
 use Rattle.pc_lang_grammar.specs.declared.syntax.Line.{Line}
 use Rattle.pc_lang_grammar.specs.declared.syntax.Question.{Question}
 use Rattle.pc_lang_grammar.specs.declared.syntax.QuantileQuestion.{QuantileQuestion}
 use Rattle.pc_lang_grammar.specs.Grammar.{line_tokens, quantile_tokens, question_tokens}
-use Rattle.pc_lang_grammar.specs.Parsing.{Found, line_of, quantile_of, question_of}
+use Rattle.pc_lang_grammar.specs.Parsing.{Found, line_of, quantile_of, question_of, rule_of}
 use Rattle.pc_lang_grammar.proofs.Complete.{line_again, quantile_again, question_again}
 use Rattle.pc_lang_grammar.proofs.Sound.{Spells, line_spelled, quantile_spelled, question_spelled}
 
@@ -52,6 +54,24 @@ quantiles_read question = quantile_again question
 pub quantiles_refused : (list : List Token) (reason : Reason) → quantile_of list ≡ Err reason → (reason ≡ reasons.Unexpected) × ((question : QuantileQuestion) → quantile_tokens question ≢ list)
 quantiles_refused list reason e =
     (err_spells quantile_tokens list (quantile_of list) reason (quantile_spelled list) e, λ question. refused_list quantile_tokens quantile_of list reason question (quantile_again question) e)
+
+-- readers refuse for one reason alone
+pub only_line : (list : List Token) (reason : Reason) → line_of list ≡ Err reason → reason ≡ reasons.Unexpected
+only_line list reason e = err_spells line_tokens list (line_of list) reason (line_spelled list) e
+
+pub only_question : (list : List Token) (reason : Reason) → question_of list ≡ Err reason → reason ≡ reasons.Unexpected
+only_question list reason e = err_spells question_tokens list (question_of list) reason (question_spelled list) e
+
+pub only_quantile : (list : List Token) (reason : Reason) → quantile_of list ≡ Err reason → reason ≡ reasons.Unexpected
+only_quantile list reason e = err_spells quantile_tokens list (quantile_of list) reason (quantile_spelled list) e
+
+pub only_rule : (list : List Token) (reason : Reason) → rule_of list ≡ Err reason → reason ≡ reasons.Unexpected
+unfolding rule_of
+only_rule (tokens.Name name ∷ []) reason e = cc
+only_rule (tokens.Reserved words.Outside ∷ []) reason e = cc
+only_rule other reason e = cc
+
+pub ruleset only_unexpected = (only_line, only_question, only_quantile, only_rule)
 
 pub ruleset line_laws = (lines_spelled, lines_read, lines_refused)
 

@@ -1,2 +1,4 @@
 pub mod Grammar
 pub mod Parsing
+pub mod Wants
+pub mod Halts

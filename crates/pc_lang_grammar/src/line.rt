@@ -1,19 +1,34 @@
 ghost use Rattle.std.specs.Prelude.{◌≡◌, Ok, Err, MatchResult, position};
 ghost use Rattle.pc_model.specs.Refusals.{Answers};
+ghost use Rattle.pc_lang_grammar.specs.declared.want.LineWant.TheVariants as lines;
+ghost use Rattle.pc_lang_grammar.specs.declared.want.Want.TheVariants as wants;
+ghost use Rattle.pc_lang_grammar.specs.Halts.{Reads, halt_of};
 ghost use Rattle.pc_lang_grammar.specs.Parsing.{frequency_of, halves_of, is_arrow, line_from, line_of};
 
+use crate::halt::{Unread, stopped_at};
 use crate::head::head_of;
 use crate::part::part_of;
 use crate::syntax::Line;
+use crate::want::{LineWant, Want};
 use pc_lang_tokens::{Symbol, Token};
 use pc_list::Seq;
 use pc_model::{ReadStop, Reason};
 use std::alloc::Global;
 
-/// Reads the line of a constraint, which takes all of the tokens.
+/// Reads the line of a constraint, which takes all of the tokens, or tells where it stopped.
+#[tactic(auto, using(crate::proofs::Laws::only_unexpected))]
+pub fn read_line(alloc: Global, tokens: &[Token]) -> Result<Line, Unread>
+    ensures reads { Reads result (line_of tokens.now) (halt_of (wants.Line lines.Head) tokens.now) }
+{
+    match line_of(alloc, tokens) {
+        Ok(line) => Ok(line),
+        Err(stop) => Err(stopped_at(stop, Want::Line(LineWant::Head), tokens)),
+    }
+}
+
 #[tactic(auto, unfolding(crate::specs::Parsing::line_of))]
-pub fn read_line(alloc: Global, tokens: &[Token]) -> Result<Line, ReadStop>
-    ensures answers { Answers result (line_of tokens.now) }
+fn line_of(alloc: Global, tokens: &[Token]) -> Result<Line, ReadStop>
+    ensures { Answers result (line_of tokens.now) }
 {
     let place = tokens.len().saturating_sub(4);
     line_from(alloc, &tokens[..place], &tokens[place..])

@@ -2,19 +2,34 @@ ghost use Rattle.std.specs.Prelude.{◌≡◌, ◌∷◌, Ok, IfOk, MatchResult}
 ghost use Rattle.pc_model.specs.Refusals.{Answers, StopsAs};
 ghost use Rattle.pc_lang_tokens.specs.declared.token.Token.TheVariants as kinds;
 ghost use Rattle.pc_lang_tokens.specs.declared.token.Word.TheVariants as words;
+ghost use Rattle.pc_lang_grammar.specs.declared.want.QueryWant.TheVariants as queries;
+ghost use Rattle.pc_lang_grammar.specs.declared.want.Want.TheVariants as wants;
+ghost use Rattle.pc_lang_grammar.specs.Halts.{Reads, halt_of};
 ghost use Rattle.pc_lang_grammar.specs.Parsing.{aggregate, aggregate_at, before_group, group_of, measure_at, question_from, question_of, where_of};
 
+use crate::halt::{Unread, stopped_at};
 use crate::syntax::{Measure, Question, Ways};
+use crate::want::{QueryWant, Want};
 use crate::ways::ways_of;
 use pc_lang_tokens::{Symbol, Token, Word};
 use pc_list::Text;
 use pc_model::{ReadStop, Reason};
 use std::alloc::{AllocError, Global};
 
-/// Reads a query, which takes all of the tokens.
+/// Reads a query, which takes all of the tokens, or tells where it stopped.
+#[tactic(auto, using(crate::proofs::Laws::only_unexpected))]
+pub fn read_question(alloc: Global, tokens: &[Token]) -> Result<Question, Unread>
+    ensures reads { Reads result (question_of tokens.now) (halt_of (wants.Query queries.Measure) tokens.now) }
+{
+    match question_of(alloc, tokens) {
+        Ok(question) => Ok(question),
+        Err(stop) => Err(stopped_at(stop, Want::Query(QueryWant::Measure), tokens)),
+    }
+}
+
 #[tactic(auto, unfolding(crate::specs::Parsing::question_of))]
-pub fn read_question(alloc: Global, tokens: &[Token]) -> Result<Question, ReadStop>
-    ensures answers { Answers result (question_of tokens.now) }
+fn question_of(alloc: Global, tokens: &[Token]) -> Result<Question, ReadStop>
+    ensures { Answers result (question_of tokens.now) }
 {
     match measure_at(tokens) {
         Ok((measure, rest)) => {

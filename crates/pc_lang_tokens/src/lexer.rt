@@ -1,7 +1,7 @@
-ghost use Rattle.std.specs.Prelude.{◌≡◌, ◌<◌, ◌≤◌, ◌==◌, ◌&&◌, not, [], ◌∷◌, ◌+◌, length, drop, get_or, false, true, ℕ, List, IfOk, MatchResult};
-ghost use Rattle.pc_model.specs.Refusals.{Answers, StopsAs};
+ghost use Rattle.std.specs.Prelude.{◌≡◌, ◌≤◌, ◌==◌, ◌&&◌, not, [], ◌∷◌, ◌+◌, length, get_or, false, true, ℕ, List, IfOk};
+ghost use Rattle.pc_model.specs.Refusals.{Answers};
 ghost use Rattle.pc_model.specs.Texts.{IsName};
-ghost use Rattle.pc_lang_tokens.specs.Lexing.{fraction_len, letters_len, number_len, other_token, quoted_from, quoted_token, sign_len, starts_blank, symbol_token, token_at, tokens_from, tokens_of, unsigned_len, word_len, word_token};
+ghost use Rattle.pc_lang_tokens.specs.Lexing.{fraction_len, letters_len, number_len, other_token, quoted_from, quoted_token, sign_len, starts_blank, symbol_token, token_at, unsigned_len, word_len, word_token};
 ghost use Rattle.pc_lang_tokens.specs.Spelling.{is_word};
 
 use crate::token::{Symbol, Token};
@@ -12,43 +12,7 @@ use pc_num::digits_len;
 use std::alloc::{AllocError, Global};
 use std::str;
 
-/// Reads the tokens of a line, or tells that a place of it begins none.
-#[tactic(auto, using(crate::proofs::Reading::steps))]
-pub fn read_tokens(alloc: Global, text: &[u8]) -> Result<Seq<Token>, ReadStop>
-    ensures answers { Answers result (tokens_of text.now) }
-{
-    let mut tokens = Seq::new(alloc);
-    let mut taken = 0;
-    for place in 0..text.len() {
-        taken = take_byte(alloc, &mut tokens, taken, &text[place..])?;
-    }
-    Ok(tokens)
-}
-
-// Takes the first byte of a text of which so many bytes are taken, with the token that begins there.
-// Tells how many bytes of what follows are taken then.
-#[tactic(auto, using(crate::proofs::Reading::byte_steps))]
-fn take_byte(
-    alloc: Global,
-    tokens: &mut Seq<Token>,
-    taken: usize,
-    text: &[u8],
-) -> Result<usize, ReadStop>
-    requires { 0 < length text.now }
-    ensures { MatchResult result (λ more. tokens_from tokens.old taken text.now ≡ tokens_from tokens.new more (drop 1 text.now)) (λ stop. StopsAs stop (tokens_from tokens.old taken text.now)) }
-{
-    if 0 < taken {
-        return Ok(taken - 1);
-    }
-    if starts_blank(text) {
-        return Ok(0);
-    }
-    let (token, len) = token_at(alloc, text)?;
-    tokens.push(token)?;
-    Ok(len.saturating_sub(1))
-}
-
-fn starts_blank(text: &[u8]) -> bool
+pub(crate) fn starts_blank(text: &[u8]) -> bool
     ensures { result ≡ starts_blank text.now }
 {
     match text {

@@ -3,6 +3,7 @@ pub mod Cells
 pub mod Finding
 pub mod Folding
 pub mod Grouping
+pub mod Halting
 pub mod InDomain
 pub mod Places
 pub mod PlainCells
@@ -12,3 +13,4 @@ pub mod PlainText
 pub mod Reading
 pub mod Removing
 pub mod Storing
+pub mod Telling

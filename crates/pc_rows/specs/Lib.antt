@@ -5,3 +5,4 @@ pub mod Plain
 pub mod Record
 pub mod RowFile
 pub mod Stored
+pub mod Told

@@ -28,7 +28,7 @@ pub(crate) fn find_places(
 }
 
 #[tactic(auto, unfolding(crate::specs::RowFile::place_in))]
-fn place_in(name: &[u8], header: &ByteRecord) -> Result<usize, Reason>
+pub(crate) fn place_in(name: &[u8], header: &ByteRecord) -> Result<usize, Reason>
     ensures { result ≡ place_in name.now (fields_of header.now) }
 {
     let Some(place) = place_from(0, name, header) else {

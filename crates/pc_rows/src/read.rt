@@ -17,7 +17,7 @@ use pc_model::{Column, FileKind, ReadStop, Reason, Refusal, Schema, text_of};
 use pc_records::{Table, field};
 use std::alloc::Global;
 
-const MOST_ROWS: u64 = 1_000_000;
+pub(crate) const MOST_ROWS: u64 = 1_000_000;
 
 /// Reads a row file, or tells its first fault: by the records in their order, and of a record by the columns.
 #[tactic(auto, unfolding(crate::specs::RowFile::rows_of))]

@@ -1,3 +1,4 @@
 pub mod SchemaFile
 pub mod Domain
 pub mod Plain
+pub mod Told

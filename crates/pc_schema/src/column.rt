@@ -10,7 +10,7 @@ use pc_model::{Column, FileKind, ReadStop, Reason, Refusal};
 use pc_records::field;
 use std::alloc::Global;
 
-const MOST_COLUMNS: usize = 12;
+pub(crate) const MOST_COLUMNS: usize = 12;
 
 /// The column of a record, after those of the records before it.
 #[tactic(auto, unfolding(crate::specs::SchemaFile::column_at))]
@@ -47,7 +47,7 @@ fn read_column(alloc: Global, before: &[Column], row: &ByteRecord) -> Result<Col
     Ok(Column { name, kind })
 }
 
-fn is_taken(columns: &[Column], name: &[u8]) -> bool
+pub(crate) fn is_taken(columns: &[Column], name: &[u8]) -> bool
     ensures { result ≡ is_taken columns.now name.now }
 {
     columns.iter().any(|column| name == column.name.as_bytes())

@@ -18,9 +18,9 @@ use std::str;
 const GREATEST_SCALE: u64 = 6;
 
 // A record of names begins with the column's name and the word, and at most 128 names follow.
-const FEWEST_FIELDS: usize = 3;
+pub(crate) const FEWEST_FIELDS: usize = 3;
 
-const MOST_FIELDS: usize = 130;
+pub(crate) const MOST_FIELDS: usize = 130;
 
 /// The kind of the column that a record tells of.
 #[tactic(auto, unfolding(crate::specs::SchemaFile::kind_of))]
@@ -67,7 +67,7 @@ fn read_dec(row: &ByteRecord) -> Result<Kind, Reason>
 }
 
 #[tactic(auto, unfolding(crate::specs::SchemaFile::span_of))]
-fn read_span(scale: u8, low: &[u8], high: &[u8]) -> Result<(i64, i64), Reason>
+pub(crate) fn read_span(scale: u8, low: &[u8], high: &[u8]) -> Result<(i64, i64), Reason>
     ensures value { result ≡ span_of scale low.now high.now }
     ensures is_span { IfOk result (λ span. IsSpan span.0 span.1) }
 {
@@ -80,7 +80,7 @@ fn read_span(scale: u8, low: &[u8], high: &[u8]) -> Result<(i64, i64), Reason>
 }
 
 #[tactic(auto, unfolding(crate::specs::SchemaFile::scale_of))]
-fn read_scale(text: &[u8]) -> Result<u8, Reason>
+pub(crate) fn read_scale(text: &[u8]) -> Result<u8, Reason>
     ensures value { result ≡ scale_of text.now }
     ensures small { IfOk result (λ scale. scale ≤ 6) }
 {
@@ -132,7 +132,7 @@ fn read_names(alloc: Global, row: &ByteRecord) -> Result<Seq<Text>, ReadStop>
     Ok(names)
 }
 
-fn is_among(names: &[Text], text: &[u8]) -> bool
+pub(crate) fn is_among(names: &[Text], text: &[u8]) -> bool
     ensures { result ≡ list_any (bytes_eq text.now) names.now }
 {
     names.iter().any(|name| text == name.as_bytes())

@@ -1,5 +1,4 @@
-//! The program `pc_view`: it reads a document or the line of a refusal from the standard input, and tells what
-//! that rests on or speaks of.
+//! The program `pc_view`: it reads a document from the standard input, and tells what that rests on.
 #![tactic(auto)]
 
 use pc_cli_host::{HostShelf, HostSink, SystemFiles, words};

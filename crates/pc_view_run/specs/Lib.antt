@@ -1,8 +1,6 @@
 pub mod Codes
-pub mod Inputs
 pub mod Lines
 pub mod Reasons
-pub mod Refusals
 pub mod Replied
 pub mod Replies
 pub mod Views

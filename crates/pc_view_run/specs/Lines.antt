@@ -1,26 +1,20 @@
 -- The lines that tell why nothing is shown.
-use Rattle.std.specs.Prelude.{◌≡◌, ℕ, List, [], ◌∷◌, codes, decimal}
+use Rattle.std.specs.Prelude.{◌≡◌, ℕ, List, [], ◌∷◌, ◌++◌, codes, decimal}
 use Rattle.std.specs.List.{concat}
 use Rattle.pc_files.specs.declared.stop.Stop.{Stop}
 use Rattle.pc_files.specs.declared.stop.Stop.TheVariants as stops
 use Rattle.pc_files.specs.Texts.{fault_line, line_break, malformed_line}
 use Rattle.pc_view_run.specs.declared.ended.Ended.TheVariants as ends
 use Rattle.pc_view_run.specs.Replied.{Reply}
-use Rattle.pc_view_run.specs.declared.input.Input.{Input}
-use Rattle.pc_view_run.specs.Inputs.{input_text}
 
 abbrev pub usage_text : List ℕ
-usage_text =
-    concat (codes "usage: pc_view why SCHEMA CONSTRAINTS" ∷ line_break ∷ codes "       pc_view fault FILE" ∷ line_break ∷ [])
+usage_text = codes "usage: pc_view why SCHEMA CONSTRAINTS" ++ line_break
 
 abbrev pub usage : Reply
 usage = record { status = ends.Refused; text = usage_text }
 
-abbrev pub malformed : Input → ℕ → Reply
-malformed input line = record { status = ends.Refused; text = concat (codes "malformed " ∷ input_text input ∷ codes " at " ∷ decimal line ∷ line_break ∷ []) }
-
-abbrev pub unread : Input → Reply
-unread input = record { status = ends.ReadFault; text = concat (codes "read fault: " ∷ input_text input ∷ line_break ∷ []) }
+abbrev pub malformed : ℕ → Reply
+malformed line = record { status = ends.Refused; text = concat (codes "malformed document at " ∷ decimal line ∷ line_break ∷ []) }
 
 abbrev pub unfit : Reply
 unfit = record { status = ends.Refused; text = concat (codes "the document does not fit these constraints" ∷ line_break ∷ []) }

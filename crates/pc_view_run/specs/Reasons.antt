@@ -1,5 +1,5 @@
 -- What is replied where the reasons of a document are asked for, which the input holds.
-use Rattle.std.specs.Prelude.{◌≡◌, ◌⊎◌, ℕ, List, [], ◌∷◌, ◌++◌, Result, Ok, Err}
+use Rattle.std.specs.Prelude.{◌≡◌, ◌⊎◌, ℕ, List, [], ◌∷◌, ◌++◌, codes, Result, Ok, Err}
 use Rattle.pc_model.specs.declared.schema.Schema.{Schema}
 use Rattle.pc_model.specs.declared.constraint.Constraint.{Constraint}
 use Rattle.pc_model.specs.declared.fault.FileKind.TheVariants as kinds
@@ -12,9 +12,10 @@ use Rattle.pc_why.specs.Why.{IsTableOf, Refuses}
 use Rattle.pc_view_run.specs.declared.ended.Ended.TheVariants as ends
 use Rattle.pc_view_run.specs.declared.reasons.Explained.{Explained}
 use Rattle.pc_view_run.specs.Replied.{Reply}
-use Rattle.pc_view_run.specs.declared.input.Input.TheVariants as inputs
 use Rattle.pc_view_run.specs.Lines.{IsStopReply, malformed, unfit}
-use Rattle.pc_view_run.specs.Inputs.{input_name}
+
+abbrev pub input_name : List ℕ
+input_name = codes "/dev/stdin"
 
 -- the names of the two files
 pub record Names : Type 0 where
@@ -22,7 +23,7 @@ pub record Names : Type 0 where
   pub constraints : List ℕ
 
 abbrev pub IsRefusalReply : NoReasons → Reply → Type 0
-IsRefusalReply (refusals.Document line) reply = reply ≡ malformed inputs.Document line
+IsRefusalReply (refusals.Document line) reply = reply ≡ malformed line
 IsRefusalReply refusals.Unfit reply = reply ≡ unfit
 IsRefusalReply refusals.Memory reply = ⊥
 

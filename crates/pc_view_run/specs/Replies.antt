@@ -4,11 +4,9 @@ use Rattle.pc_files.specs.Loading.{Reading}
 use Rattle.pc_view_run.specs.Replied.{Reply}
 use Rattle.pc_view_run.specs.Lines.{usage}
 use Rattle.pc_view_run.specs.Reasons.{Explains}
-use Rattle.pc_view_run.specs.Refusals.{Points}
-use Rattle.pc_view_run.specs.Words.{Asked, reasons, refusal, nothing}
+use Rattle.pc_view_run.specs.Words.{Asked, reasons, nothing}
 
 -- of words that are no command nothing is loaded
 abbrev pub Responds : Asked → Reading → Reply → Type 0
 Responds (reasons schema constraints) reading reply = Explains (record { schema = schema; constraints = constraints }) reading reply
-Responds (refusal file) reading reply = Points file reading.before reading.after reply
 Responds nothing reading reply = reading.did [] × (reply ≡ usage)

@@ -2,14 +2,10 @@
 #![tactic(auto)]
 
 mod ended;
-mod input;
-mod laws;
 mod line;
 mod reasons;
-mod refusal;
 mod reply;
 mod run;
 
 pub use ended::Ended;
-pub use laws::refusals_are_read_back;
 pub use run::view;

@@ -1,15 +1,14 @@
 ghost use Rattle.std.specs.Prelude.{◌≡◌, IfOk};
-ghost use Rattle.pc_view_run.specs.Lines.{IsStopReply, malformed, unfit, unread, usage};
+ghost use Rattle.pc_view_run.specs.Lines.{IsStopReply, malformed, unfit, usage};
 
 use crate::ended::Ended;
-use crate::input::Input;
 use crate::reply::Reply;
 use pc_files::{Stop, fault_line, malformed_line};
 use pc_list::Seq;
 use pc_num::Memory;
 use std::alloc::Global;
 
-const USAGE: &str = "usage: pc_view why SCHEMA CONSTRAINTS\n       pc_view fault FILE\n";
+const USAGE: &str = "usage: pc_view why SCHEMA CONSTRAINTS\n";
 
 pub(crate) fn usage(alloc: Global) -> Result<Reply, Memory>
     ensures { IfOk result (λ reply. reply ≡ usage) }
@@ -20,25 +19,13 @@ pub(crate) fn usage(alloc: Global) -> Result<Reply, Memory>
     })
 }
 
-/// The line of the input that may not stand there.
-pub(crate) fn malformed(alloc: Global, input: Input, line: u64) -> Result<Reply, Memory>
-    ensures { IfOk result (λ reply. reply ≡ malformed input line) }
+/// The line of the document that may not stand there.
+pub(crate) fn malformed(alloc: Global, line: u64) -> Result<Reply, Memory>
+    ensures { IfOk result (λ reply. reply ≡ malformed line) }
 {
-    let name = input.name();
-    let text = format!(in alloc; "malformed {name} at {line}\n")?;
+    let text = format!(in alloc; "malformed document at {line}\n")?;
     Ok(Reply {
         status: Ended::Refused,
-        text: Seq::from_vec(text.into_bytes()),
-    })
-}
-
-pub(crate) fn unread(alloc: Global, input: Input) -> Result<Reply, Memory>
-    ensures { IfOk result (λ reply. reply ≡ unread input) }
-{
-    let name = input.name();
-    let text = format!(in alloc; "read fault: {name}\n")?;
-    Ok(Reply {
-        status: Ended::ReadFault,
         text: Seq::from_vec(text.into_bytes()),
     })
 }

@@ -4,7 +4,6 @@ ghost use Rattle.pc_files.specs.Reads.{IsShowable};
 ghost use Rattle.pc_view_run.specs.Reasons.{Explains, IsReplyOver, ReadsExplained};
 
 use crate::ended::Ended;
-use crate::input::{INPUT, Input};
 use crate::line::{malformed, stopped, unfit};
 use crate::reply::Reply;
 use pc_base::Shelf;
@@ -14,6 +13,9 @@ use pc_model::FileKind;
 use pc_num::Memory;
 use pc_why::{NoReasons, why};
 use std::alloc::Global;
+
+/// The name of the standard input.
+const INPUT: &str = "/dev/stdin";
 
 /// What is explained: the bytes of a document, and what it is to be for.
 #[derive(Debug, Drop)]
@@ -67,7 +69,7 @@ fn reply_over(alloc: Global, listing: &Listing, bytes: &[u8]) -> Result<Reply, M
             status: Ended::Written,
             text: Seq::from_vec(text),
         }),
-        Err(NoReasons::Document { line }) => malformed(alloc, Input::Document, line),
+        Err(NoReasons::Document { line }) => malformed(alloc, line),
         Err(NoReasons::Unfit) => unfit(alloc),
         Err(NoReasons::Memory) => Err(Memory),
     }

@@ -1,12 +1,11 @@
 ghost use Rattle.std.specs.Prelude.{◌≤◌, ◌+◌, IfOk, map, string_bytes};
 ghost use Rattle.pc_files.specs.Loading.{reading_of};
 ghost use Rattle.pc_view_run.specs.Replies.{Responds};
-ghost use Rattle.pc_view_run.specs.Words.{asked, asked_of_two};
+ghost use Rattle.pc_view_run.specs.Words.{asked};
 
 use crate::ended::Ended;
 use crate::line::usage;
 use crate::reasons::explain;
-use crate::refusal::point;
 use pc_base::Shelf;
 use pc_num::Memory;
 use std::alloc::Global;
@@ -23,7 +22,6 @@ pub(crate) fn respond<F: Shelf>(
     ensures loads { (F.told files.new).calls ≤ (F.told files.old).calls + 3 }
 {
     match words {
-        [word, file] => respond_to_two(alloc, word.as_str(), files, file.as_str()),
         [word, schema, constraints] => {
             if word.as_str() != "why" {
                 return usage(alloc);
@@ -32,19 +30,4 @@ pub(crate) fn respond<F: Shelf>(
         }
         _ => usage(alloc),
     }
-}
-
-fn respond_to_two<F: Shelf>(
-    alloc: Global,
-    word: &str,
-    files: &mut F,
-    file: &str,
-) -> Result<Reply, Memory>
-    ensures responds { IfOk result (Responds (asked_of_two word.now file.now) (reading_of F.told F.leads files.old files.new)) }
-    ensures loads { (F.told files.new).calls ≤ (F.told files.old).calls + 2 }
-{
-    if word != "fault" {
-        return usage(alloc);
-    }
-    point(alloc, files, file)
 }

@@ -10,8 +10,8 @@ use pc_base::{Shelf, Sink};
 use pc_files::{Ending, put_reply};
 use std::alloc::Global;
 
-/// Does what the words ask: reads a document or the line of a refusal from the standard input, and writes what that rests on or
-/// speaks of, or the line that says why not, by one put.
+/// Does what the words ask: reads a document from the standard input, and writes what that rests on, or the line that says why
+/// not, by one put.
 pub fn view<F: Shelf, K: Sink>(alloc: Global, words: &[String], files: &mut F, out: &mut K) -> Ended
     ensures views { Views (asked (map string_bytes words.now)) (reading_of F.told F.leads files.old files.new) (writing_of K.told out.old out.new) result }
     ensures loads { (F.told files.new).calls ≤ (F.told files.old).calls + 3 }

@@ -1,5 +1,4 @@
-use pc_lang_tokens::{Token, read_tokens};
-use pc_model::{ReadStop, Reason};
+use pc_lang_tokens::{NoTokens, Token, read_tokens};
 use std::alloc::{AllocError, Global};
 use std::test::Fail;
 
@@ -35,9 +34,9 @@ fn put_tokens(alloc: Global, out: &mut Vec<u8>, tokens: &[Token]) -> Result<(), 
 
 fn put_reading(alloc: Global, out: &mut Vec<u8>, text: &str) -> Result<(), AllocError> {
     match read_tokens(alloc, text.as_bytes()) {
-        Ok(tokens) => put_tokens(alloc, out, tokens.as_slice()),
-        Err(ReadStop::Reason(Reason::BadToken)) => out.extend_from_slice(b"fault"),
-        Err(_) => out.extend_from_slice(b"stop"),
+        Ok(tokens) => put_tokens(alloc, out, tokens.list.as_slice()),
+        Err(NoTokens::At(_)) => out.extend_from_slice(b"fault"),
+        Err(NoTokens::Memory) => out.extend_from_slice(b"stop"),
     }
 }
 

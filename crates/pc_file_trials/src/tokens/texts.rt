@@ -1,4 +1,5 @@
 use pc_lang_tokens::{put_tokens, read_tokens};
+use pc_model::ReadStop;
 use std::alloc::Global;
 use std::test::Fail;
 
@@ -28,9 +29,9 @@ static TEXTS: [(&str, &str); 12] = [
 
 // Whether the tokens of a line are written so, after what stands before them.
 fn is_written(alloc: Global, line: &str, want: &str) -> Result<bool, Fail> {
-    let tokens = read_tokens(alloc, line.as_bytes())?;
+    let tokens = read_tokens(alloc, line.as_bytes()).map_err(ReadStop::from)?;
     let mut out = Vec::from_slice(alloc, b"# ")?;
-    put_tokens(alloc, &mut out, tokens.as_slice())?;
+    put_tokens(alloc, &mut out, tokens.list.as_slice())?;
     Ok(out.as_slice().strip_prefix(b"# ") == Some(want.as_bytes()))
 }
 

@@ -19,8 +19,6 @@ static FILES: [(&str, &str); 4] = [
     ("empty", ""),
 ];
 
-const REFUSAL: &str = "malformed constraints at 1: reason 16 Unexpected\n";
-
 /// What fails in a run.
 #[derive(Clone, Copy)]
 enum Failure {
@@ -35,13 +33,7 @@ enum Failure {
 type Ending = (&'static str, u8);
 
 /// The words of a run of pc_view, its input, what fails in it, and how it is to end.
-static VIEWS: [(&[&str], Option<&str>, Failure, Ending); 8] = [
-    (
-        &["fault", "constraints"],
-        None,
-        Failure::Nothing,
-        ("read fault: refusal\n", 4),
-    ),
+static VIEWS: [(&[&str], Option<&str>, Failure, Ending); 5] = [
     (
         &["why", "schema", "constraints"],
         None,
@@ -49,16 +41,10 @@ static VIEWS: [(&[&str], Option<&str>, Failure, Ending); 8] = [
         ("read fault: document\n", 4),
     ),
     (
-        &["fault", "constraints"],
-        Some(REFUSAL),
+        &["why", "schema", "constraints"],
+        Some("x\n"),
         Failure::Load(0),
-        ("read fault: refusal\n", 4),
-    ),
-    (
-        &["fault", "constraints"],
-        Some(REFUSAL),
-        Failure::Load(1),
-        ("read fault: constraints\n", 4),
+        ("read fault: schema\n", 4),
     ),
     (
         &["why", "schema", "constraints"],
@@ -67,18 +53,12 @@ static VIEWS: [(&[&str], Option<&str>, Failure, Ending); 8] = [
         ("read fault: document\n", 4),
     ),
     (
-        &["fault", "constraints"],
-        Some(REFUSAL),
-        Failure::Put(7),
-        ("line 1:", 5),
-    ),
-    (
-        &["fault", "constraints"],
+        &["why", "schema", "constraints"],
         Some("x\n"),
         Failure::Put(9),
         ("malformed", 3),
     ),
-    (&[], Some(REFUSAL), Failure::Put(0), ("", 3)),
+    (&[], Some("x\n"), Failure::Put(0), ("", 3)),
 ];
 
 /// The words of a run of pc_draft, what fails in it, and how it is to end.

@@ -7,8 +7,8 @@ block_entries-requires-clause-answers c =
     let asked = c.in_ok-document.ensures in
     let was = c.args.session.now in
     let is = c.ask.new.session in
-    answers_held c.args.nodes c.args.query.now was.schema is.schema was.rows is.rows was.constraints c.as_slice.result.now c.from_ref.result.now c.in_ok-document.document.blocks c.as_slice-3.result.now asked.schema asked.rows
-    (c.as_slice.ensures ∙ asked.constraints) c.from_ref.ensures.value c.as_slice-3.ensures asked.answers
+    answers_held c.args.nodes c.args.query.now was.schema is.schema was.rows is.rows was.constraints c.as_slice.result.now c.from_ref.result.now c.in_ok-document.document.blocks c.as_slice-2.result.now asked.schema asked.rows
+    (c.as_slice.ensures ∙ asked.constraints) c.from_ref.ensures.value c.as_slice-2.ensures asked.answers
 
 pub returns-clause-shown : goal.returns-clause-shown
 returns-clause-shown c =

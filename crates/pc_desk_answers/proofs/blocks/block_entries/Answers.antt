@@ -1,8 +1,8 @@
-use Rattle.std.proofs.Common.{◌≡◌, [], List, map, sym, subst, ◌∙◌, ap}
+use Rattle.std.proofs.Common.{[], List, map, sym, subst}
 use Rattle.std.proofs.lemmas.Result.{IfOk-weaker}
 use Rattle.pc_group.specs.Wanted.{wanted_by}
 use Rattle.pc_desk_table.specs.declared.entry.Entry.{Entry}
-use Rattle.pc_desk_answers.specs.Blocks.{AreShown, block, entries_between, ground_in}
+use Rattle.pc_desk_answers.specs.Blocks.{AreShown, block, ground_in}
 use Rattle.pc_desk_answers.proofs.Shown.{are_printed, entries_show}
 use Rattle.pc_desk_answers.proofs.blocks.block_entries.Goals as goal
 
@@ -14,13 +14,12 @@ entries_between-requires-clause-printed c =
 pub entries_between-requires-clause-left_printed : goal.entries_between-requires-clause-left_printed
 entries_between-requires-clause-left_printed c =
     let ground = ground_in c.args.scope.now in
-    rw c.as_slice.ensures (are_printed ground.nodes ground.schema ground.rows [] c.args.query.now c.in_ok-left.left.blocks c.in_ok-left.ensures.nothing_lost)
+    are_printed ground.nodes ground.schema ground.rows [] c.args.query.now c.args.lefts.now c.requires.nothing_lost
 
 pub returns : goal.returns
 returns c =
     let ground = ground_in c.args.scope.now in
-    let between = entries_between ground c.args.query.now c.args.blocks.now in
     IfOk-weaker c.entries_between.result _ _
-    (λ entries is. subst (λ (es : List Entry). AreShown ground (map block (wanted_by ground.schema c.args.query.now)) es) (sym (is ∙ ap between c.as_slice.ensures))
-    (entries_show ground c.args.query.now c.args.blocks.now c.in_ok-left.left.blocks c.requires.answers c.in_ok-left.ensures.nothing_lost))
+    (λ entries is. subst (λ (es : List Entry). AreShown ground (map block (wanted_by ground.schema c.args.query.now)) es) (sym is)
+    (entries_show ground c.args.query.now c.args.blocks.now c.args.lefts.now c.requires.answers c.requires.nothing_lost))
     c.entries_between.ensures

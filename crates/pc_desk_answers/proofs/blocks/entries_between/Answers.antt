@@ -1,5 +1,5 @@
-use Rattle.std.proofs.Common.{◌≡◌, ◌++◌, ◌∷◌, [], rules, sym, ◌∙◌}
-use Rattle.pc_desk_answers.specs.Blocks.{block_entry, ground_in}
+use Rattle.std.proofs.Common.{◌≡◌, ◌++◌, ◌∷◌, [], rules, ◌∙◌}
+use Rattle.pc_desk_answers.specs.Blocks.{ground_in}
 use Rattle.pc_desk_answers.proofs.Between.{entries_step}
 use Rattle.pc_desk_answers.proofs.blocks.entries_between.Goals as goal
 

@@ -1,6 +1,5 @@
 use Rattle.std.proofs.Common.{◌≡◌, ◌∷◌, [], ◌++◌, pos, get_or, arith, rules, w64, to_z, of_z, ◌∙◌}
 use Rattle.std.proofs.lemmas.Int.{ints}
-use Rattle.pc_desk_answers.specs.Values.{field_of}
 use Rattle.pc_desk_answers.proofs.Repeats.{fields_step}
 use Rattle.pc_desk_answers.proofs.repeated.fields_of.Goals as goal
 

@@ -6,28 +6,39 @@ use Rattle.pc_files.specs.Loading.{reading_of}
 use Rattle.pc_files.specs.Outcome.{held_in, numbered_script}
 use Rattle.pc_files.proofs.FaultFiles.{numbered_of_file}
 use Rattle.pc_files.proofs.Files.{not_read, read_now}
+use Rattle.pc_files.proofs.Keeping.{keeps_read}
 use Rattle.pc_files.proofs.loading.load_script.Goals as goal
 
-pub returns-in_err-bytes-clause-loaded : goal.returns-in_err-bytes-clause-loaded
-returns-in_err-bytes-clause-loaded g c =
+pub returns-in_err-load_last-clause-loaded : goal.returns-in_err-load_last-clause-loaded
+returns-in_err-load_last-clause-loaded g c =
     let p = err_from_is_err_and c.from_residual.result c.from_residual.ensures.1 in
-    let reading = reading_of g.F.Shelf.told g.F.Shelf.leads c.args.files.now c.load_bytes.new.files in
+    let reading = reading_of g.F.Shelf.told g.F.Shelf.leads c.args.files.now c.load_last.new.files in
     let over = held_in (found_of c.args.observed.now) in
-    rw (p.1, p.2) (not_read (numbered_script c.args.observed.now.schema over) kinds.Script c.args.name.now reading c.in_err-bytes.field-0.0 c.in_err-bytes.ensures)
+    rw (p.1, p.2) (not_read (numbered_script c.args.observed.now.schema over) kinds.Script c.args.name.now reading c.in_err-load_last.field-0.0 c.in_err-load_last.ensures.loaded)
 
 pub returns-in_err-read_numbered-clause-loaded : goal.returns-in_err-read_numbered-clause-loaded
 returns-in_err-read_numbered-clause-loaded g c =
     let p = err_from_is_err_and c.from_residual-in_err-read_numbered.result c.from_residual-in_err-read_numbered.ensures.1 in
-    let reading = reading_of g.F.Shelf.told g.F.Shelf.leads c.args.files.now c.load_bytes.new.files in
+    let reading = reading_of g.F.Shelf.told g.F.Shelf.leads c.args.files.now c.load_last.new.files in
     let schema = c.args.observed.now.schema in
     let over = held_in (found_of c.args.observed.now) in
     let gives = rw c.as_slice.ensures at c.in_err-read_numbered.ensures.gives in
-    rw (p.1, p.2) (read_now (numbered_script schema over) kinds.Script c.args.name.now reading c.in_ok-bytes.bytes (Err c.in_err-read_numbered.field-0.0) (numbered_of_file schema over c.in_ok-bytes.bytes) c.in_ok-bytes.ensures gives)
+    rw (p.1, p.2) (read_now (numbered_script schema over) kinds.Script c.args.name.now reading c.load_last.new.last (Err c.in_err-read_numbered.field-0.0) (numbered_of_file schema over c.load_last.new.last) c.in_ok-load_last.ensures.loaded gives)
 
 pub returns-clause-loaded : goal.returns-clause-loaded
 returns-clause-loaded g c =
-    let reading = reading_of g.F.Shelf.told g.F.Shelf.leads c.args.files.now c.load_bytes.new.files in
+    let reading = reading_of g.F.Shelf.told g.F.Shelf.leads c.args.files.now c.load_last.new.files in
     let schema = c.args.observed.now.schema in
     let over = held_in (found_of c.args.observed.now) in
     let gives = rw c.as_slice.ensures at c.in_ok-read_numbered.ensures.gives in
-    read_now (numbered_script schema over) kinds.Script c.args.name.now reading c.in_ok-bytes.bytes (Ok c.in_ok-read_numbered.field-0) (numbered_of_file schema over c.in_ok-bytes.bytes) c.in_ok-bytes.ensures gives
+    read_now (numbered_script schema over) kinds.Script c.args.name.now reading c.load_last.new.last (Ok c.in_ok-read_numbered.field-0) (numbered_of_file schema over c.load_last.new.last) c.in_ok-load_last.ensures.loaded gives
+
+pub returns-in_err-load_last-clause-kept : goal.returns-in_err-load_last-clause-kept
+returns-in_err-load_last-clause-kept g c =
+    let p = err_from_is_err_and c.from_residual.result c.from_residual.ensures.1 in
+    rw (p.1, p.2) c.in_err-load_last.ensures.kept
+
+pub returns-in_err-read_numbered-clause-kept : goal.returns-in_err-read_numbered-clause-kept
+returns-in_err-read_numbered-clause-kept g c =
+    let p = err_from_is_err_and c.from_residual-in_err-read_numbered.result c.from_residual-in_err-read_numbered.ensures.1 in
+    rw (p.1, p.2) (keeps_read kinds.Script c.args.name.now (g.F.Shelf.told c.args.files.now).files c.load_last.new.last c.in_err-read_numbered.field-0.0 c.in_ok-load_last.ensures.kept)

@@ -6,7 +6,7 @@ use Rattle.pc_files.specs.Outcome.{listed_files, whole}
 use Rattle.pc_files.specs.Reads.{found_listed}
 use Rattle.pc_files.proofs.ReadFiles.{at_next, still_stops, stops_here, whole_read, with_bytes}
 use Rattle.pc_view_run.specs.Reasons.{Names, explained_files, explained_in}
-use Rattle.pc_view_run.specs.Inputs.{input_name}
+use Rattle.pc_view_run.specs.Reasons.{input_name}
 use Rattle.pc_view_run.proofs.reasons.read_explained.Goals as goal
 
 pub returns-in_err-listing-clause-read : goal.returns-in_err-listing-clause-read

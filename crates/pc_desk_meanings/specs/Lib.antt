@@ -1,0 +1,5 @@
+pub mod Atoms
+pub mod Columns
+pub mod Meanings
+pub mod Pieces
+pub mod Words

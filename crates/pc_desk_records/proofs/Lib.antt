@@ -1,0 +1,3 @@
+pub mod Begun
+pub mod CsvBegins
+pub mod Showing

@@ -1,0 +1,4 @@
+pub mod Beginnings
+pub mod RowTexts
+pub mod SchemaTexts
+pub mod Shown

@@ -1,0 +1,5 @@
+pub mod Chars
+pub mod TextsLeft
+pub mod Laws
+pub mod Signs
+pub mod Telling

@@ -1,0 +1,5 @@
+pub mod Joined
+pub mod Kinds
+pub mod Shown
+pub mod Told
+pub mod Wanted

@@ -1,9 +1,0 @@
-pub mod Begun
-pub mod CsvBegins
-pub mod FieldLines
-pub mod GrammarWants
-pub mod LinesThrough
-pub mod NthLines
-pub mod NthRecords
-pub mod Utf8
-pub mod Walking
