@@ -137,8 +137,8 @@ impl Rows {
         self.width
     }
 
-    // Whether some box of the area holds the row at a place.
-    pub(crate) fn has_row(&self, area: &Area, place: usize) -> bool
+    /// Whether some box of the area holds the row at a place, from 0.
+    pub fn has_row(&self, area: &Area, place: usize) -> bool
         requires { place < length self.now }
         ensures { result ≡ is_in area.now (row_at self.now place) }
     {
@@ -148,8 +148,9 @@ impl Rows {
             .any(|region| self.is_in_box(region, place))
     }
 
+    /// Whether a box holds the row at a place.
     #[tactic(auto, using(pc_model::proofs::Pairs::steps), unfolding(pc_model::specs::Membership::has))]
-    fn is_in_box(&self, region: &Region, place: usize) -> bool
+    pub fn is_in_box(&self, region: &Region, place: usize) -> bool
         requires { place < length self.now }
         ensures { result ≡ has region.now (row_at self.now place) }
     {
