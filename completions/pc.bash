@@ -14,16 +14,24 @@ _pc() {
   fi
 }
 _pc_desk() {
-  local word=${COMP_WORDS[COMP_CWORD]} previous=${COMP_WORDS[COMP_CWORD - 1]}
+  local word=${COMP_WORDS[COMP_CWORD]} verb=${COMP_WORDS[1]} previous=${COMP_WORDS[COMP_CWORD - 1]}
   COMPREPLY=()
   if [ "$COMP_CWORD" -eq 1 ]; then
-    mapfile -t COMPREPLY < <(compgen -W "ask session help --help --version" -- "$word")
-  elif [ "${COMP_WORDS[1]}" = help ]; then
-    mapfile -t COMPREPLY < <(compgen -W "ask session" -- "$word")
+    mapfile -t COMPREPLY < <(compgen -W "ask session try opens help --help --version" -- "$word")
+  elif [ "$verb" = help ]; then
+    mapfile -t COMPREPLY < <(compgen -W "ask session try opens" -- "$word")
+  elif [[ $previous == --as && $verb =~ ^(try|opens)$ ]]; then
+    mapfile -t COMPREPLY < <(compgen -W "text table json" -- "$word")
   elif [ "$previous" = --as ]; then
     mapfile -t COMPREPLY < <(compgen -W "text table json chart svg" -- "$word")
   elif [ "$previous" = --nodes ]; then
     mapfile -t COMPREPLY < <(compgen -W "1 1000 10000 100000" -- "$word")
+  elif [ "$previous" = --scale ]; then
+    mapfile -t COMPREPLY < <(compgen -W "0.01 0.05 0.1 1" -- "$word")
+  elif [[ $word == -* && $verb == try ]]; then
+    mapfile -t COMPREPLY < <(compgen -W "--as --scale --help" -- "$word")
+  elif [[ $word == -* && $verb == opens ]]; then
+    mapfile -t COMPREPLY < <(compgen -W "--as --help" -- "$word")
   elif [[ $word == -* ]]; then
     mapfile -t COMPREPLY < <(compgen -W "--as --nodes --help" -- "$word")
   else

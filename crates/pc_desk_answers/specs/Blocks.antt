@@ -32,7 +32,7 @@ use Rattle.pc_desk_answers.specs.declared.question.Question.{Question}
 use Rattle.pc_desk_answers.specs.declared.question.Question.TheVariants.{Plain, Share}
 use Rattle.pc_desk_answers.specs.declared.entry.Title.{Title}
 use Rattle.pc_desk_answers.specs.Entries.{entry_of, group_of}
-use Rattle.pc_desk_answers.specs.Texts.{shown}
+use Rattle.pc_desk_table.specs.Texts.{shown}
 
 -- what answers are over: what was observed, how many nodes each search may have, and the line of the question, where a script
 -- asked it

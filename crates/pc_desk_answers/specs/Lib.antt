@@ -4,5 +4,4 @@ pub mod Entries
 pub mod Left
 pub mod Questions
 pub mod Rounded
-pub mod Texts
 pub mod Values

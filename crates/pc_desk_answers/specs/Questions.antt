@@ -10,7 +10,7 @@ use Rattle.pc_lang.specs.declared.quantile.Quantile.{Quantile}
 use Rattle.pc_lang.specs.Files.{query_at}
 use Rattle.pc_lang.specs.Quantiles.{IsQuantile, quantile_at}
 use Rattle.pc_desk_answers.specs.declared.question.Question.{Question}
-use Rattle.pc_desk_answers.specs.Texts.{shown}
+use Rattle.pc_desk_table.specs.Texts.{shown}
 use Rattle.pc_desk_answers.specs.declared.question.Question.TheVariants.{Plain, Share}
 
 -- what stands after a front, where a text has it

@@ -23,7 +23,7 @@ use Rattle.pc_desk_table.specs.declared.entry.Repeated.{Repeated}
 use Rattle.pc_desk_table.specs.declared.entry.Value.{Value}
 use Rattle.pc_desk_answers.specs.declared.rounding.Rounding.{Rounding}
 use Rattle.pc_desk_answers.specs.declared.rounding.Rounding.TheVariants as roundings
-use Rattle.pc_desk_answers.specs.Texts.{shown}
+use Rattle.pc_desk_table.specs.Texts.{shown}
 use Rattle.pc_desk_answers.specs.Rounded.{limit, millionths_of}
 
 -- ---- values

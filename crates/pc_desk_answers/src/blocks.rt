@@ -10,13 +10,12 @@ ghost use Rattle.pc_group.specs.Wanted.{wanted_by};
 ghost use Rattle.pc_quantile.specs.Licensed.{Owes};
 ghost use Rattle.pc_quantile.specs.Measured.{least_of};
 ghost use Rattle.pc_desk_answers.specs.Blocks.{AreShown, IsGround, IsPrinted, ShowsQuantile, block, block_entry, entries_between, ground_in, quantile_shown};
-ghost use Rattle.pc_desk_answers.specs.Texts.{shown};
+ghost use Rattle.pc_desk_table.specs.Texts.{shown};
 
 use crate::answers::Scope;
 use crate::entry::{Title, entry_of, group_of};
-use crate::text::shown;
 use pc_cells::Shared;
-use pc_desk_table::Entry;
+use pc_desk_table::{Entry, shown};
 use pc_group::{answer_seen, divide_for, folds_of};
 use pc_lang::{Quantile, put_quantile_query, put_query};
 use pc_list::{Seq, Text};

@@ -9,7 +9,6 @@ mod question;
 mod range;
 mod repeated;
 mod rounding;
-mod text;
 mod trees;
 mod value;
 

@@ -7,7 +7,7 @@ ghost use Rattle.pc_lang.specs.Quantiles.{quantile_at};
 ghost use Rattle.pc_script.specs.Script.{after_blanks};
 ghost use Rattle.pc_desk_answers.specs.Questions.{IsQuestion, after, called, half_of, other_at, plain, question_at, questions_of, share};
 
-use crate::text::shown;
+use pc_desk_table::shown;
 use pc_lang::{Quantile, is_blank, read_quantile, read_query};
 use pc_list::{Seq, Text};
 use pc_model::{Query, Refusal, Schema};

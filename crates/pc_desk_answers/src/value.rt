@@ -3,12 +3,11 @@ ghost use Rattle.pc_num.specs.Put.{scaled_text};
 ghost use Rattle.pc_report.specs.RunLines.{HaveScales};
 ghost use Rattle.pc_report.specs.Units.{IsPrintable};
 ghost use Rattle.pc_desk_answers.specs.Rounded.{limit};
-ghost use Rattle.pc_desk_answers.specs.Texts.{shown};
+ghost use Rattle.pc_desk_table.specs.Texts.{shown};
 ghost use Rattle.pc_desk_answers.specs.Values.{average_value, decimal_of, in_millionths, is_average, places_for, places_of, plain_value, printed, units_of, value_of, within};
 
 use crate::rounding::{LIMIT, Rounding, millionths_of};
-use crate::text::shown;
-use pc_desk_table::Value;
+use pc_desk_table::{Value, shown};
 use pc_list::Text;
 use pc_model::{Agg, Query, Schema};
 use pc_num::{Frac, Memory, put_scaled};

@@ -1,5 +1,4 @@
 -- A fault of a question names the query.
-use Rattle.std.specs.Bool.{⊤}
 use Rattle.std.proofs.Common.{ℕ, ◌+◌, Bool, true, false, is_some, List, [], ◌∷◌, codes, Option, Some, None, Result, Ok, Err}
 use Rattle.pc_model.specs.declared.fault.FileKind.TheVariants as kinds
 use Rattle.pc_model.specs.declared.fault.Fault.{Fault}

@@ -1,5 +1,5 @@
 -- What is shown of the questions of a session, as far as a loop has come over its lines.
-use Rattle.std.proofs.Common.{◌≡◌, ℕ, zero, suc, ◌+◌, List, [], ◌∷◌, ◌++◌, get_or, length, map, refl, sym, ap, arith, subst, ◌∙◌, append-nil, append_assoc}
+use Rattle.std.proofs.Common.{◌≡◌, ℕ, suc, ◌+◌, List, [], ◌∷◌, ◌++◌, get_or, length, map, refl, sym, ap, arith, subst, ◌∙◌, append-nil, append_assoc}
 use Rattle.pc_model.specs.declared.schema.Schema.{Schema}
 use Rattle.pc_session.specs.declared.line.Line.{Line}
 use Rattle.pc_session.specs.Edited.{CanFollow, CanFollowAll, Held, after_line, held_after}

@@ -3,3 +3,4 @@ mod FaultFiles
 mod Following
 mod Replies
 mod Promises
+mod ReadInputs

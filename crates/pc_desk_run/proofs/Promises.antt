@@ -1,17 +1,17 @@
 -- What a run promises, by its reply and by how that was delivered.
 use Rattle.std.proofs.Common.{◌≡◌, ◌⊎◌, ⊎_elim, inl, inr, ℕ, Bool, true, false, List, [], Some, if◌then◌else◌, refl, sym, subst, ◌∙◌}
 use Rattle.std.specs.List.{list_any}
-use Rattle.pc_files.specs.Loading.{Reading}
-use Rattle.pc_files.specs.Writing.{IsCutOff, IsUntouched, IsWritten, Writing}
-use Rattle.pc_desk_table.specs.declared.entry.Entry.{Entry}
+use Rattle.pc_files.specs.Writing.{IsCutOff, IsUntouched}
+use Rattle.pc_desk_try.specs.Trials.{is_kept, trial_of}
 use Rattle.pc_desk_words.specs.Words.{Asked, asked_of}
 use Rattle.pc_desk_run.specs.declared.ended.Ended.{Ended}
 use Rattle.pc_desk_run.specs.declared.ended.Ended.TheVariants as ends
 use Rattle.pc_desk_run.specs.declared.reply.Reply.{Reply}
 use Rattle.pc_desk_run.specs.declared.reply.Reply.TheVariants as replies
-use Rattle.pc_desk_run.specs.Endings.{ended_of, is_impossible, is_open}
-use Rattle.pc_desk_run.specs.Meaning.{AsksFor, Call, Delivers, HasAnswered, HasRefused, IsNoted, IsSilent, KeepsPromise, Refuses}
-use Rattle.pc_desk_run.specs.Replies.{IsNoCall, RefusesAsked, RepliesTo, RepliesToNone, Responds, RespondsTo, SaysAnswers}
+use Rattle.pc_desk_run.specs.Endings.{is_impossible, is_open}
+use Rattle.pc_desk_run.specs.Meaning.{AsksFor, Call, Delivers, HasAnswered, HasRefused, IsNoted, KeepsPromise}
+use Rattle.pc_desk_run.specs.Outcome.{Input, asks, follows, lists, tries}
+use Rattle.pc_desk_run.specs.Replies.{IsNoCall, IsSaid, RefusesAsked, RepliesTo, RepliesToNone, Responds}
 
 module _ (call : Call) where
   -- ---- answers
@@ -21,8 +21,15 @@ module _ (call : Call) where
   keeps_by false true ended is has = subst (λ (e : Ended). KeepsPromise call e) (sym is) (subst (λ (e : Ended). HasAnswered call e) is has)
   keeps_by false false ended is has = subst (λ (e : Ended). KeepsPromise call e) (sym is) (inl (subst (λ (e : Ended). HasAnswered call e) is has))
 
-  answers_keep : (entries : List Entry) (ended : Ended) → ended ≡ ended_of entries → HasAnswered call ended → KeepsPromise call ended
-  answers_keep entries ended is has = keeps_by (list_any is_impossible entries) (list_any is_open entries) ended is has
+  trial_keeps : (kept : Bool) (ended : Ended) → ended ≡ (if kept then ends.Settled else ends.Open) → HasAnswered call ended → KeepsPromise call ended
+  trial_keeps true ended is has = keeps_by false false ended is has
+  trial_keeps false ended is has = keeps_by false true ended is has
+
+  said_keeps : (input : Input) (ended : Ended) (text note : List ℕ) → IsSaid input ended text note → HasAnswered call ended → KeepsPromise call ended
+  said_keeps (asks form nodes asking) ended text note said has = keeps_by (list_any is_impossible said.0) (list_any is_open said.0) ended said.2.0 has
+  said_keeps (follows form nodes scripted) ended text note said has = keeps_by (list_any is_impossible said.0) (list_any is_open said.0) ended said.2.0 has
+  said_keeps (tries form scale observed) ended text note said has = trial_keeps (is_kept (trial_of scale observed.constraints observed.rows)) ended said.0 has
+  said_keeps (lists form listing) ended text note said has = keeps_by false false ended said.2.0 has
 
   -- ---- refusals
 
@@ -38,8 +45,8 @@ module _ (call : Call) where
   -- ---- what was asked for, but not written whole
 
   cut_off : (text : List ℕ) (result : Ended) → AsksFor call text → ((result ≡ ends.WriteFault) × IsCutOff call.output text) ⊎ ((result ≡ ends.Memory) × IsUntouched call.output) → KeepsPromise call result
-  cut_off text result asks short =
-      ⊎_elim (λ cut. subst (λ (e : Ended). KeepsPromise call e) (sym cut.0) (record { text = text; asked = asks; cut_off = cut.1 }))
+  cut_off text result wanted short =
+      ⊎_elim (λ cut. subst (λ (e : Ended). KeepsPromise call e) (sym cut.0) (record { text = text; asked = wanted; cut_off = cut.1 }))
       (λ none. subst (λ (e : Ended). KeepsPromise call e) (sym none.0) none.1) short
 
   -- ---- the reply to a call, and to words that are none
@@ -47,7 +54,7 @@ module _ (call : Call) where
   replied : (asked : Asked) (reply : Reply) (result : Ended) → asked_of call.words ≡ Some asked → RepliesTo call.reading asked reply → Delivers call.output call.notes reply result → KeepsPromise call result
   replied asked (replies.Says ended text note) result verb says delivers =
       ⊎_elim (λ whole. subst (λ (e : Ended). KeepsPromise call e) (sym whole.0)
-      (answers_keep says.entries ended says.status (record { text = text; note = note.now; asked = asked; verb = verb; answers = says; written = whole.1; noted = whole.2 })))
+      (said_keeps says.input ended text note.now says.said (record { text = text; note = note.now; asked = asked; verb = verb; answers = says; written = whole.1; noted = whole.2 })))
       (λ short. cut_off text result (inl (asked, ended, note.now, verb, says)) short) delivers
   replied asked (replies.Refuses ended text) result verb refuses delivers =
       subst (λ (e : Ended). KeepsPromise call e) (sym delivers.0)

@@ -11,6 +11,8 @@ use Rattle.pc_desk_table.specs.declared.entry.SaidLack.{SaidLack}
 use Rattle.pc_desk_table.specs.declared.entry.SaidLack.TheVariants as lacks
 use Rattle.pc_desk_run.specs.declared.ended.Ended.{Ended}
 use Rattle.pc_desk_run.specs.declared.ended.Ended.TheVariants as ends
+use Rattle.pc_desk_try.specs.declared.tried.Trial.{Trial}
+use Rattle.pc_desk_try.specs.Trials.{is_kept}
 
 -- the number with which the program ends
 abbrev pub code_of : Ended → ℕ
@@ -58,3 +60,7 @@ is_open entry = says_undecided entry.relation || (lack_undecided entry.lack || h
 
 abbrev pub ended_of : List Entry → Ended
 ended_of entries = if list_any is_impossible entries then ends.Impossible else (if list_any is_open entries then ends.Open else ends.Settled)
+
+-- constraints that a table keeps are settled; where it breaks one something is to be looked at
+abbrev pub ended_of_trial : Trial → Ended
+ended_of_trial trial = if is_kept trial then ends.Settled else ends.Open

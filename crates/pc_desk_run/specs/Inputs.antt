@@ -1,5 +1,5 @@
 -- What was read of the files of a call.
-use Rattle.std.specs.Prelude.{ℕ, All, List, Option, Result}
+use Rattle.std.specs.Prelude.{ℕ, All, List, Ok, Option, Result}
 use Rattle.pc_model.specs.declared.fault.FileKind.{FileKind}
 use Rattle.pc_base.specs.Files.{Files}
 use Rattle.pc_files.specs.declared.kept.Kept.{Kept}
@@ -7,11 +7,14 @@ use Rattle.pc_files.specs.declared.stop.Stop.{Stop}
 use Rattle.pc_files.specs.Keeping.{KeptFrom, names_of}
 use Rattle.pc_files.specs.Loading.{IsRead, Reading}
 use Rattle.pc_files.specs.declared.reading.Scripted.{Scripted}
-use Rattle.pc_files.specs.Reads.{IsScripted, IsUsable, ReadsScripted}
+use Rattle.pc_files.specs.declared.reading.Listing.{Listing}
+use Rattle.pc_files.specs.declared.reading.Observed.{Observed}
+use Rattle.pc_files.specs.Outcome.{Found, listed_files, listing_in, observed_in}
+use Rattle.pc_files.specs.Reads.{IsScripted, IsShowable, IsUsable, ReadsScripted}
 use Rattle.pc_desk_answers.specs.Questions.{IsQuestion}
-use Rattle.pc_desk_words.specs.Words.{AskNames, Asked, IsBudget, SessionNames}
+use Rattle.pc_desk_words.specs.Words.{AskNames, Asked, IsBudget, IsScale, OpensNames, SessionNames, TrialNames}
 use Rattle.pc_desk_run.specs.declared.input.Asking.{Asking}
-use Rattle.pc_desk_run.specs.Outcome.{Input, asking_in, asks, data_files, follows}
+use Rattle.pc_desk_run.specs.Outcome.{Input, asking_in, asks, data_files, follows, lists, tries}
 use Rattle.pc_desk_run.specs.Texts.{Named, named_in}
 
 -- what answers need of what was read
@@ -20,8 +23,10 @@ pub record IsAsking (asking : Asking) : Type 0 where
   pub asked : All (IsQuestion asking.observed.schema) asking.questions
 
 abbrev pub IsSoundInput : Input → Type 0
-IsSoundInput (asks nodes asking) = IsAsking asking × IsBudget nodes
-IsSoundInput (follows nodes scripted) = IsScripted scripted × IsBudget nodes
+IsSoundInput (asks form nodes asking) = IsAsking asking × IsBudget nodes
+IsSoundInput (follows form nodes scripted) = IsScripted scripted × IsBudget nodes
+IsSoundInput (tries form scale observed) = IsUsable observed × IsScale scale
+IsSoundInput (lists form listing) = IsShowable listing
 
 -- what reading the files of a call answers
 abbrev pub ReadsAsking : Reading → AskNames → Result Asking Stop → Type 0
@@ -29,6 +34,12 @@ ReadsAsking reading names result = IsRead reading (data_files names.files) (aski
 
 abbrev pub ReadsSession : Reading → SessionNames → Result Scripted Stop → Type 0
 ReadsSession reading names result = ReadsScripted reading names.files.schema names.files.rows names.files.constraints names.script result
+
+abbrev pub ReadsTrial : Reading → TrialNames → Result Observed Stop → Type 0
+ReadsTrial reading names result = IsRead reading (data_files names.files) (λ (found : Found). Ok (observed_in found)) result
+
+abbrev pub ReadsOpens : Reading → OpensNames → Result Listing Stop → Type 0
+ReadsOpens reading names result = IsRead reading (listed_files names.files.schema names.files.constraints) (λ (found : Found). Ok (listing_in found)) result
 
 -- the name of each kind of file that a call reads
 abbrev pub names_in : Named → FileKind → List ℕ

@@ -8,6 +8,7 @@ use Rattle.pc_files.specs.declared.stop.Stop.TheVariants as stops
 use Rattle.pc_files.specs.Keeping.{ExplainsFault}
 use Rattle.pc_files.specs.Loading.{EndsAt, IsUnread, LoadsAll, Reading}
 use Rattle.pc_files.specs.Outcome.{refused}
+use Rattle.pc_files.specs.declared.reading.Listing.{Listing}
 use Rattle.pc_files.specs.Reads.{start_of}
 use Rattle.pc_desk_answers.specs.Blocks.{ArePosed, AreShown, asked, ground_of, posed_by}
 use Rattle.pc_desk_table.specs.declared.entry.Entry.{Entry}
@@ -17,30 +18,53 @@ use Rattle.pc_desk_run.specs.declared.ended.Ended.{Ended}
 use Rattle.pc_desk_run.specs.declared.ended.Ended.TheVariants as ends
 use Rattle.pc_desk_run.specs.declared.reply.Reply.{Reply}
 use Rattle.pc_desk_run.specs.declared.reply.Reply.TheVariants as replies
-use Rattle.pc_desk_run.specs.Endings.{ended_of}
+use Rattle.pc_desk_try.specs.declared.opening.Opening.{Opening}
+use Rattle.pc_desk_try.specs.declared.tried.Trial.{Trial}
+use Rattle.pc_desk_try.specs.Opened.{openings_sheet}
+use Rattle.pc_desk_try.specs.Openings.{AreOpenings}
+use Rattle.pc_desk_try.specs.Shown.{sheet_of}
+use Rattle.pc_desk_try.specs.Trials.{trial_of}
+use Rattle.pc_desk_words.specs.declared.form.SheetForm.{SheetForm}
+use Rattle.pc_desk_run.specs.Endings.{ended_of, ended_of_trial}
 use Rattle.pc_desk_run.specs.Inputs.{IsSoundInput, names_in}
-use Rattle.pc_desk_run.specs.Outcome.{ComesTo, Input, asks, files_of, follows, form_of}
-use Rattle.pc_desk_run.specs.Texts.{AreRefusedLines, Named, named_in, note_on, text_of, unread_line}
+use Rattle.pc_desk_run.specs.Outcome.{ComesTo, Input, asks, files_of, follows, lists, tries}
+use Rattle.pc_desk_run.specs.Texts.{AreRefusedLines, Named, named_in, note_on, sheet_text, text_of, unread_line}
 
--- The entries show answers to what is asked: each is right, by searches of at most so many nodes, and stands beside the answer to
--- the same where nothing is lost; of a script each has the number of its line in the file.
-abbrev pub AnswersInput : Input → List Entry → Type 0
-AnswersInput (asks nodes asking) entries = AreShown (ground_of asking.observed nodes) (asked asking.observed.schema asking.questions) entries
-AnswersInput (follows nodes scripted) entries = ArePosed (posed_by scripted.observed.schema nodes (start_of scripted) scripted.script) entries
+-- what a text is of, with a status and a note beside it
+abbrev pub Saying : Type 1
+Saying = Ended → List ℕ → List ℕ → Type 0
 
--- a script may add constraints
-abbrev pub note_for : Input → List ℕ
-note_for (asks nodes asking) = note_on asking.observed.constraints
-note_for (follows nodes scripted) = []
+-- the text of entries in a form, which have this status, and this note
+abbrev pub IsShown : Form → List Entry → List ℕ → Saying
+IsShown form entries note ended text said = (ended ≡ ended_of entries) × (text ≡ text_of form entries) × (said ≡ note)
 
--- what entries come to in a form, with this note
-abbrev pub Shows : Form → List Entry → List ℕ → Reply → Type 0
-Shows form entries note (replies.Says ended text said) = (ended ≡ ended_of entries) × (text ≡ text_of form entries) × (said.now ≡ note)
-Shows form entries note (replies.Refuses ended text) = ⊥
+-- .. of a trial
+abbrev pub IsTrialShown : SheetForm → Trial → List ℕ → Saying
+IsTrialShown form trial note ended text said = (ended ≡ ended_of_trial trial) × (text ≡ sheet_text form (sheet_of trial)) × (said ≡ note)
 
--- .. where they are those of an input
-abbrev pub SaysInput : Form → Input → Reply → Type 0
-SaysInput form input reply = (entries : List Entry) × AnswersInput input entries × Shows form entries (note_for input) reply
+-- .. of the classes that constraints open
+abbrev pub AreOpeningsShown : SheetForm → Listing → List Opening → Saying
+AreOpeningsShown form listing openings ended text said =
+    (ended ≡ ends.Settled) × (text ≡ sheet_text form (openings_sheet listing.schema listing.constraints openings)) × (said ≡ note_on listing.constraints)
+
+-- What is said of an input. Entries show answers to what is asked: each is right, by searches of at most so many nodes, and stands
+-- beside the answer to the same where nothing is lost; of a script, which may add constraints, each has the number of its line in the
+-- file. A trial is that of the constraints over the rows; and each row that can be lost is in one of the classes that are shown.
+abbrev pub IsSaid : Input → Saying
+IsSaid (asks form nodes asking) ended text note =
+    (entries : List Entry) × AreShown (ground_of asking.observed nodes) (asked asking.observed.schema asking.questions) entries
+    × IsShown form entries (note_on asking.observed.constraints) ended text note
+IsSaid (follows form nodes scripted) ended text note =
+    (entries : List Entry) × ArePosed (posed_by scripted.observed.schema nodes (start_of scripted) scripted.script) entries × IsShown form entries [] ended text note
+IsSaid (tries form scale observed) ended text note =
+    IsTrialShown form (trial_of scale observed.constraints observed.rows) (note_on observed.constraints) ended text note
+IsSaid (lists form listing) ended text note =
+    (openings : List Opening) × AreOpenings listing.schema listing.constraints openings × AreOpeningsShown form listing openings ended text note
+
+-- the reply is what is said
+abbrev pub Says : Saying → Reply → Type 0
+Says Said (replies.Says ended text note) = Said ended text note.now
+Says Said (replies.Refuses ended text) = ⊥
 
 -- why files give nothing; without memory there is no reply
 abbrev pub IsStopReply : Named → Kept → Stop → Reply → Type 0
@@ -54,11 +78,7 @@ pub record SaysAnswers (reading : Reading) (asked : Asked) (ended : Ended) (text
   pub agrees : ComesTo reading.before.files asked (Ok input)
   pub sound : IsSoundInput input
   pub loads : LoadsAll reading (files_of asked)
-  pub entries : List Entry
-  pub answers : AnswersInput input entries
-  pub status : ended ≡ ended_of entries
-  pub spelled : text ≡ text_of (form_of asked) entries
-  pub noted : note ≡ note_for input
+  pub said : IsSaid input ended text note
 
 -- A file or a query has a first fault, and nothing was loaded after that file. What explains it is told of the bytes that the shelf
 -- holds under the names of the schema and of the refused file.

@@ -14,11 +14,15 @@ use Rattle.pc_desk_draw.specs.Pictures.{picture_text}
 use Rattle.pc_desk_table.specs.declared.entry.Entry.{Entry}
 use Rattle.pc_desk_table.specs.Json.{json_text}
 use Rattle.pc_desk_table.specs.Lines.{lines_text}
+use Rattle.pc_desk_table.specs.declared.sheet.Sheet.{Sheet}
+use Rattle.pc_desk_table.specs.Sheets.{sheet_json, sheet_lines, sheet_table}
 use Rattle.pc_desk_table.specs.Table.{table_text}
 use Rattle.pc_desk_words.specs.Calls.{file_names}
-use Rattle.pc_desk_words.specs.Words.{Asked, FileNames, ask, session}
+use Rattle.pc_desk_words.specs.Words.{Asked, FileNames, ask, opens, session, trial}
 use Rattle.pc_desk_words.specs.declared.form.Form.{Form}
 use Rattle.pc_desk_words.specs.declared.form.Form.TheVariants as forms
+use Rattle.pc_desk_words.specs.declared.form.SheetForm.{SheetForm}
+use Rattle.pc_desk_words.specs.declared.form.SheetForm.TheVariants as sheet_forms
 use Rattle.pc_desk_run.specs.declared.line.Sources.{Sources}
 
 -- what is shown, in a form
@@ -28,6 +32,11 @@ text_of forms.Table entries = table_text entries
 text_of forms.Json entries = json_text entries
 text_of forms.Chart entries = chart_text entries
 text_of forms.Picture entries = picture_text entries
+
+abbrev pub sheet_text : SheetForm → Sheet → List ℕ
+sheet_text sheet_forms.Text sheet = sheet_lines sheet
+sheet_text sheet_forms.Table sheet = sheet_table sheet
+sheet_text sheet_forms.Json sheet = sheet_json sheet
 
 -- ---- why nothing is shown
 
@@ -40,6 +49,8 @@ pub record Named : Type 0 where
 abbrev pub named_in : Asked → Named
 named_in (ask names) = record { files = names.files; script = []; queries = names.queries }
 named_in (session names) = record { files = names.files; script = names.script; queries = [] }
+named_in (trial names) = record { files = names.files; script = []; queries = [] }
+named_in (opens names) = record { files = names.files; script = []; queries = [] }
 
 abbrev pub named_of : Sources → Named
 named_of sources = record { files = file_names sources.files; script = sources.script.now; queries = map (λ text. text.now) sources.queries.now }

@@ -1,14 +1,17 @@
 ghost use Rattle.std.specs.Prelude.{IfOk};
 ghost use Rattle.pc_files.specs.Loading.{reading_of};
-ghost use Rattle.pc_desk_words.specs.Calls.{ask_names, session_names};
+ghost use Rattle.pc_desk_words.specs.Calls.{ask_names, opens_names, session_names, trial_names};
 ghost use Rattle.pc_desk_words.specs.Words as words;
-ghost use Rattle.pc_files.specs.Reads.{IsScripted};
-ghost use Rattle.pc_desk_run.specs.Inputs.{IsAsking, KeepsAsked, ReadsAsking, ReadsSession};
+ghost use Rattle.pc_files.specs.Reads.{IsScripted, IsShowable, IsUsable};
+ghost use Rattle.pc_desk_run.specs.Inputs.{IsAsking, KeepsAsked, ReadsAsking, ReadsOpens, ReadsSession, ReadsTrial};
 
 use pc_base::Shelf;
 use pc_desk_answers::{Question, read_questions};
-use pc_desk_words::{Ask, Session};
-use pc_files::{Kept, Observed, Scripted, Stop, read_observed_keeping, read_scripted_keeping};
+use pc_desk_words::{Ask, Opens, Session, Trial};
+use pc_files::{
+    Kept, Listing, Observed, Scripted, Stop, read_listing_keeping, read_observed_keeping,
+    read_scripted_keeping,
+};
 use pc_list::Seq;
 use std::alloc::Global;
 
@@ -67,4 +70,41 @@ pub(crate) fn read_session<F: Shelf>(
         session.script,
         kept,
     )
+}
+
+/// Reads the files of `try`.
+pub(crate) fn read_trial<F: Shelf>(
+    alloc: Global,
+    files: &mut F,
+    trial: &Trial,
+    kept: &mut Kept,
+) -> Result<Observed, Stop>
+    ensures read { ReadsTrial (reading_of F.told F.leads files.old files.new) (trial_names trial.now) result }
+    ensures sound { IfOk result IsUsable }
+    ensures kept { KeepsAsked (F.told files.old).files (words.trial (trial_names trial.now)) kept.new result }
+{
+    let names = trial.files;
+    read_observed_keeping(
+        alloc,
+        files,
+        names.schema,
+        names.rows,
+        names.constraints,
+        kept,
+    )
+}
+
+/// Reads the files of `opens`.
+pub(crate) fn read_opens<F: Shelf>(
+    alloc: Global,
+    files: &mut F,
+    opens: &Opens,
+    kept: &mut Kept,
+) -> Result<Listing, Stop>
+    ensures read { ReadsOpens (reading_of F.told F.leads files.old files.new) (opens_names opens.now) result }
+    ensures sound { IfOk result IsShowable }
+    ensures kept { KeepsAsked (F.told files.old).files (words.opens (opens_names opens.now)) kept.new result }
+{
+    let names = opens.files;
+    read_listing_keeping(alloc, files, names.schema, names.constraints, kept)
 }

@@ -1,10 +1,10 @@
 ghost use Rattle.std.specs.Prelude.{◌≡◌, ◌-◌, [], IfOk, get_or, map, string_bytes};
-ghost use Rattle.pc_desk_words.specs.Calls.{ask_names, session_names};
+ghost use Rattle.pc_desk_words.specs.Calls.{ask_names, file_names, opens_names, session_names, trial_names};
 ghost use Rattle.pc_desk_words.specs.Words as words;
 ghost use Rattle.pc_desk_run.specs.Texts.{AreRefusedLines, is_query, name_of, named_in, named_of, part_name, place_text, unread_line};
 
 use pc_desk_fault::{About, explained};
-use pc_desk_words::{Ask, Files, Session};
+use pc_desk_words::{Ask, Files, Opens, Session, Trial};
 use pc_files::{Kept, malformed_line};
 use pc_list::Seq;
 use pc_model::{Fault, FileKind};
@@ -37,6 +37,31 @@ pub(crate) fn sources_of_session<'a>(session: &Session<'a>) -> Sources<'a>
     Sources {
         files: session.files,
         script: session.script,
+        queries: &[],
+    }
+}
+
+/// What `try` reads.
+pub(crate) fn sources_of_trial<'a>(trial: &Trial<'a>) -> Sources<'a>
+    ensures { named_of result ≡ named_in (words.trial (trial_names trial.now)) }
+{
+    sources_of_files(trial.files)
+}
+
+/// What `opens` reads.
+pub(crate) fn sources_of_opens<'a>(opens: &Opens<'a>) -> Sources<'a>
+    ensures { named_of result ≡ named_in (words.opens (opens_names opens.now)) }
+{
+    sources_of_files(opens.files)
+}
+
+// Of no script and no queries.
+fn sources_of_files(files: Files<'_>) -> Sources<'_>
+    ensures { named_of result ≡ record { files = file_names files.entry; script = []; queries = [] } }
+{
+    Sources {
+        files,
+        script: "",
         queries: &[],
     }
 }

@@ -1,27 +1,31 @@
 ghost use Rattle.std.specs.Prelude.{◌≡◌, ℕ, IfOk, List, map, string_bytes};
 ghost use Rattle.pc_files.specs.Loading.{reading_of};
 ghost use Rattle.pc_desk_table.specs.declared.entry.Entry.{Entry};
-ghost use Rattle.pc_desk_words.specs.Calls.{ask_names, session_names};
-ghost use Rattle.pc_desk_words.specs.Words.{IsBudget, MayHelp, MayRefuse};
+ghost use Rattle.pc_desk_words.specs.Calls.{ask_names, opens_names, session_names, trial_names};
+ghost use Rattle.pc_desk_words.specs.Words.{IsBudget, IsScale, MayHelp, MayRefuse};
 ghost use Rattle.pc_desk_words.specs.Words as words;
-ghost use Rattle.pc_files.specs.Reads.{IsScripted};
+ghost use Rattle.pc_files.specs.Reads.{IsScripted, IsShowable};
 ghost use Rattle.pc_desk_run.specs.Inputs.{IsAsking};
-ghost use Rattle.pc_desk_run.specs.Outcome.{asks, follows};
-ghost use Rattle.pc_desk_run.specs.Replies.{IsStopReply, RepliesTo, RepliesToNone, Responds, SaysInput, Shows};
+ghost use Rattle.pc_desk_run.specs.Outcome.{asks, follows, lists, tries};
+ghost use Rattle.pc_desk_run.specs.Replies.{IsSaid, IsShown, IsStopReply, RepliesTo, RepliesToNone, Responds, Says};
 ghost use Rattle.pc_desk_run.specs.Texts.{named_of};
 
 use crate::ended::Ended;
-use crate::form::text_of;
-use crate::input::{Asking, read_asking, read_session};
-use crate::line::{Sources, refused_lines, sources_of_ask, sources_of_session, unread_line};
+use crate::form::{sheet_text, text_of};
+use crate::input::{Asking, read_asking, read_opens, read_session, read_trial};
+use crate::line::{
+    Sources, refused_lines, sources_of_ask, sources_of_opens, sources_of_session, sources_of_trial,
+    unread_line,
+};
 use crate::note::note_on;
 use crate::session::follow_script;
-use crate::settled::ended_of;
+use crate::settled::{ended_of, ended_of_trial};
 use pc_base::Shelf;
 use pc_desk_answers::answer_questions;
 use pc_desk_table::Entry;
-use pc_desk_words::{Ask, Call, Form, Session, read_call};
-use pc_files::{Kept, Scripted, Stop};
+use pc_desk_try::{openings, openings_sheet, sheet_of, try_rows};
+use pc_desk_words::{Ask, Call, Form, Opens, Session, SheetForm, Trial, read_call};
+use pc_files::{Kept, Listing, Observed, Scripted, Stop};
 use pc_list::Seq;
 use pc_num::Memory;
 use std::alloc::Global;
@@ -52,6 +56,8 @@ pub(crate) fn respond<F: Shelf>(
     match call {
         Call::Ask(ask) => reply_to_ask(alloc, files, &ask),
         Call::Session(session) => reply_to_session(alloc, files, &session),
+        Call::Trial(trial) => reply_to_trial(alloc, files, &trial),
+        Call::Opens(opens) => reply_to_opens(alloc, files, &opens),
         Call::Shows(text) => Ok(help(text)),
         Call::Refused(text) => Ok(refusal(text)),
     }
@@ -104,17 +110,38 @@ fn reply_to_session<F: Shelf>(
     }
 }
 
+fn reply_to_trial<F: Shelf>(alloc: Global, files: &mut F, trial: &Trial) -> Result<Reply, Memory>
+    requires { IsScale trial.now.scale }
+    ensures { IfOk result (RepliesTo (reading_of F.told F.leads files.old files.new) (words.trial (trial_names trial.now))) }
+{
+    let mut kept = Kept::new(alloc);
+    match read_trial(alloc, files, trial, &mut kept) {
+        Ok(observed) => tried(alloc, &observed, trial.form, trial.scale),
+        Err(stop) => stopped(alloc, &sources_of_trial(trial), &kept, stop),
+    }
+}
+
+fn reply_to_opens<F: Shelf>(alloc: Global, files: &mut F, opens: &Opens) -> Result<Reply, Memory>
+    ensures { IfOk result (RepliesTo (reading_of F.told F.leads files.old files.new) (words.opens (opens_names opens.now))) }
+{
+    let mut kept = Kept::new(alloc);
+    match read_opens(alloc, files, opens, &mut kept) {
+        Ok(listing) => opened(alloc, &listing, opens.form),
+        Err(stop) => stopped(alloc, &sources_of_opens(opens), &kept, stop),
+    }
+}
+
 fn answered(alloc: Global, asking: &Asking, form: Form, nodes: u32) -> Result<Reply, Memory>
     requires asking { IsAsking asking.now }
     requires budget { IsBudget nodes }
-    ensures says { IfOk result (SaysInput form (asks nodes asking.now)) }
+    ensures says { IfOk result (Says (IsSaid (asks form nodes asking.now))) }
 {
     let questions = asking.questions.as_slice();
     let entries = answer_questions(alloc, &asking.observed, questions, nodes)?;
     shown(
         alloc,
         form,
-        entries.as_slice(),
+        &entries,
         note_on(asking.observed.constraints.as_slice()),
     )
 }
@@ -122,19 +149,53 @@ fn answered(alloc: Global, asking: &Asking, form: Form, nodes: u32) -> Result<Re
 fn followed(alloc: Global, scripted: Scripted, form: Form, nodes: u32) -> Result<Reply, Memory>
     requires scripted { IsScripted scripted }
     requires budget { IsBudget nodes }
-    ensures { IfOk result (SaysInput form (follows nodes scripted)) }
+    ensures { IfOk result (Says (IsSaid (follows form nodes scripted))) }
 {
     let entries = follow_script(alloc, scripted, nodes)?;
-    shown(alloc, form, entries.as_slice(), "")
+    shown(alloc, form, &entries, "")
 }
 
-fn shown(alloc: Global, form: Form, entries: &[Entry], note: &'static str) -> Result<Reply, Memory>
-    ensures { IfOk result (λ reply. Shows form entries.now note.now reply) }
+fn shown(
+    alloc: Global,
+    form: Form,
+    entries: &Seq<Entry>,
+    note: &'static str,
+) -> Result<Reply, Memory>
+    ensures { IfOk result (Says (IsShown form entries.now note.now)) }
 {
+    let entries = entries.as_slice();
     Ok(Reply::Says {
         ended: ended_of(entries),
         text: Seq::from_vec(text_of(alloc, form, entries)?),
         note,
+    })
+}
+
+fn tried(alloc: Global, observed: &Observed, form: SheetForm, scale: u64) -> Result<Reply, Memory>
+    ensures says { IfOk result (Says (IsSaid (tries form scale observed.now))) }
+{
+    let constraints = observed.constraints.as_slice();
+    let trial = try_rows(alloc, scale, constraints, &observed.rows)?;
+    let sheet = sheet_of(alloc, &trial)?;
+    Ok(Reply::Says {
+        ended: ended_of_trial(&trial),
+        text: Seq::from_vec(sheet_text(alloc, form, &sheet)?),
+        note: note_on(constraints),
+    })
+}
+
+fn opened(alloc: Global, listing: &Listing, form: SheetForm) -> Result<Reply, Memory>
+    requires listing { IsShowable listing.now }
+    ensures says { IfOk result (Says (IsSaid (lists form listing.now))) }
+{
+    let schema = &listing.schema;
+    let constraints = listing.constraints.as_slice();
+    let openings = openings(alloc, schema, constraints)?;
+    let sheet = openings_sheet(alloc, schema, constraints, openings.as_slice())?;
+    Ok(Reply::Says {
+        ended: Ended::Settled,
+        text: Seq::from_vec(sheet_text(alloc, form, &sheet)?),
+        note: note_on(constraints),
     })
 }
 

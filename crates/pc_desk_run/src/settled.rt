@@ -1,9 +1,10 @@
 ghost use Rattle.std.specs.Prelude.{◌≡◌};
 ghost use Rattle.std.specs.List.{list_any};
-ghost use Rattle.pc_desk_run.specs.Endings.{ended_of, has_outer, is_impossible, is_open, is_outer};
+ghost use Rattle.pc_desk_run.specs.Endings.{ended_of, ended_of_trial, has_outer, is_impossible, is_open, is_outer};
 
 use crate::ended::Ended;
 use pc_desk_table::{End, Entry, Mark, Range, Said, SaidLack};
+use pc_desk_try::Trial;
 
 /// How much of what is shown is settled.
 pub(crate) fn ended_of(entries: &[Entry]) -> Ended
@@ -16,6 +17,17 @@ pub(crate) fn ended_of(entries: &[Entry]) -> Ended
         return Ended::Open;
     }
     Ended::Settled
+}
+
+/// Whether a table keeps constraints.
+pub(crate) fn ended_of_trial(trial: &Trial) -> Ended
+    ensures ended { result ≡ ended_of_trial trial.now }
+{
+    if trial.is_kept() {
+        Ended::Settled
+    } else {
+        Ended::Open
+    }
 }
 
 fn has_impossible(entries: &[Entry]) -> bool

@@ -15,6 +15,12 @@ use Rattle.pc_desk_table.specs.declared.entry.Range.{Range}
 use Rattle.pc_desk_table.specs.declared.entry.Repeated.{Repeated}
 use Rattle.pc_desk_table.specs.declared.entry.SaidLack.{SaidLack}
 use Rattle.pc_desk_table.specs.declared.entry.Value.{Value}
+use Rattle.std.specs.List.{enumerate_from}
+use Rattle.pc_desk_table.specs.declared.sheet.Cell.{Cell}
+use Rattle.pc_desk_table.specs.declared.sheet.Cell.TheVariants as kinds
+use Rattle.pc_desk_table.specs.declared.sheet.Sheet.{Sheet}
+use Rattle.pc_desk_table.specs.declared.sheet.Title.{Title}
+use Rattle.pc_desk_table.specs.Sheets.{cell_at, cell_data, put_cell, sheet_row_data, sheet_data}
 use Rattle.pc_desk_table.specs.Json.{data_of, end_data, end_pairs, entry_data, group_pairs, lack_data, line_pairs, object_of, observed_data, put_field, put_pair, question_pairs, range_pairs, repeated_data, repeated_pairs}
 
 -- data without a float that goes so deep at most
@@ -124,3 +130,25 @@ entry_plain entry =
 pub data_plain : (entries : List Entry) → IsPlain 6 (data_of entries)
 unfolding data_of
 data_plain entries = array_plain entry_data 5 entry_plain entries
+
+-- ---- of a sheet
+
+cell_plain : (cell : Cell) → IsPlain 0 (cell_data cell)
+cell_plain kinds.Empty = flat 0
+cell_plain (kinds.Word text) = flat 0
+cell_plain (kinds.Count count) = flat 0
+cell_plain (kinds.Truth truth) = flat 0
+
+cells_plain : (row : List Cell) (found : Members) (entries : List (ℕ × Title)) → ArePlain 0 found → ArePlain 0 (fold (put_cell row) found entries)
+cells_plain row found [] g = g
+cells_plain row found (entry ∷ entries) g =
+    cells_plain row (put_cell row found entry) entries (put_plain 0 entry.1.name (cell_data (cell_at row entry.0)) found (cell_plain (cell_at row entry.0)) g)
+
+sheet_row_plain : (titles : List Title) (row : List Cell) → IsPlain 5 (sheet_row_data titles row)
+sheet_row_plain titles row =
+    let shallow = object_plain 0 (fold (put_cell row) no_members (enumerate_from 0 titles)) (cells_plain row no_members (enumerate_from 0 titles) (refl, omega arith)) in
+    (shallow.0, (let deep = shallow.1 in omega arith))
+
+pub sheet_plain : (sheet : Sheet) → IsPlain 6 (sheet_data sheet)
+unfolding sheet_data
+sheet_plain sheet = array_plain (sheet_row_data sheet.titles) 5 (sheet_row_plain sheet.titles) sheet.rows

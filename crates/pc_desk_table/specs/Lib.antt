@@ -4,3 +4,5 @@ pub mod Reading
 pub mod Json
 pub mod Remarks
 pub mod Lines
+pub mod Sheets
+pub mod Texts

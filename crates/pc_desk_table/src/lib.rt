@@ -14,10 +14,17 @@ mod names;
 mod padding;
 mod record;
 mod remarks;
+mod sheet;
+mod sheet_columns;
+mod sheet_texts;
 mod table;
+mod text;
 
 pub use entry::{End, Entry, Field, Group, Mark, Range, Repeated, Said, SaidLack, Value};
 pub use json_text::json_of;
-pub use laws::{tables_are_read_back, texts_fit_their_columns};
+pub use laws::{sheets_are_read_back, tables_are_read_back, texts_fit_their_columns};
 pub use lines::lines_of;
+pub use sheet::{Cell, Sheet, Title};
+pub use sheet_texts::{sheet_json, sheet_lines, sheet_table};
 pub use table::table_of;
+pub use text::shown;

@@ -1,4 +1,5 @@
 mod Budgets
 mod PlainWords
+mod Scales
 mod Tellings
 mod Verbs

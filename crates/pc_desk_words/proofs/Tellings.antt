@@ -26,12 +26,16 @@ module _ (words : List Text) where
   pub held_reads : (asked : Option Asked) (call : Call) → asked_of words ≡ asked → Holds asked call → Reads words call
   held_reads asked (calls.Ask call) e holds = e ∙ holds
   held_reads asked (calls.Session call) e holds = e ∙ holds
+  held_reads asked (calls.Trial call) e holds = e ∙ holds
+  held_reads asked (calls.Opens call) e holds = e ∙ holds
   held_reads asked (calls.Shows text) e holds = absurd holds
   held_reads asked (calls.Refused text) e holds = absurd holds
 
   pub refused_reads : asked_of words ≡ None → fault_of desk_app words ≡ [] → (call : Call) → IsRefusal call → Reads words call
   refused_reads missing none (calls.Ask call) refused = absurd refused
   refused_reads missing none (calls.Session call) refused = absurd refused
+  refused_reads missing none (calls.Trial call) refused = absurd refused
+  refused_reads missing none (calls.Opens call) refused = absurd refused
   refused_reads missing none (calls.Shows text) refused = absurd refused
   refused_reads missing none (calls.Refused text) refused = (missing, ap only_shows none)
 
@@ -67,6 +71,8 @@ module _ (words : List Text) (kind : ErrorKind) where
   pub told_reads : (kind ≡ OutOfMemory) ⊎ IsAmong kind (fault_of desk_app words) → (call : Call) → Tells kind call → Reads words call
   told_reads fails (calls.Ask call) tells = absurd tells
   told_reads fails (calls.Session call) tells = absurd tells
+  told_reads fails (calls.Trial call) tells = absurd tells
+  told_reads fails (calls.Opens call) tells = absurd tells
   told_reads (inl memory) (calls.Shows text) tells = absurd (true≢false (sym tells ∙ ap is_request memory))
   told_reads (inr among) (calls.Shows text) tells = (no_call kind (fault_of desk_app words) (subcommand_of desk_app words) among, shown kind (fault_of desk_app words) among tells)
   told_reads (inl memory) (calls.Refused text) tells = absurd (tells.1 memory)

@@ -2,13 +2,15 @@
 use Rattle.std.specs.Prelude.{◌≡◌, ◌≢◌, ◌≤◌, ⊤, ℕ, true, false, List, map, length, Option, Some, None}
 use Rattle.clap.specs.declared.error.kind.ErrorKind.{ErrorKind}
 use Rattle.clap.specs.declared.error.kind.ErrorKind.TheVariants.{OutOfMemory}
-use Rattle.pc_desk_words.specs.Words.{Asked, AskNames, FileNames, HeadNames, IsBudget, SessionNames, MayHelp, MayRefuse, ask, asked_of, is_request, session}
+use Rattle.pc_desk_words.specs.Words.{Asked, AskNames, FileNames, HeadNames, IsBudget, IsScale, OpensNames, SessionNames, TrialNames, MayHelp, MayRefuse, ask, asked_of, is_request, opens, session, trial}
 use Rattle.pc_desk_words.specs.declared.call.Ask.{Ask}
 use Rattle.pc_desk_words.specs.declared.call.Call.{Call}
 use Rattle.pc_desk_words.specs.declared.call.Call.TheVariants as calls
 use Rattle.pc_desk_words.specs.declared.call.Files.{Files}
 use Rattle.pc_desk_words.specs.declared.call.Head.{Head}
+use Rattle.pc_desk_words.specs.declared.call.Opens.{Opens}
 use Rattle.pc_desk_words.specs.declared.call.Session.{Session}
+use Rattle.pc_desk_words.specs.declared.call.Trial.{Trial}
 
 abbrev pub file_names : Files → FileNames
 file_names files = record { schema = files.schema.now; rows = files.rows.now; constraints = files.constraints.now }
@@ -24,10 +26,18 @@ abbrev pub session_names : Session → SessionNames
 session_names call =
     record { form = call.form; nodes = call.nodes; files = file_names call.files; script = call.script.now }
 
+abbrev pub trial_names : Trial → TrialNames
+trial_names call = record { form = call.form; scale = call.scale; files = file_names call.files }
+
+abbrev pub opens_names : Opens → OpensNames
+opens_names call = record { form = call.form; files = file_names call.files }
+
 -- what was found is this call
 abbrev pub Holds : Option Asked → Call → Type 0
 Holds asked (calls.Ask call) = asked ≡ Some (ask (ask_names call))
 Holds asked (calls.Session call) = asked ≡ Some (session (session_names call))
+Holds asked (calls.Trial call) = asked ≡ Some (trial (trial_names call))
+Holds asked (calls.Opens call) = asked ≡ Some (opens (opens_names call))
 Holds asked (calls.Shows text) = ⊥
 Holds asked (calls.Refused text) = ⊥
 
@@ -40,12 +50,16 @@ HoldsIf asked (Some call) = Holds asked call
 abbrev pub Tells : ErrorKind → Call → Type 0
 Tells kind (calls.Ask call) = ⊥
 Tells kind (calls.Session call) = ⊥
+Tells kind (calls.Trial call) = ⊥
+Tells kind (calls.Opens call) = ⊥
 Tells kind (calls.Shows text) = is_request kind ≡ true
 Tells kind (calls.Refused text) = (is_request kind ≡ false) × (kind ≢ OutOfMemory)
 
 abbrev pub IsRefusal : Call → Type 0
 IsRefusal (calls.Ask call) = ⊥
 IsRefusal (calls.Session call) = ⊥
+IsRefusal (calls.Trial call) = ⊥
+IsRefusal (calls.Opens call) = ⊥
 IsRefusal (calls.Shows text) = ⊥
 IsRefusal (calls.Refused text) = ⊤
 
@@ -53,6 +67,8 @@ IsRefusal (calls.Refused text) = ⊤
 abbrev pub Reads : List (List ℕ) → Call → Type 0
 Reads words (calls.Ask call) = asked_of words ≡ Some (ask (ask_names call))
 Reads words (calls.Session call) = asked_of words ≡ Some (session (session_names call))
+Reads words (calls.Trial call) = asked_of words ≡ Some (trial (trial_names call))
+Reads words (calls.Opens call) = asked_of words ≡ Some (opens (opens_names call))
 Reads words (calls.Shows text) = (asked_of words ≡ None) × MayHelp words
 Reads words (calls.Refused text) = (asked_of words ≡ None) × MayRefuse words
 
@@ -60,5 +76,7 @@ Reads words (calls.Refused text) = (asked_of words ≡ None) × MayRefuse words
 abbrev pub HasBudget : Call → Type 0
 HasBudget (calls.Ask call) = IsBudget call.nodes × (1 ≤ length call.queries.items)
 HasBudget (calls.Session call) = IsBudget call.nodes
+HasBudget (calls.Trial call) = IsScale call.scale
+HasBudget (calls.Opens call) = ⊤
 HasBudget (calls.Shows text) = ⊤
 HasBudget (calls.Refused text) = ⊤

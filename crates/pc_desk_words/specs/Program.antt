@@ -31,6 +31,15 @@ nodes_rule = record (new_rule (codes "nodes")) {
   defaults = codes "10000" ∷ [];
 }
 
+-- which factor a text spells is told by `scale_of`
+abbrev pub scale_rule : Rule
+scale_rule = record (new_rule (codes "scale")) {
+  long = Some (codes "scale");
+  value_names = 1;
+  parser = Some parsers.String;
+  defaults = codes "1" ∷ [];
+}
+
 -- a word that has to be there
 abbrev pub file_rule : Text → Rule
 file_rule id = record (new_rule id) { value_names = 1; required = true }
@@ -43,20 +52,15 @@ query_rule = record (new_rule (codes "query")) {
   required = true;
 }
 
--- the options of both verbs
-abbrev pub with_options : App → ValueParser → App
-with_options app forms = with_rule (with_rule app (form_rule forms)) nodes_rule
+abbrev pub with_both : App → Rule → Rule → App
+with_both app first second = with_rule (with_rule app first) second
 
--- the first two of their files
-abbrev pub with_rows : App → App
-with_rows app = with_rule (with_rule app (file_rule (codes "schema"))) (file_rule (codes "rows"))
-
--- the third, and what stands last
-abbrev pub with_ends : App → Rule → App
-with_ends app last = with_rule (with_rule app (file_rule (codes "constraints"))) last
-
+-- the options and files of `ask` and `session`, and what stands last
 abbrev pub with_words : App → ValueParser → Rule → App
-with_words app forms last = with_ends (with_rows (with_options app forms)) last
+with_words app forms last =
+    with_both (with_both (with_both app (form_rule forms) nodes_rule)
+    (file_rule (codes "schema")) (file_rule (codes "rows")))
+    (file_rule (codes "constraints")) last
 
 abbrev pub verb : ValueParser → Text → Rule → Shape
 verb forms name last = (with_words (new_app name) forms last).top
@@ -66,6 +70,17 @@ ask_verb forms = verb forms (codes "ask") query_rule
 
 abbrev pub session_verb : ValueParser → Shape
 session_verb forms = verb forms (codes "session") (file_rule (codes "script"))
+
+abbrev pub try_verb : ValueParser → Shape
+try_verb forms =
+    (with_both (with_rule (with_both (new_app (codes "try")) (form_rule forms) scale_rule)
+    (file_rule (codes "schema")))
+    (file_rule (codes "constraints")) (file_rule (codes "rows"))).top
+
+abbrev pub opens_verb : ValueParser → Shape
+opens_verb forms =
+    (with_both (with_rule (new_app (codes "opens")) (form_rule forms))
+    (file_rule (codes "schema")) (file_rule (codes "constraints"))).top
 
 -- a verb has to be named, and without a word help is told
 abbrev pub desk_shape : Shape
@@ -77,9 +92,10 @@ desk_shape = record (new_shape (codes "pc_desk")) {
   arg_required_else_help = true;
 }
 
-abbrev pub desk_with : ValueParser → App
-desk_with forms = record { top = desk_shape; subs = ask_verb forms ∷ session_verb forms ∷ [] }
+-- by what the forms of `ask` and `session` may be, and those of `try` and `opens`
+abbrev pub desk_with : ValueParser → ValueParser → App
+desk_with forms sheets = record { top = desk_shape; subs = ask_verb forms ∷ session_verb forms ∷ try_verb sheets ∷ opens_verb sheets ∷ [] }
 
--- any text may stand as a form here: which it names is told by `form_named`
+-- any text may stand as a form here: which it names is told by `form_named` and `sheet_form_named`
 abbrev pub desk_app : App
-desk_app = desk_with parsers.String
+desk_app = desk_with parsers.String parsers.String

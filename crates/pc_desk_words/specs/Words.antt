@@ -1,15 +1,19 @@
 -- Which words are a call.
-use Rattle.std.specs.Prelude.{◌≡◌, ℕ, ◌≤◌, nat_le, ◌&&◌, ◌==◌, not, Bool, true, false, List, [], ◌∷◌, codes, bytes_eq, Option, Some, None, option_map, option_and_then, if◌then◌else◌}
+use Rattle.std.specs.Prelude.{◌≡◌, ℕ, ◌≤◌, nat_le, ◌&&◌, ◌==◌, not, ℤ, pos, int_le, unsigned_abs, Bool, true, false, List, [], ◌∷◌, codes, bytes_eq, Option, Some, None, option_map, option_and_then, if◌then◌else◌}
 use Rattle.std.specs.List.{list_all, list_any}
+use Rattle.std.specs.Result.{result_ok}
 use Rattle.std.specs.Str.Parse.{digits_value, without_leading_plus}
 use Rattle.clap.specs.Walk.{Row, Text, all_of, first_of, is_empty}
 use Rattle.clap.specs.Words.{Kinds, fault_of, subcommand_of}
 use Rattle.clap.specs.ValueTests.{is_unsigned_in}
 use Rattle.clap.specs.declared.error.kind.ErrorKind.{ErrorKind}
 use Rattle.clap.specs.declared.error.kind.ErrorKind.TheVariants.{DisplayHelp, DisplayVersion}
+use Rattle.pc_num.specs.Scaled.{scaled_of}
 use Rattle.pc_desk_words.specs.Program.{desk_app, most_nodes}
 use Rattle.pc_desk_words.specs.declared.form.Form.{Form}
 use Rattle.pc_desk_words.specs.declared.form.Form.TheVariants as forms
+use Rattle.pc_desk_words.specs.declared.form.SheetForm.{SheetForm}
+use Rattle.pc_desk_words.specs.declared.form.SheetForm.TheVariants as sheets
 
 -- the names of the three files
 pub record FileNames : Type 0 where
@@ -31,10 +35,23 @@ pub record SessionNames : Type 0 where
   pub files : FileNames
   pub script : List ℕ
 
+-- of `try`: how what is found is shown, by what each number of rows is multiplied, in millionths, and the files
+pub record TrialNames : Type 0 where
+  pub form : SheetForm
+  pub scale : ℕ
+  pub files : FileNames
+
+-- of `opens`: how what is found is shown, and the files; there are no rows
+pub record OpensNames : Type 0 where
+  pub form : SheetForm
+  pub files : FileNames
+
 -- a verb with its values
 pub data Asked : Type 0 where
   ask : AskNames → Asked
   session : SessionNames → Asked
+  trial : TrialNames → Asked
+  opens : OpensNames → Asked
 
 -- ---- values
 
@@ -48,6 +65,14 @@ form_named name =
     else (if bytes_eq name (codes "svg") then Some forms.Picture
     else None))))
 
+-- the form that `--as` of `try` and of `opens` names
+abbrev pub sheet_form_named : List ℕ → Option SheetForm
+sheet_form_named name =
+    if bytes_eq name (codes "text") then Some sheets.Text
+    else (if bytes_eq name (codes "table") then Some sheets.Table
+    else (if bytes_eq name (codes "json") then Some sheets.Json
+    else None))
+
 -- the number of nodes that a text spells, as `clap` reads numbers: a `+` may lead it
 unfoldable pub budget_of : List ℕ → Option ℕ
 budget_of text = if is_unsigned_in 1 most_nodes text then Some (digits_value 10 (without_leading_plus text)) else None
@@ -55,6 +80,22 @@ budget_of text = if is_unsigned_in 1 most_nodes text then Some (digits_value 10 
 -- how many nodes each search may have where the words do not say it
 abbrev pub usual_nodes : ℕ
 usual_nodes = 10_000
+
+-- the greatest factor, in millionths
+abbrev pub most_scale : ℕ
+most_scale = 1_000_000_000_000
+
+-- a number of millionths, where it is one of a factor
+abbrev pub scale_within : ℤ → Option ℕ
+scale_within number = if int_le (pos 1) number && int_le number (pos most_scale) then Some (unsigned_abs number) else None
+
+-- the factor that a text spells, in millionths
+unfoldable pub scale_of : List ℕ → Option ℕ
+scale_of text = option_and_then scale_within (result_ok (scaled_of 6 text))
+
+-- the factor where the words do not say it, which is 1
+abbrev pub usual_scale : ℕ
+usual_scale = 1_000_000
 
 -- begins with `-`
 abbrev pub is_dashed : List ℕ → Bool
@@ -67,7 +108,7 @@ within number = if nat_le 1 number && nat_le number most_nodes then Some number 
 
 -- ---- what was found of a verb
 
--- what both verbs have
+-- what `ask` and `session` have
 pub record HeadNames : Type 0 where
   pub form : Form
   pub nodes : ℕ
@@ -106,12 +147,38 @@ with_script head script = record { form = head.form; nodes = head.nodes; files =
 abbrev pub session_in : List Row → Option SessionNames
 session_in found = option_and_then (λ head. option_map (with_script head) (first_of (codes "script") found)) (head_in found)
 
+abbrev pub sheet_form_in : List Row → Option SheetForm
+sheet_form_in found = option_and_then sheet_form_named (first_of (codes "as") found)
+
+abbrev pub scale_in : List Row → Option ℕ
+scale_in found = option_and_then scale_of (first_of (codes "scale") found)
+
+abbrev pub with_scale : SheetForm → ℕ → FileNames → TrialNames
+with_scale form scale files = record { form = form; scale = scale; files = files }
+
+abbrev pub trial_in : List Row → Option TrialNames
+trial_in found = option_and_then (λ form. option_and_then (λ scale. option_map (with_scale form scale)
+    (files_in found)) (scale_in found)) (sheet_form_in found)
+
+-- the files where no rows are named
+abbrev pub rowless_files_in : List Row → Option FileNames
+rowless_files_in found = option_and_then (λ schema. option_map (with_files schema [])
+    (first_of (codes "constraints") found)) (first_of (codes "schema") found)
+
+abbrev pub with_form : SheetForm → FileNames → OpensNames
+with_form form files = record { form = form; files = files }
+
+abbrev pub opens_in : List Row → Option OpensNames
+opens_in found = option_and_then (λ form. option_map (with_form form) (rowless_files_in found)) (sheet_form_in found)
+
 -- the verb of a name, by what was found of it
 abbrev pub asked_in : List ℕ → List Row → Option Asked
 asked_in name found =
     if bytes_eq name (codes "ask") then option_map ask (ask_in found)
     else (if bytes_eq name (codes "session") then option_map session (session_in found)
-    else None)
+    else (if bytes_eq name (codes "try") then option_map trial (trial_in found)
+    else (if bytes_eq name (codes "opens") then option_map opens (opens_in found)
+    else None)))
 
 abbrev pub asked_by : Option (Text × List Row) → Option Asked
 asked_by = option_and_then (λ (verb : Text × List Row). asked_in verb.0 verb.1)
@@ -153,3 +220,8 @@ MayRefuse words = only_shows (fault_of desk_app words) ≡ false
 pub record IsBudget (nodes : ℕ) : Type 0 where
   pub some : 1 ≤ nodes
   pub few : nodes ≤ most_nodes
+
+-- a factor that words may ask for, in millionths
+pub record IsScale (scale : ℕ) : Type 0 where
+  pub some : 1 ≤ scale
+  pub few : scale ≤ most_scale

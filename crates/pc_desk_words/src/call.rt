@@ -6,9 +6,10 @@ ghost use Rattle.pc_desk_words.specs.Calls.{HasBudget, IsRefusal, Reads, Tells};
 ghost use Rattle.pc_desk_words.specs.Program.{desk_app};
 ghost use Rattle.pc_desk_words.specs.Words.{is_request};
 
-use crate::form::Form;
+use crate::form::{Form, SheetForm};
 use crate::found::call_in;
 use crate::parser::{desk, strict_desk};
+use crate::texts;
 use clap::error::ErrorKind;
 use clap::{Command, Error};
 use pc_num::Memory;
@@ -40,18 +41,35 @@ pub struct Session<'a> {
     pub script: &'a str,
 }
 
+/// The verb `try`: how what is found is shown, by what each number of rows is multiplied, in millionths, and the files.
+#[derive(Clone, Copy, Debug)]
+pub struct Trial<'a> {
+    pub form: SheetForm,
+    pub scale: u64,
+    pub files: Files<'a>,
+}
+
+/// The verb `opens`: how what is found is shown, and the files, of which the rows have no name.
+#[derive(Clone, Copy, Debug)]
+pub struct Opens<'a> {
+    pub form: SheetForm,
+    pub files: Files<'a>,
+}
+
 /// What words come to.
 #[derive(Debug, Drop)]
 pub enum Call<'a> {
     Ask(Ask<'a>),
     Session(Session<'a>),
+    Trial(Trial<'a>),
+    Opens(Opens<'a>),
     /// The help or version that was asked for.
     Shows(String),
     /// What is wrong with the words, as `clap` tells it.
     Refused(String),
 }
 
-/// What both verbs have.
+/// What `ask` and `session` have.
 #[derive(Clone, Copy, Debug)]
 pub(crate) struct Head<'a> {
     pub form: Form,
@@ -75,7 +93,7 @@ fn read_by<'a>(alloc: Global, command: Command<'a>, words: &'a [String]) -> Resu
     match command.try_get_matches_from(words) {
         Ok(found) => match call_in(alloc, &found)? {
             Some(call) => Ok(call),
-            None => form_refused(alloc, words),
+            None => value_refused(alloc, words),
         },
         Err(error) => told(alloc, &error),
     }
@@ -102,13 +120,13 @@ fn text_of(alloc: Global, error: &Error) -> Result<String, Memory>
     Ok(format!(in alloc; "{error}")?)
 }
 
-/// What `clap` says of words whose form is none: it takes no others in which something of a call is missing.
-fn form_refused<'a>(alloc: Global, words: &'a [String]) -> Result<Call<'a>, Memory>
+/// What is said of words whose form or factor is none. Of a form `clap` tells a near one; a factor it takes as any text.
+fn value_refused<'a>(alloc: Global, words: &'a [String]) -> Result<Call<'a>, Memory>
     ensures refuses { IfOk result IsRefusal }
     ensures numbers { IfOk result HasBudget }
 {
     match strict_desk(alloc)?.try_get_matches_from(words) {
-        Ok(_) => Ok(Call::Refused(String::new(alloc))),
+        Ok(_) => Ok(Call::Refused(String::from_str(alloc, texts::NO_SCALE)?)),
         Err(error) => Ok(Call::Refused(text_of(alloc, &error)?)),
     }
 }

@@ -1,5 +1,5 @@
 ghost use Rattle.std.specs.Prelude.{◌≡◌};
-ghost use Rattle.pc_desk_words.specs.Words.{form_named};
+ghost use Rattle.pc_desk_words.specs.Words.{form_named, sheet_form_named};
 
 /// How answers are shown.
 #[derive(Clone, Copy, Debug, PartialEq, Eq)]
@@ -9,6 +9,14 @@ pub enum Form {
     Json,
     Chart,
     Picture,
+}
+
+/// How a table of findings is shown.
+#[derive(Clone, Copy, Debug, PartialEq, Eq)]
+pub enum SheetForm {
+    Text,
+    Table,
+    Json,
 }
 
 impl Form {
@@ -22,6 +30,20 @@ impl Form {
             "json" => Some(Form::Json),
             "chart" => Some(Form::Chart),
             "svg" => Some(Form::Picture),
+            _ => None,
+        }
+    }
+}
+
+impl SheetForm {
+    /// The form that `--as` of `try` and of `opens` names.
+    pub(crate) fn named(name: &str) -> Option<SheetForm>
+        ensures { result ≡ sheet_form_named name.now }
+    {
+        match name {
+            "text" => Some(SheetForm::Text),
+            "table" => Some(SheetForm::Table),
+            "json" => Some(SheetForm::Json),
             _ => None,
         }
     }

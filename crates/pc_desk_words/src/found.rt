@@ -2,18 +2,21 @@
 ghost use Rattle.std.specs.Prelude.{◌≡◌, ◌≤◌, map, length, IfOk, IfSome, option_map};
 ghost use Rattle.clap.specs.Words.{found_of, rows_of, subcommand_rows_of};
 ghost use Rattle.clap.specs.Walk.{all_of, first_of};
-ghost use Rattle.pc_desk_words.specs.Calls.{ask_names, file_names, head_names, session_names, HasBudget, HoldsIf};
-ghost use Rattle.pc_desk_words.specs.Words.{ask_in, asked_by, asked_in, asking, budget_of, files_in, form_in, head_in, nodes_in, session_in, within, IsBudget};
+ghost use Rattle.pc_desk_words.specs.Calls.{ask_names, file_names, head_names, opens_names, session_names, trial_names, HasBudget, HoldsIf};
+ghost use Rattle.pc_desk_words.specs.Words.{ask_in, asked_by, asked_in, asking, budget_of, files_in, form_in, head_in, nodes_in, opens_in, rowless_files_in, scale_in, scale_of, scale_within, session_in, sheet_form_in, trial_in, within, IsBudget, IsScale};
 
-use crate::call::{Ask, Call, Files, Head, Session};
-use crate::form::Form;
+use crate::call::{Ask, Call, Files, Head, Opens, Session, Trial};
+use crate::form::{Form, SheetForm};
 use clap::ArgMatches;
-use pc_num::Memory;
+use pc_num::{Memory, read_scaled};
 use std::alloc::Global;
 
 const MOST_NODES: u32 = 100_000;
 
-/// The call of the verb that was found, if its form is one and nothing is missing.
+/// In millionths.
+const MOST_SCALE: i64 = 1_000_000_000_000;
+
+/// The call of the verb that was found, if its form and its number are ones and nothing is missing.
 pub(crate) fn call_in<'a>(alloc: Global, found: &ArgMatches<'a>) -> Result<Option<Call<'a>>, Memory>
     ensures holds { IfOk result (HoldsIf (asked_by (subcommand_rows_of found.now))) }
     ensures numbers { IfOk result (λ call. IfSome call HasBudget) }
@@ -41,6 +44,8 @@ fn call_of<'a>(
     match name {
         "ask" => Ok(ask_in(alloc, found)?.map(Call::Ask)),
         "session" => Ok(session_in(found).map(Call::Session)),
+        "try" => Ok(trial_in(found).map(Call::Trial)),
+        "opens" => Ok(opens_in(found).map(Call::Opens)),
         _ => Ok(None),
     }
 }
@@ -89,6 +94,24 @@ fn session_in<'a>(found: &ArgMatches<'a>) -> Option<Session<'a>>
     })
 }
 
+fn trial_in<'a>(found: &ArgMatches<'a>) -> Option<Trial<'a>>
+    ensures reads { option_map trial_names result ≡ trial_in (rows_of (found_of found.now)) }
+    ensures numbers { IfSome result (λ trial. IsScale trial.scale) }
+{
+    let form = sheet_form_in(found)?;
+    let scale = scale_in(found)?;
+    let files = files_in(found)?;
+    Some(Trial { form, scale, files })
+}
+
+fn opens_in<'a>(found: &ArgMatches<'a>) -> Option<Opens<'a>>
+    ensures { option_map opens_names result ≡ opens_in (rows_of (found_of found.now)) }
+{
+    let form = sheet_form_in(found)?;
+    let files = rowless_files_in(found)?;
+    Some(Opens { form, files })
+}
+
 fn head_in<'a>(found: &ArgMatches<'a>) -> Option<Head<'a>>
     ensures reads { option_map head_names result ≡ head_in (rows_of (found_of found.now)) }
     ensures numbers { IfSome result (λ head. IsBudget head.nodes) }
@@ -112,10 +135,28 @@ fn files_in<'a>(found: &ArgMatches<'a>) -> Option<Files<'a>>
     })
 }
 
+fn rowless_files_in<'a>(found: &ArgMatches<'a>) -> Option<Files<'a>>
+    ensures { option_map file_names result ≡ rowless_files_in (rows_of (found_of found.now)) }
+{
+    let schema = text_in(found, "schema")?;
+    let constraints = text_in(found, "constraints")?;
+    Some(Files {
+        schema,
+        rows: "",
+        constraints,
+    })
+}
+
 fn form_in(found: &ArgMatches<'_>) -> Option<Form>
     ensures { result ≡ form_in (rows_of (found_of found.now)) }
 {
     Form::named(text_in(found, "as")?)
+}
+
+fn sheet_form_in(found: &ArgMatches<'_>) -> Option<SheetForm>
+    ensures { result ≡ sheet_form_in (rows_of (found_of found.now)) }
+{
+    SheetForm::named(text_in(found, "as")?)
 }
 
 #[tactic(auto, using(crate::proofs::Budgets::is_budget))]
@@ -142,6 +183,33 @@ fn within(number: u32) -> Option<u32>
         return None;
     }
     Some(number)
+}
+
+#[tactic(auto, using(crate::proofs::Scales::is_scale))]
+fn scale_in(found: &ArgMatches<'_>) -> Option<u64>
+    ensures reads { result ≡ scale_in (rows_of (found_of found.now)) }
+    ensures within { IfSome result IsScale }
+{
+    scale_of(text_in(found, "scale")?)
+}
+
+#[tactic(auto, unfolding(crate::specs::Words::scale_of))]
+fn scale_of(text: &str) -> Option<u64>
+    ensures { result ≡ scale_of text.now }
+{
+    match read_scaled(text.as_bytes(), 6) {
+        Ok(number) => scale_within(number),
+        Err(_) => None,
+    }
+}
+
+fn scale_within(number: i64) -> Option<u64>
+    ensures { result ≡ scale_within number }
+{
+    if number < 1 || MOST_SCALE < number {
+        return None;
+    }
+    Some(number.unsigned_abs())
 }
 
 /// The value of an option, or a word that is one.

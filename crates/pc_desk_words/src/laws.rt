@@ -1,7 +1,8 @@
 ghost use Rattle.std.specs.Prelude.{◌≡◌, ◌<◌, ◌∷◌, [], ℕ, List, All, Some, codes, false, length};
 ghost use Rattle.pc_desk_words.specs.Program.{most_queries};
-ghost use Rattle.pc_desk_words.specs.Words.{ask, asked_of, is_dashed, session, usual_nodes, with_files};
+ghost use Rattle.pc_desk_words.specs.Words.{ask, asked_of, is_dashed, opens, session, trial, usual_nodes, usual_scale, with_files};
 ghost use Rattle.pc_desk_words.specs.declared.form.Form.TheVariants.{Text};
+ghost use Rattle.pc_desk_words.specs.declared.form.SheetForm.TheVariants as sheets;
 
 /// After `ask`, words of which none begins with `-` are the three files and the queries, as they stand: from one to
 /// sixteen, answered as text, with the usual number of nodes.
@@ -12,4 +13,14 @@ pub fn plain_words_are_asked()
 /// After `session`, four such words are the three files and the script.
 pub fn plain_words_are_a_session()
     ensures { (schema rows constraints script : List ℕ) → All (λ word. is_dashed word ≡ false) (schema ∷ rows ∷ constraints ∷ script ∷ []) → asked_of (codes "session" ∷ schema ∷ rows ∷ constraints ∷ script ∷ []) ≡ Some (session (record { form = Text; nodes = usual_nodes; files = with_files schema rows constraints; script = script })) }
+{}
+
+/// After `try`, three such words are the schema, the constraints and the rows, shown as text, with the factor 1.
+pub fn plain_words_are_a_trial()
+    ensures { (schema constraints rows : List ℕ) → All (λ word. is_dashed word ≡ false) (schema ∷ constraints ∷ rows ∷ []) → asked_of (codes "try" ∷ schema ∷ constraints ∷ rows ∷ []) ≡ Some (trial (record { form = sheets.Text; scale = usual_scale; files = with_files schema rows constraints })) }
+{}
+
+/// After `opens`, two such words are the schema and the constraints, shown as text.
+pub fn plain_words_ask_what_opens()
+    ensures { (schema constraints : List ℕ) → All (λ word. is_dashed word ≡ false) (schema ∷ constraints ∷ []) → asked_of (codes "opens" ∷ schema ∷ constraints ∷ []) ≡ Some (opens (record { form = sheets.Text; files = with_files schema [] constraints })) }
 {}

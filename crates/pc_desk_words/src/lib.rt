@@ -8,6 +8,9 @@ mod laws;
 mod parser;
 mod texts;
 
-pub use call::{Ask, Call, Files, Session, read_call};
-pub use form::Form;
-pub use laws::{plain_words_are_a_session, plain_words_are_asked};
+pub use call::{Ask, Call, Files, Opens, Session, Trial, read_call};
+pub use form::{Form, SheetForm};
+pub use laws::{
+    plain_words_are_a_session, plain_words_are_a_trial, plain_words_are_asked,
+    plain_words_ask_what_opens,
+};

@@ -1,8 +1,8 @@
-ghost use Rattle.std.specs.Prelude.{◌≡◌, [], false, true, pos, IfOk};
+ghost use Rattle.std.specs.Prelude.{◌≡◌, ◌∷◌, [], false, true, pos, codes, IfOk};
 ghost use Rattle.clap.specs.Words.{app_of, rule_of};
 ghost use Rattle.clap.specs.declared.builder.command.Command.TheViews.{out-Command};
 ghost use Rattle.clap.specs.declared.builder.value_parser.ValueParser.TheVariants.{Signed};
-ghost use Rattle.pc_desk_words.specs.Program.{ask_verb, desk_app, desk_shape, desk_with, file_rule, form_rule, most_nodes, nodes_rule, query_rule, session_verb, with_ends, with_options, with_rows, with_words};
+ghost use Rattle.pc_desk_words.specs.Program.{ask_verb, desk_app, desk_shape, desk_with, file_rule, form_rule, most_nodes, nodes_rule, opens_verb, query_rule, scale_rule, session_verb, try_verb, with_both, with_words};
 
 use crate::texts;
 use clap::builder::ValueParser;
@@ -11,20 +11,40 @@ use std::alloc::{AllocError, Global};
 
 const FORMS: &[&str] = &["text", "table", "json", "chart", "svg"];
 
+/// The forms of `try` and `opens`.
+const SHEET_FORMS: &[&str] = &["text", "table", "json"];
+
 /// The program that takes any text as a form.
 pub(crate) fn desk<'a>(alloc: Global) -> Result<Command<'a>, AllocError>
     ensures { IfOk result (λ command. app_of command ≡ desk_app) }
 {
-    desk_with(alloc, ValueParser::String)
+    desk_with(alloc, ValueParser::String, ValueParser::String)
 }
 
 /// The program that takes the forms that there are, and tells a near one of any other.
 pub(crate) fn strict_desk<'a>(alloc: Global) -> Result<Command<'a>, AllocError> {
-    desk_with(alloc, ValueParser::Names(FORMS))
+    desk_with(
+        alloc,
+        ValueParser::Names(FORMS),
+        ValueParser::Names(SHEET_FORMS),
+    )
 }
 
-fn desk_with<'a>(alloc: Global, forms: ValueParser<'a>) -> Result<Command<'a>, AllocError>
-    ensures { IfOk result (λ command. app_of command ≡ desk_with forms.entry) }
+fn desk_with<'a>(
+    alloc: Global,
+    forms: ValueParser<'a>,
+    sheets: ValueParser<'a>,
+) -> Result<Command<'a>, AllocError>
+    ensures { IfOk result (λ command. app_of command ≡ desk_with forms.entry sheets.entry) }
+{
+    answering_desk(alloc, forms)?
+        .subcommand(trial(alloc, sheets)?)?
+        .subcommand(opens(alloc, sheets)?)
+}
+
+/// With the verbs that answer questions.
+fn answering_desk<'a>(alloc: Global, forms: ValueParser<'a>) -> Result<Command<'a>, AllocError>
+    ensures { IfOk result (λ command. app_of command ≡ record { top = desk_shape; subs = ask_verb forms.entry ∷ session_verb forms.entry ∷ [] }) }
 {
     bare_desk(alloc)?
         .subcommand(ask(alloc, forms)?)?
@@ -67,7 +87,30 @@ fn session<'a>(alloc: Global, forms: ValueParser<'a>) -> Result<Command<'a>, All
     with_words(alloc, command, forms, script)
 }
 
-/// The options and files of both verbs, and what stands last.
+fn trial<'a>(alloc: Global, forms: ValueParser<'a>) -> Result<Command<'a>, AllocError>
+    ensures app { IfOk result (λ command. app_of command ≡ record { top = try_verb forms.entry; subs = [] }) }
+    ensures local { IfOk result (λ command. (out-Command command).has_globals ≡ false) }
+{
+    let command = Command::new(alloc, "try")
+        .about(texts::TRY_ABOUT)
+        .after_help(texts::TRY_AFTER);
+    let command = with_both(command, form(alloc, forms, texts::SHEET_AS), scale(alloc))?;
+    let command = command.arg(schema(alloc))?;
+    with_both(command, constraints(alloc), rows(alloc, texts::TRY_ROWS))
+}
+
+fn opens<'a>(alloc: Global, forms: ValueParser<'a>) -> Result<Command<'a>, AllocError>
+    ensures app { IfOk result (λ command. app_of command ≡ record { top = opens_verb forms.entry; subs = [] }) }
+    ensures local { IfOk result (λ command. (out-Command command).has_globals ≡ false) }
+{
+    let command = Command::new(alloc, "opens")
+        .about(texts::OPENS_ABOUT)
+        .after_help(texts::OPENS_AFTER);
+    let command = command.arg(form(alloc, forms, texts::SHEET_AS))?;
+    with_both(command, schema(alloc), constraints(alloc))
+}
+
+/// The options and files of `ask` and `session`, and what stands last.
 fn with_words<'a>(
     alloc: Global,
     command: Command<'a>,
@@ -78,47 +121,24 @@ fn with_words<'a>(
     ensures app { IfOk result (λ r. app_of r ≡ with_words (app_of command.entry) forms.entry (rule_of last.entry)) }
     ensures local { IfOk result (λ r. (out-Command r).has_globals ≡ false) }
 {
-    let command = with_options(alloc, command, forms)?;
-    let command = with_rows(alloc, command)?;
-    with_ends(alloc, command, last)
+    let command = with_both(command, form(alloc, forms, texts::AS), nodes(alloc))?;
+    let command = with_both(command, schema(alloc), rows(alloc, texts::ROWS))?;
+    with_both(command, constraints(alloc), last)
 }
 
-fn with_options<'a>(
-    alloc: Global,
+fn with_both<'a>(
     command: Command<'a>,
-    forms: ValueParser<'a>,
+    first: Arg<'a>,
+    second: Arg<'a>,
 ) -> Result<Command<'a>, AllocError>
-    requires { (out-Command command).has_globals ≡ false }
-    ensures app { IfOk result (λ r. app_of r ≡ with_options (app_of command.entry) forms.entry) }
+    requires { ((out-Command command).has_globals ≡ false) × (first.global ≡ false) × (second.global ≡ false) }
+    ensures app { IfOk result (λ r. app_of r ≡ with_both (app_of command.entry) (rule_of first.entry) (rule_of second.entry)) }
     ensures local { IfOk result (λ r. (out-Command r).has_globals ≡ false) }
 {
-    command.arg(form(alloc, forms))?.arg(nodes(alloc))
+    command.arg(first)?.arg(second)
 }
 
-fn with_rows<'a>(alloc: Global, command: Command<'a>) -> Result<Command<'a>, AllocError>
-    requires { (out-Command command).has_globals ≡ false }
-    ensures app { IfOk result (λ r. app_of r ≡ with_rows (app_of command.entry)) }
-    ensures local { IfOk result (λ r. (out-Command r).has_globals ≡ false) }
-{
-    let schema = file(alloc, "schema", "SCHEMA", texts::SCHEMA);
-    let rows = file(alloc, "rows", "ROWS", texts::ROWS);
-    command.arg(schema)?.arg(rows)
-}
-
-fn with_ends<'a>(
-    alloc: Global,
-    command: Command<'a>,
-    last: Arg<'a>,
-) -> Result<Command<'a>, AllocError>
-    requires { ((out-Command command).has_globals ≡ false) × (last.global ≡ false) }
-    ensures app { IfOk result (λ r. app_of r ≡ with_ends (app_of command.entry) (rule_of last.entry)) }
-    ensures local { IfOk result (λ r. (out-Command r).has_globals ≡ false) }
-{
-    let constraints = file(alloc, "constraints", "CONSTRAINTS", texts::CONSTRAINTS);
-    command.arg(constraints)?.arg(last)
-}
-
-fn form<'a>(alloc: Global, forms: ValueParser<'a>) -> Arg<'a>
+fn form<'a>(alloc: Global, forms: ValueParser<'a>, help: &'a str) -> Arg<'a>
     ensures rule { rule_of result ≡ form_rule forms.entry }
     ensures local { result.global ≡ false }
 {
@@ -127,7 +147,7 @@ fn form<'a>(alloc: Global, forms: ValueParser<'a>) -> Arg<'a>
         .value_name("FORM")
         .value_parser(forms)
         .default_value("text")
-        .help(texts::AS)
+        .help(help)
 }
 
 fn nodes<'a>(alloc: Global) -> Arg<'a>
@@ -146,6 +166,39 @@ fn numbers<'a>() -> ValueParser<'a>
     ensures { result ≡ Signed (pos 1) (pos most_nodes) }
 {
     value_parser!(u32).range(1..=100_000)
+}
+
+fn scale<'a>(alloc: Global) -> Arg<'a>
+    ensures rule { rule_of result ≡ scale_rule }
+    ensures local { result.global ≡ false }
+{
+    Arg::new(alloc, "scale")
+        .long("scale")
+        .value_name("FACTOR")
+        .value_parser(ValueParser::String)
+        .default_value("1")
+        .help(texts::SCALE)
+}
+
+fn schema<'a>(alloc: Global) -> Arg<'a>
+    ensures rule { rule_of result ≡ file_rule (codes "schema") }
+    ensures local { result.global ≡ false }
+{
+    file(alloc, "schema", "SCHEMA", texts::SCHEMA)
+}
+
+fn rows<'a>(alloc: Global, help: &'a str) -> Arg<'a>
+    ensures rule { rule_of result ≡ file_rule (codes "rows") }
+    ensures local { result.global ≡ false }
+{
+    file(alloc, "rows", "ROWS", help)
+}
+
+fn constraints<'a>(alloc: Global) -> Arg<'a>
+    ensures rule { rule_of result ≡ file_rule (codes "constraints") }
+    ensures local { result.global ≡ false }
+{
+    file(alloc, "constraints", "CONSTRAINTS", texts::CONSTRAINTS)
 }
 
 fn file<'a>(alloc: Global, id: &'a str, name: &'a str, help: &'a str) -> Arg<'a>

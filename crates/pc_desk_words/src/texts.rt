@@ -5,56 +5,107 @@ pub(crate) const ABOUT: &str = "What a query can come to where rows of a table a
 pub(crate) const AFTER: &str =
     "'pc_desk help ask' and 'pc_desk ask --help' say how a verb is called.";
 
-pub(crate) const ASK_ABOUT: &str = "Answer queries: the range that each can lie in";
-
-pub(crate) const ASK_AFTER: &str = "\
+/// What stands below the help of a verb.
+macro_rules! after {
+    ($forms:literal, $statuses:literal, $refused:literal, $example:literal) => {
+        concat!(
+            "\
 Forms of --as:
   text   lines to read, columns aligned
-  table  CSV, a record for each answer
-  json   JSON, with the rows that reach each end
-  chart  bars of characters, for a terminal
-  svg    a picture
-
+",
+            $forms,
+            "
 Statuses:
-  0  all answers are settled
-  1  an end is only known from outside, or a line is undecided
-  2  the constraints are impossible
-  3  words, a file or a query are refused
+",
+            $statuses,
+            "  3  ",
+            $refused,
+            " are refused
   4  a file could not be read
   5  the answer could not be written
   6  memory ran out
 
 Example:
-  pc_desk ask --as table sales.schema sales.csv lost.pc 'sum(price) where day in 1..3' 'avg(price) group by branch'";
+  pc_desk ",
+            $example,
+        )
+    };
+}
+
+/// Below `ask` and `session`.
+macro_rules! after_answers {
+    ($refused:literal, $example:literal) => {
+        after!(
+            "  table  CSV, a record for each answer
+  json   JSON, with the rows that reach each end
+  chart  bars of characters, for a terminal
+  svg    a picture
+",
+            "  0  all answers are settled
+  1  an end is only known from outside, or a line is undecided
+  2  the constraints are impossible
+",
+            $refused,
+            $example
+        )
+    };
+}
+
+/// Below `try` and `opens`.
+macro_rules! after_findings {
+    ($statuses:literal, $example:literal) => {
+        after!(
+            "  table  the same as CSV
+  json   the same as JSON
+",
+            $statuses,
+            "words or a file",
+            $example
+        )
+    };
+}
+
+pub(crate) const ASK_ABOUT: &str = "Answer queries: the range that each can lie in";
+
+pub(crate) const ASK_AFTER: &str = after_answers!(
+    "words, a file or a query",
+    "ask --as table sales.schema sales.csv lost.pc 'sum(price) where day in 1..3' 'avg(price) group by branch'"
+);
 
 pub(crate) const SESSION_ABOUT: &str =
     "Answer the questions of a script that edits rows and constraints";
 
-pub(crate) const SESSION_AFTER: &str = "\
-Forms of --as:
-  text   lines to read, columns aligned
-  table  CSV, a record for each answer
-  json   JSON, with the rows that reach each end
-  chart  bars of characters, for a terminal
-  svg    a picture
+pub(crate) const SESSION_AFTER: &str = after_answers!(
+    "words, a file or a line",
+    "session --as json sales.schema sales.csv lost.pc edits.script"
+);
 
-Statuses:
-  0  all answers are settled
-  1  an end is only known from outside, or a line is undecided
-  2  the constraints are impossible
-  3  words, a file or a line are refused
-  4  a file could not be read
-  5  the answer could not be written
-  6  memory ran out
+pub(crate) const TRY_ABOUT: &str =
+    "Hold constraints against a table: what each speaks of in it, and what breaks it";
 
-Example:
-  pc_desk session --as json sales.schema sales.csv lost.pc edits.script";
+pub(crate) const TRY_AFTER: &str = after_findings!(
+    "  0  nothing is broken, and every number of rows is within its limits
+  1  a row breaks a constraint, or a number of rows is not within its limits
+",
+    "try --scale 0.05 sales.schema lost.pc history.csv"
+);
+
+pub(crate) const OPENS_ABOUT: &str =
+    "Show which rows the constraints let be lost, by which of them speak of the rows";
+
+pub(crate) const OPENS_AFTER: &str = after_findings!(
+    "  0  it is written
+",
+    "opens sales.schema lost.pc"
+);
 
 pub(crate) const SCHEMA: &str = "the schema file: a line for each column";
 
 pub(crate) const ROWS: &str = "the row file (CSV): the rows that are left";
 
 pub(crate) const CONSTRAINTS: &str = "the constraint file: what the lost rows could have been";
+
+pub(crate) const TRY_ROWS: &str = "the row file (CSV) of a table that should keep the constraints";
 
 pub(crate) const QUERY: &str = "\
 what is asked, such as 'sum(price) where day in 1..3', 'avg(price) group by branch', 'median(price)'";
@@ -64,3 +115,14 @@ pub(crate) const SCRIPT: &str = "a script of edits and questions, a line each";
 pub(crate) const AS: &str = "how answers are shown: text, table, json, chart or svg";
 
 pub(crate) const NODES: &str = "how many nodes each search may have, 1 to 100000";
+
+pub(crate) const SHEET_AS: &str = "how what is found is shown: text, table or json";
+
+pub(crate) const SCALE: &str = "what each number of rows is multiplied by, 0.000001 to 1000000";
+
+/// Said of a factor that is none, as `clap` says it of a value.
+pub(crate) const NO_SCALE: &str = "\
+error: invalid value for '--scale <FACTOR>': a decimal from 0.000001 to 1000000 with at most six decimals
+
+For more information, try '--help'.
+";

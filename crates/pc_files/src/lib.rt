@@ -14,8 +14,8 @@ pub use kept::Kept;
 pub use line::{fault_line, malformed_line};
 pub use loading::{load_bytes, load_constraints, load_rows, load_schema, load_script};
 pub use reading::{
-    Listing, Observed, Script, Scripted, read_listing, read_observed, read_observed_keeping,
-    read_queries, read_scripted, read_scripted_keeping,
+    Listing, Observed, Script, Scripted, read_listing, read_listing_keeping, read_observed,
+    read_observed_keeping, read_queries, read_scripted, read_scripted_keeping,
 };
 pub use reply::{Ending, Reply, put_reply};
 pub use stop::Stop;

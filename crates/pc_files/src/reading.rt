@@ -97,9 +97,25 @@ pub fn read_listing<F: Shelf>(
     ensures read { ReadsListing (reading_of F.told F.leads files.old files.new) schema.now constraints.now result }
     ensures sound { IfOk result IsShowable }
 {
-    let mut last = Seq::new(alloc);
-    let schema = load_schema(alloc, files, schema, &mut last)?;
-    let constraints = load_constraints(alloc, files, constraints, &schema, &mut last)?;
+    let mut kept = Kept::new(alloc);
+    read_listing_keeping(alloc, files, schema, constraints, &mut kept)
+}
+
+/// The same, and keeps the bytes that explain a refusal.
+pub fn read_listing_keeping<F: Shelf>(
+    alloc: Global,
+    files: &mut F,
+    schema: &str,
+    constraints: &str,
+    kept: &mut Kept,
+) -> Result<Listing, Stop>
+    ensures read { ReadsListing (reading_of F.told F.leads files.old files.new) schema.now constraints.now result }
+    ensures sound { IfOk result IsShowable }
+    ensures kept { (rows script : List ℕ) → KeptFrom (F.told files.old).files (names_of schema.now rows constraints.now script) kept.new result }
+{
+    let schema = load_schema(alloc, files, schema, &mut kept.last)?;
+    kept.set_schema_apart(alloc);
+    let constraints = load_constraints(alloc, files, constraints, &schema, &mut kept.last)?;
     Ok(Listing {
         schema,
         constraints,

@@ -1,7 +1,7 @@
-use Rattle.std.proofs.Common.{inl, inr, map, string_bytes, refl}
+use Rattle.std.proofs.Common.{inl}
 use Rattle.std.proofs.lemmas.Result.{IfOk-weaker}
-use Rattle.pc_desk_words.specs.Calls.{ask_names, session_names}
-use Rattle.pc_desk_words.specs.Words.{ask, session}
+use Rattle.pc_desk_words.specs.Calls.{ask_names, opens_names, session_names, trial_names}
+use Rattle.pc_desk_words.specs.Words.{ask, opens, session, trial}
 use Rattle.pc_desk_run.proofs.reply.respond.Goals as goal
 
 pub reply_to_ask-requires : goal.reply_to_ask-requires
@@ -19,3 +19,16 @@ pub returns-in-Session : goal.returns-in-Session
 returns-in-Session g c =
     let reads = rw c.in-Session.is at c.in_ok-call.ensures.reads in
     record { responds = IfOk-weaker c.reply_to_session.result _ _ (λ reply replies. inl (session (session_names c.in-Session.session), reads, replies)) c.reply_to_session.ensures }
+
+pub reply_to_trial-requires : goal.reply_to_trial-requires
+reply_to_trial-requires g c = rw c.in-Trial.is at c.in_ok-call.ensures.numbers
+
+pub returns-in-Trial : goal.returns-in-Trial
+returns-in-Trial g c =
+    let reads = rw c.in-Trial.is at c.in_ok-call.ensures.reads in
+    record { responds = IfOk-weaker c.reply_to_trial.result _ _ (λ reply replies. inl (trial (trial_names c.in-Trial.trial), reads, replies)) c.reply_to_trial.ensures }
+
+pub returns-in-Opens : goal.returns-in-Opens
+returns-in-Opens g c =
+    let reads = rw c.in-Opens.is at c.in_ok-call.ensures.reads in
+    record { responds = IfOk-weaker c.reply_to_opens.result _ _ (λ reply replies. inl (opens (opens_names c.in-Opens.opens), reads, replies)) c.reply_to_opens.ensures }

@@ -1,13 +1,16 @@
 use Rattle.serde_json.specs.View.{view}
+use Rattle.pc_desk_table.specs.Json.{data_of, json_text}
 use Rattle.pc_desk_table.proofs.JsonBack.{text_is, text_reads}
+use Rattle.pc_desk_table.proofs.Shallow.{data_plain}
 use Rattle.pc_desk_table.proofs.json_text.json_of.Goals as goal
 
 pub returns-clause-text : goal.returns-clause-text
+unfolding json_text
 returns-clause-text c =
-    text_is c.in_ok-text.text.items c.push.new.self.items (view c.in_ok-data.data) c.args.entries.now c.in_ok-data.ensures c.in_ok-push.ensures.items
+    text_is c.in_ok-text.text.items c.push.new.self.items (view c.in_ok-data.data) (data_of c.args.entries.now) c.in_ok-data.ensures (data_plain c.args.entries.now) c.in_ok-push.ensures.items
     c.in_ok-text.ensures.text
 
 pub returns-clause-reads_back : goal.returns-clause-reads_back
 returns-clause-reads_back c =
-    text_reads c.in_ok-text.text.items c.push.new.self.items (view c.in_ok-data.data) c.args.entries.now c.in_ok-data.ensures c.in_ok-push.ensures.items
+    text_reads c.in_ok-text.text.items c.push.new.self.items (view c.in_ok-data.data) (data_of c.args.entries.now) c.in_ok-data.ensures (data_plain c.args.entries.now) c.in_ok-push.ensures.items
     c.in_ok-text.ensures.compact c.in_ok-text.ensures.order c.in_ok-text.ensures.reads_back

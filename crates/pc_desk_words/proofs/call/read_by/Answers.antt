@@ -22,7 +22,7 @@ returns-in-Ok-clause-reads c =
     let none = subst (λ app. fault_of app words ≡ []) c.requires (c.in-Ok.ensures.kinds (ap is_simple_and_free c.requires ∙ is_free_desk)) in
     let matches = subst (λ app. HasMatchesOf app words c.in-Ok.found) c.requires c.in-Ok.ensures.matches in
     let no = subst (HoldsIf (asked_by (subcommand_rows_of c.in-Ok.found))) c.in-None.is c.in_ok-call-in-Ok.ensures.holds in
-    IfOk-weaker c.form_refused.result _ _ (λ call refused. refused_reads words (asked_found words c.in-Ok.found matches none ∙ no) none call refused) c.form_refused.ensures.refuses
+    IfOk-weaker c.value_refused.result _ _ (λ call refused. refused_reads words (asked_found words c.in-Ok.found matches none ∙ no) none call refused) c.value_refused.ensures.refuses
 
 pub returns-clause-reads : goal.returns-clause-reads
 returns-clause-reads c =

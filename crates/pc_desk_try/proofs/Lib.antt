@@ -1,0 +1,5 @@
+pub mod Back
+pub mod Classes
+pub mod Counting
+pub mod Kept
+pub mod Members

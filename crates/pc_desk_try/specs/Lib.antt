@@ -1,0 +1,4 @@
+pub mod Opened
+pub mod Openings
+pub mod Shown
+pub mod Trials
