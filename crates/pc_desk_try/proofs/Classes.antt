@@ -1,7 +1,8 @@
--- The cells of the whole domain are the classes that constraints open.
-use Rattle.std.proofs.Common.{◌≡◌, ◌∙◌, ◌↔◌, ℕ, zero, suc, ◌+◌, ◌<◌, ◌==◌, Bool, true, false, cond, List, [], ◌∷◌, All, AllPairs, Contains, count_by, length, map, slice_index_or, refl, sym, ap, subst, arith, eqb-true, true≢false}
+-- The cells of the whole domain are the classes that constraints lets.
+use Rattle.std.proofs.Common.{◌≡◌, ◌∙◌, ◌↔◌, ℕ, zero, suc, ◌+◌, ◌<◌, ◌==◌, Bool, true, false, cond, List, [], ◌∷◌, All, AllPairs, Contains, count_by, filter, length, map, slice_index_or, refl, sym, ap, ap₂, subst, arith, eqb-true, true≢false}
 use Rattle.std.proofs.lemmas.Bool.{eq-eqb}
-use Rattle.std.proofs.lemmas.List.Elements.{All-contains, All-contains_itself, All-get_or, All-head, All-map, All-tail, All-weaker}
+use Rattle.std.proofs.lemmas.List.{get_or-map, length-map}
+use Rattle.std.proofs.lemmas.List.Elements.{All-contains, All-contains_itself, All-filter, All-get_or, All-head, All-map, All-tail, All-weaker, filter_passes}
 use Rattle.pc_model.specs.declared.constraint.Constraint.{Constraint}
 use Rattle.pc_model.specs.declared.region.Region.{Region}
 use Rattle.pc_model.specs.declared.row.Row.{Row}
@@ -12,15 +13,16 @@ use Rattle.pc_model.specs.Membership.{in_domain, is_in}
 use Rattle.pc_model.specs.Regions.{is_region_of, whole_area}
 use Rattle.pc_model.proofs.Areas.{in_whole_area}
 use Rattle.pc_model.proofs.Lists.{AllPairs-head, AllPairs-tail}
-use Rattle.pc_model.proofs.Tallies.{count_by-cons}
+use Rattle.pc_model.proofs.Tallies.{count_by-cons, count_by-skips}
 use Rattle.pc_box.specs.Boxes.{IsBox}
 use Rattle.pc_cells.specs.declared.cells.Cell.{Cell}
 use Rattle.pc_cells.specs.declared.cells.Cells.{Cells}
 use Rattle.pc_cells.specs.Found.{AreCellsFor, IsFilled, class_of_cell, leaf_at}
 use Rattle.pc_cells.proofs.Decomposed.{classes_of_cells}
 use Rattle.pc_cells_laws.proofs.Cells.{classes_of-differ}
+use Rattle.pc_desk_try.proofs.Room.{open_of_room, room_of_open}
 use Rattle.pc_desk_try.specs.declared.opening.Opening.{Opening}
-use Rattle.pc_desk_try.specs.Openings.{AreOpenings, CanBeLost, IsOpening, opening_of, opens_to}
+use Rattle.pc_desk_try.specs.Openings.{AreOpenings, CanBeLost, IsOpening, IsRowIn, is_open, is_open_cell, opening_of, openings_in, opens_to}
 
 -- ---- masks of classes that differ
 
@@ -70,12 +72,41 @@ one_at class (a ∷ classes) chosen pairs one (suc k) inside is =
     later_step a class classes (All-head IsChosen a classes chosen) one differ (a.mask == class.mask) refl
     (one_at class classes (All-tail IsChosen a classes chosen) (AllPairs-tail Differ a classes pairs) one k within is)
 
-counted : (mask : ℕ) (cells : List Cell) → count_by (λ (opening : Opening). opening.mask == mask) (map opening_of cells) ≡ with_mask mask (map class_of_cell cells)
+-- so many of the openings have this mask
+abbrev with_openings : ℕ → List Opening → ℕ
+with_openings mask openings = count_by (λ (opening : Opening). opening.mask == mask) openings
+
+counted : (mask : ℕ) (cells : List Cell) → with_openings mask (map opening_of cells) ≡ with_mask mask (map class_of_cell cells)
 counted mask [] = refl
 counted mask (cell ∷ cells) =
     count_by-cons (λ (opening : Opening). opening.mask == mask) (opening_of cell) (map opening_of cells)
     ∙ ap (λ (n : ℕ). cond (cell.mask == mask) 1 0 + n) (counted mask cells)
     ∙ sym (count_by-cons (λ (class : Class). class.mask == mask) (class_of_cell cell) (map class_of_cell cells))
+
+-- a class that has no room is one of no row that can be lost
+kept_step : (constraints : List Constraint) (mask : ℕ) → is_open constraints mask ≡ true → (cell : Cell) (kept cells : List Opening) → with_openings mask kept ≡ with_openings mask cells
+    → (test : Bool) → is_open constraints cell.mask ≡ test → with_openings mask (cond test (opening_of cell ∷ kept) kept) ≡ with_openings mask (opening_of cell ∷ cells)
+kept_step constraints mask lets cell kept cells same true is =
+    count_by-cons (λ (opening : Opening). opening.mask == mask) (opening_of cell) kept
+    ∙ ap (λ (n : ℕ). cond (cell.mask == mask) 1 0 + n) same ∙ sym (count_by-cons (λ (opening : Opening). opening.mask == mask) (opening_of cell) cells)
+kept_step constraints mask lets cell kept cells same false is = by (cell.mask == mask) refl
+  where
+    by : (test : Bool) → (cell.mask == mask) ≡ test → with_openings mask kept ≡ with_openings mask (opening_of cell ∷ cells)
+    by true here = absurd (true≢false (sym lets ∙ ap (is_open constraints) (sym (eqb-true cell.mask mask here)) ∙ is))
+    by false unlike = same ∙ sym (count_by-skips (λ (opening : Opening). opening.mask == mask) (opening_of cell) cells unlike)
+
+map_kept : (test : Bool) (cell : Cell) (cells : List Cell) → map opening_of (cond test (cell ∷ cells) cells) ≡ cond test (opening_of cell ∷ map opening_of cells) (map opening_of cells)
+map_kept true cell cells = refl
+map_kept false cell cells = refl
+
+kept_count : (constraints : List Constraint) (mask : ℕ) → is_open constraints mask ≡ true → (cells : List Cell) → with_openings mask (openings_in constraints cells) ≡ with_openings mask (map opening_of cells)
+kept_count constraints mask lets [] = refl
+kept_count constraints mask lets (cell ∷ cells) =
+    ap (with_openings mask) (map_kept (is_open constraints cell.mask) cell (filter (is_open_cell constraints) cells))
+    ∙ kept_step constraints mask lets cell (openings_in constraints cells) (map opening_of cells) (kept_count constraints mask lets cells) (is_open constraints cell.mask) refl
+
+abbrev class_with : ℕ → Bool → Class
+class_with mask chosen = record { mask = mask; chosen = chosen }
 
 -- ---- cells of the whole domain
 
@@ -103,31 +134,62 @@ module _ (schema : Schema) (constraints : List Constraint) (found : Cells) (is :
   all_chosen : All IsChosen classes
   all_chosen = All-weaker (Contains classes) IsChosen (λ class here. class_chosen class ((is.classes class).0 here)) classes (All-contains_itself classes)
 
-  one_class : (row : Row) → CanBeLost schema constraints row → count_by (opens_to constraints row) (map opening_of found.cells) ≡ 1
+  one_class : (row : Row) → CanBeLost schema constraints row → count_by (opens_to constraints row) (openings_in constraints found.cells) ≡ 1
   one_class row lost =
       let class = class_of constraints (whole_area schema) row in
       let there = (is.classes class).1 (row, record { allowed = lost.allowed; lawful = lost.lawful; of_class = refl }) in
-      counted (mask_of constraints row) found.cells
+      kept_count constraints (mask_of constraints row) (open_of_room constraints row lost.room) found.cells
+      ∙ counted (mask_of constraints row) found.cells
       ∙ one_at class classes all_chosen (subst (AllPairs Differ) (sym classes_are) (classes_of-differ leaves)) (row_chosen row lost.allowed) there.0 there.1 there.2
 
-  opening : (cell : Cell) → Contains found.cells cell → IsOpening schema constraints (opening_of cell)
-  opening cell here =
+  cell_chosen : (cell : Cell) → Contains found.cells cell → cell.chosen ≡ true
+  cell_chosen cell here =
+      let long = length-map found.cells class_of_cell in
+      let inside = here.1 in
+      let within : here.0 < length classes = omega (arith, long, inside) in
+      let same = get_or-map class_of_cell found.cells here.0 cell (class_of_cell cell) here.1 ∙ ap class_of_cell here.2 in
+      let there : Contains classes (class_of_cell cell) = (here.0, within, same) in
+      class_chosen (class_of_cell cell) ((is.classes (class_of_cell cell)).0 there)
+
+  -- a row of a cell that is open is one of its class, and the other way round
+  row_in : (cell : Cell) → is_open_cell constraints cell ≡ true → (row : Row) → IsRowOf schema constraints (whole_area schema) (class_of_cell cell) row → IsRowIn schema constraints (opening_of cell) row
+  row_in cell lets row of_row =
+      let same = ap (λ (c : Class). c.mask) of_row.of_class in (
+        record { allowed = of_row.allowed; lawful = of_row.lawful; room = room_of_open constraints row (ap (is_open constraints) same ∙ lets) },
+        eq-eqb cell.mask (mask_of constraints row) (sym same),
+      )
+
+  row_of : (cell : Cell) → Contains found.cells cell → (row : Row) → IsRowIn schema constraints (opening_of cell) row → IsRowOf schema constraints (whole_area schema) (class_of_cell cell) row
+  row_of cell here row within = record {
+    allowed = within.0.allowed;
+    lawful = within.0.lawful;
+    of_class = ap₂ (λ (mask : ℕ) (chosen : Bool). class_with mask chosen) (sym (eqb-true cell.mask (mask_of constraints row) within.1)) (row_chosen row within.0.allowed ∙ sym (cell_chosen cell here));
+  }
+
+  opening : (cell : Cell) → Contains found.cells cell → is_open_cell constraints cell ≡ true → IsOpening schema constraints (opening_of cell)
+  opening cell here lets =
       let filled = All-contains IsFilled found.cells cell is.filled here in
       let own = All-contains (λ (cell : Cell). All (λ (leaf : Region). is_region_of schema leaf ≡ true) cell.leaves) found.cells cell is.regions here in
       let rows = All-contains (λ (cell : Cell). (row : Row) → (IsRowOf schema constraints (whole_area schema) (class_of_cell cell) row ↔ IsInSome cell.leaves row)) found.cells cell is.rows here in
       record {
         region = All-get_or (λ (leaf : Region). is_region_of schema leaf ≡ true) cell.leaves 0 (record { sides = [] }) filled.some own;
         filled = All-get_or IsBox cell.leaves 0 (record { sides = [] }) filled.some filled.boxes;
-        rows = λ row inside. (
-            let of_row = (rows row).1 (0, leaf_at cell.leaves 0, filled.some, first_leaf cell.leaves filled.some, inside) in (
-              record { allowed = of_row.allowed; lawful = of_row.lawful },
-              eq-eqb cell.mask (mask_of constraints row) (sym (ap (λ (c : Class). c.mask) of_row.of_class)),
-            )
-            );
+        rows = λ row inside. row_in cell lets row ((rows row).1 (0, leaf_at cell.leaves 0, filled.some, first_leaf cell.leaves filled.some, inside));
+        boxes = cell.leaves;
+        count = refl;
+        whole = λ row. (λ within. (rows row).0 (row_of cell here row within), λ inside. row_in cell lets row ((rows row).1 inside));
       }
 
-  pub are_openings : AreOpenings schema constraints (map opening_of found.cells)
+  -- what holds of each cell that is lets
+  each_open : All (λ (cell : Cell). IsOpening schema constraints (opening_of cell)) (filter (is_open_cell constraints) found.cells)
+  each_open =
+      let all = All-filter (is_open_cell constraints) (λ (cell : Cell). is_open_cell constraints cell ≡ true → IsOpening schema constraints (opening_of cell)) found.cells
+      (All-weaker (Contains found.cells) (λ (cell : Cell). is_open_cell constraints cell ≡ true → IsOpening schema constraints (opening_of cell)) opening found.cells (All-contains_itself found.cells)) in
+      let passes = filter_passes (is_open_cell constraints) found.cells in
+      λ place cell there. all place cell there (passes place cell there)
+
+  pub are_openings : AreOpenings schema constraints (openings_in constraints found.cells)
   are_openings = record {
-    each = All-map (IsOpening schema constraints) opening_of found.cells (All-weaker (Contains found.cells) (λ (cell : Cell). IsOpening schema constraints (opening_of cell)) opening found.cells (All-contains_itself found.cells));
+    each = All-map (IsOpening schema constraints) opening_of (filter (is_open_cell constraints) found.cells) each_open;
     one = one_class;
   }

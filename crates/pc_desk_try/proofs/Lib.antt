@@ -3,3 +3,4 @@ pub mod Classes
 pub mod Counting
 pub mod Kept
 pub mod Members
+pub mod Room

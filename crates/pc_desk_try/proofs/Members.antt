@@ -23,20 +23,20 @@ use Rattle.pc_desk_try.proofs.Back.{HasCells}
 use Rattle.pc_desk_try.specs.declared.opening.Opening.{Opening}
 use Rattle.pc_desk_try.specs.Opened.{count_of_box, is_wanted, member_cells, member_row, member_rows, opening_rows, openings_sheet, query_shown, rows_if}
 
-module _ (mask : ℕ) (query : List ℕ) (constraints : List Constraint) (place : ℕ) (c : Constraint) (here : place < length constraints) where
-  member_more : member_rows mask query (take (place + 1) constraints) ≡ member_rows mask query (take place constraints) ++ member_row mask query (place, get_or constraints place c)
+module _ (opening : Opening) (query : List ℕ) (constraints : List Constraint) (place : ℕ) (c : Constraint) (here : place < length constraints) where
+  member_more : member_rows opening query (take (place + 1) constraints) ≡ member_rows opening query (take place constraints) ++ member_row opening query (place, get_or constraints place c)
   member_more =
-      ap (flat_map (member_row mask query)) (enumerate_more constraints place c here)
-      ∙ flat_map-append (member_row mask query) (enumerate_from 0 (take place constraints)) ((place, get_or constraints place c) ∷ [])
-      ∙ ap (λ (rows : List (List Cell)). member_rows mask query (take place constraints) ++ rows) (append-nil (member_row mask query (place, get_or constraints place c)))
+      ap (flat_map (member_row opening query)) (enumerate_more constraints place c here)
+      ∙ flat_map-append (member_row opening query) (enumerate_from 0 (take place constraints)) ((place, get_or constraints place c) ∷ [])
+      ∙ ap (λ (rows : List (List Cell)). member_rows opening query (take place constraints) ++ rows) (append-nil (member_row opening query (place, get_or constraints place c)))
 
-  pub member_in : has_bit mask place ≡ true → member_rows mask query (take (place + 1) constraints) ≡ member_rows mask query (take place constraints) ++ member_cells query (get_or constraints place c) ∷ []
-  member_in is = member_more ∙ ap (λ (test : Bool). member_rows mask query (take place constraints) ++ (if test then member_cells query (get_or constraints place c) ∷ [] else [])) is
+  pub member_in : has_bit opening.mask place ≡ true → member_rows opening query (take (place + 1) constraints) ≡ member_rows opening query (take place constraints) ++ member_cells opening.boxes query (get_or constraints place c) ∷ []
+  member_in is = member_more ∙ ap (λ (test : Bool). member_rows opening query (take place constraints) ++ (if test then member_cells opening.boxes query (get_or constraints place c) ∷ [] else [])) is
 
-  pub member_out : has_bit mask place ≡ false → member_rows mask query (take (place + 1) constraints) ≡ member_rows mask query (take place constraints)
+  pub member_out : has_bit opening.mask place ≡ false → member_rows opening query (take (place + 1) constraints) ≡ member_rows opening query (take place constraints)
   member_out is =
-      member_more ∙ ap (λ (test : Bool). member_rows mask query (take place constraints) ++ (if test then member_cells query (get_or constraints place c) ∷ [] else [])) is
-      ∙ append-nil (member_rows mask query (take place constraints))
+      member_more ∙ ap (λ (test : Bool). member_rows opening query (take place constraints) ++ (if test then member_cells opening.boxes query (get_or constraints place c) ∷ [] else [])) is
+      ∙ append-nil (member_rows opening query (take place constraints))
 
 -- ---- the query of a box
 
@@ -52,19 +52,19 @@ opening_queries_are_read_back schema region formed own = query_reads_back schema
 
 -- ---- the table is read back
 
-member_filled : (mask : ℕ) (query : List ℕ) (entries : List (ℕ × Constraint)) → All HasCells (flat_map (member_row mask query) entries)
-member_filled mask query [] = All-nil HasCells
-member_filled mask query (entry ∷ entries) = All-append HasCells (member_row mask query entry) (flat_map (member_row mask query) entries) (by (has_bit mask entry.0)) (member_filled mask query entries)
+member_filled : (opening : Opening) (query : List ℕ) (entries : List (ℕ × Constraint)) → All HasCells (flat_map (member_row opening query) entries)
+member_filled opening query [] = All-nil HasCells
+member_filled opening query (entry ∷ entries) = All-append HasCells (member_row opening query entry) (flat_map (member_row opening query) entries) (by (has_bit opening.mask entry.0)) (member_filled opening query entries)
   where
-    by : (test : Bool) → All HasCells (if test then member_cells query entry.1 ∷ [] else [])
-    by true = All-cons HasCells (member_cells query entry.1) [] (omega arith) (All-nil HasCells)
+    by : (test : Bool) → All HasCells (if test then member_cells opening.boxes query entry.1 ∷ [] else [])
+    by true = All-cons HasCells (member_cells opening.boxes query entry.1) [] (omega arith) (All-nil HasCells)
     by false = All-nil HasCells
 
 opening_filled : (alone : Bool) (schema : Schema) (constraints : List Constraint) (opening : Opening) → All HasCells (rows_if alone schema constraints opening)
 opening_filled alone schema constraints opening = by (is_wanted alone (length (opening_rows schema constraints opening)))
   where
     by : (test : Bool) → All HasCells (if test then opening_rows schema constraints opening else [])
-    by true = member_filled opening.mask (query_shown schema opening.region) (enumerate_from 0 constraints)
+    by true = member_filled opening (query_shown schema opening.region) (enumerate_from 0 constraints)
     by false = All-nil HasCells
 
 all_filled : (alone : Bool) (schema : Schema) (constraints : List Constraint) (openings : List Opening) → All HasCells (flat_map (rows_if alone schema constraints) openings)

@@ -19,7 +19,7 @@ use Rattle.pc_desk_try.specs.Shown.{left, right}
 use Rattle.pc_desk_try.specs.Trials.{name_of}
 
 abbrev pub opening_titles : List Title
-opening_titles = left (codes "constraint") ∷ right (codes "least") ∷ right (codes "most") ∷ left (codes "query") ∷ []
+opening_titles = left (codes "constraint") ∷ right (codes "least") ∷ right (codes "most") ∷ right (codes "boxes") ∷ left (codes "query") ∷ []
 
 -- a query that counts the rows of a box, and its text
 abbrev pub count_of_box : Region → Query
@@ -28,20 +28,20 @@ count_of_box region = record { agg = counts; column = None; chosen = one_box reg
 abbrev pub query_shown : Schema → Region → List ℕ
 query_shown schema region = shown (query_text schema (count_of_box region))
 
-abbrev pub member_cells : List ℕ → Constraint → List Cell
-member_cells query c = Word (name_of c.when c.name) ∷ Count c.least ∷ Count c.most ∷ Word query ∷ []
+abbrev pub member_cells : ℕ → List ℕ → Constraint → List Cell
+member_cells boxes query c = Word (name_of c.when c.name) ∷ Count c.least ∷ Count c.most ∷ Count boxes ∷ Word query ∷ []
 
 -- a row for a constraint whose bit is set
-abbrev pub member_row : ℕ → List ℕ → ℕ × Constraint → List (List Cell)
-member_row mask query entry = if has_bit mask entry.0 then member_cells query entry.1 ∷ [] else []
+abbrev pub member_row : Opening → List ℕ → ℕ × Constraint → List (List Cell)
+member_row opening query entry = if has_bit opening.mask entry.0 then member_cells opening.boxes query entry.1 ∷ [] else []
 
-abbrev pub member_rows : ℕ → List ℕ → List Constraint → List (List Cell)
-member_rows mask query constraints = flat_map (member_row mask query) (enumerate_from 0 constraints)
+abbrev pub member_rows : Opening → List ℕ → List Constraint → List (List Cell)
+member_rows opening query constraints = flat_map (member_row opening query) (enumerate_from 0 constraints)
 
 abbrev pub opening_rows : Schema → List Constraint → Opening → List (List Cell)
-opening_rows schema constraints opening = member_rows opening.mask (query_shown schema opening.region) constraints
+opening_rows schema constraints opening = member_rows opening (query_shown schema opening.region) constraints
 
--- a class with one row, or one with another number of them
+-- a class of one constraint, or one of another number of them
 abbrev pub is_wanted : Bool → ℕ → Bool
 is_wanted alone count = cond alone (count == 1) (not (count == 1))
 

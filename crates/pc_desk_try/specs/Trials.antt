@@ -28,10 +28,11 @@ counts_of constraints c rows = record {
   first = position_from (breaks constraints c) first_record rows;
 }
 
--- how many rows are under none of them
+-- under none of them
 abbrev pub is_under_none : List Constraint → Row → Bool
 is_under_none constraints row = not (is_covered constraints row)
 
+-- how many rows are
 abbrev pub under_none : List Constraint → List Row → ℕ
 under_none constraints rows = count_by (is_under_none constraints) rows
 

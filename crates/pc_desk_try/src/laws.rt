@@ -38,7 +38,7 @@ pub fn openings_are_read_back()
     ensures { (schema : Schema) (constraints : List Constraint) (openings : List Opening) → IsReadAs (sheet_table (openings_sheet schema constraints openings)) (sheet_rows (openings_sheet schema constraints openings)) }
 {}
 
-/// The query that is shown of a class is read as one that counts the rows of its box.
+/// The text of a query that counts the rows of a box is read as that query.
 #[tactic(auto, using(crate::proofs::Members::opening_queries_are_read_back))]
 pub fn opening_queries_are_read_back()
     ensures { (schema : Schema) (region : Region) → IsWellFormed schema → is_region_of schema region ≡ true

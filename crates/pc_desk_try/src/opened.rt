@@ -44,6 +44,7 @@ fn opening_titles(alloc: Global) -> Result<Seq<Title>, Memory>
         title(alloc, "constraint", false)?,
         title(alloc, "least", true)?,
         title(alloc, "most", true)?,
+        title(alloc, "boxes", true)?,
         title(alloc, "query", false)?,
     ]?;
     Ok(Seq::from_vec(all))
@@ -111,29 +112,34 @@ fn opening_rows(
     ensures { IfOk result (λ rows. rows ≡ opening_rows schema.now constraints.now opening.now) }
 {
     let query = query_shown(alloc, schema, &opening.region)?;
-    member_rows(alloc, opening.mask, constraints, query.as_str())
+    member_rows(alloc, opening, constraints, query.as_str())
 }
 
 fn member_rows(
     alloc: Global,
-    mask: u32,
+    opening: &Opening,
     constraints: &[Constraint],
     query: &str,
 ) -> Result<Seq<Seq<Cell>>, Memory>
     requires few { length constraints.now ≤ constraint_limit }
-    ensures { IfOk result (λ rows. rows ≡ member_rows mask query.now constraints.now) }
+    ensures { IfOk result (λ rows. rows ≡ member_rows opening.now query.now constraints.now) }
 {
     let mut rows = Vec::new(alloc);
     for (place, constraint) in constraints.iter().enumerate() {
-        if has_bit(u128::from(mask), place) {
-            rows.push(member_cells(alloc, constraint, query)?)?;
+        if has_bit(u128::from(opening.mask), place) {
+            rows.push(member_cells(alloc, opening.boxes as u64, constraint, query)?)?;
         }
     }
     Ok(Seq::from_vec(rows))
 }
 
-fn member_cells(alloc: Global, constraint: &Constraint, query: &str) -> Result<Seq<Cell>, Memory>
-    ensures { IfOk result (λ cells. cells ≡ member_cells query.now constraint.now) }
+fn member_cells(
+    alloc: Global,
+    boxes: u64,
+    constraint: &Constraint,
+    query: &str,
+) -> Result<Seq<Cell>, Memory>
+    ensures { IfOk result (λ cells. cells ≡ member_cells boxes query.now constraint.now) }
 {
     let name = name_of(alloc, constraint)?;
     let query = Text::from_text(alloc, query)?;
@@ -141,6 +147,7 @@ fn member_cells(alloc: Global, constraint: &Constraint, query: &str) -> Result<S
         Cell::Word(name),
         Cell::Count(constraint.least),
         Cell::Count(constraint.most),
+        Cell::Count(boxes),
         Cell::Word(query),
     ]?;
     Ok(Seq::from_vec(all))

@@ -1,23 +1,25 @@
-ghost use Rattle.std.specs.Prelude.{◌≡◌, All, IfOk, map};
-ghost use Rattle.pc_model.specs.Accepted.{AreConstraints};
+ghost use Rattle.std.specs.Prelude.{◌≡◌, ◌≤◌, ◌<◌, All, IfOk, length};
+ghost use Rattle.pc_model.specs.Accepted.{AreConstraints, constraint_limit};
 ghost use Rattle.pc_model.specs.WellFormed.{IsWellFormed};
 ghost use Rattle.pc_cells.specs.Found.{IsFilled};
-ghost use Rattle.pc_desk_try.specs.Openings.{AreOpenings, opening_of};
+ghost use Rattle.pc_desk_try.specs.Openings.{AreOpenings, has_room, is_open, lets_lose, opening_of, openings_in};
 
 use pc_cells::{Cell, decompose};
 use pc_list::Seq;
-use pc_model::{Constraint, Region, Schema};
+use pc_model::{Constraint, Region, Schema, has_bit};
 use pc_num::Memory;
 use std::alloc::Global;
 
-/// Rows that can be lost of which just these constraints speak, bit j for constraint j; and a box of such rows.
+/// Rows that can be lost of which just these constraints speak, bit j for constraint j; a box of such rows, and of how many boxes
+/// the class is.
 #[derive(Debug, Drop)]
 pub struct Opening {
     pub mask: u32,
     pub region: Region,
+    pub boxes: usize,
 }
 
-/// The classes of rows that the constraints let be lost, in the order of the division of the domain.
+/// The classes of rows that the constraints let be lost.
 #[tactic(auto, using(pc_model::proofs::FewNames::have_few_names))]
 pub fn openings(
     alloc: Global,
@@ -30,20 +32,45 @@ pub fn openings(
 {
     let whole = schema.whole_area(alloc)?;
     let found = decompose(alloc, schema, constraints, &whole)?;
-    openings_of(alloc, found.cells.as_slice())
+    openings_of(alloc, constraints, found.cells.as_slice())
 }
 
-#[tactic(auto, using(std::proofs::lemmas::List::map_more))]
-fn openings_of(alloc: Global, cells: &[Cell]) -> Result<Seq<Opening>, Memory>
-    requires { All IsFilled cells.now }
-    ensures { IfOk result (λ openings. openings ≡ map opening_of cells.now) }
+fn openings_of(
+    alloc: Global,
+    constraints: &[Constraint],
+    cells: &[Cell],
+) -> Result<Seq<Opening>, Memory>
+    requires few { length constraints.now ≤ constraint_limit }
+    requires filled { All IsFilled cells.now }
+    ensures { IfOk result (λ openings. openings ≡ openings_in constraints.now cells.now) }
 {
     let mut openings = Vec::new(alloc);
     for cell in cells {
-        let opening = opening_of(cell)?;
-        openings.push(opening)?;
+        if is_open(constraints, cell.mask) {
+            openings.push(opening_of(cell)?)?;
+        }
     }
     Ok(Seq::from_vec(openings))
+}
+
+/// Whether each constraint of a class has room for a row.
+fn is_open(constraints: &[Constraint], mask: u32) -> bool
+    requires few { length constraints.now ≤ constraint_limit }
+    ensures { result ≡ is_open constraints.now mask }
+{
+    for (place, constraint) in constraints.iter().enumerate() {
+        if !lets_lose(mask, place, constraint) {
+            return false;
+        }
+    }
+    true
+}
+
+fn lets_lose(mask: u32, place: usize, constraint: &Constraint) -> bool
+    requires { place < 128 }
+    ensures { result ≡ lets_lose mask (place, constraint.now) }
+{
+    !has_bit(u128::from(mask), place) || 0 < constraint.most
 }
 
 fn opening_of(cell: &Cell) -> Result<Opening, Memory>
@@ -55,5 +82,6 @@ fn opening_of(cell: &Cell) -> Result<Opening, Memory>
     Ok(Opening {
         mask: cell.mask,
         region,
+        boxes: leaves.len(),
     })
 }

@@ -12,11 +12,12 @@ loop-place-preserved c =
     let here = c.loop-place-test.true in
     let constraints = c.args.constraints.now in
     let query = c.args.query.now in
+    let opening = c.args.opening.now in
     let bit = ap (λ (mask : ℕ). has_bit mask at.place) (sym c.from.ensures) ∙ sym c.has_bit.ensures in
     elim c.if-has_bit.branch [
       | then-has_bit+in_ok-member_cells+in_ok-push w ↦ rw w.rows-is (
-          let cells = w.in_ok-member_cells.ensures ∙ ap (member_cells query) c.index-constraints-place.is in
+          let cells = w.in_ok-member_cells.ensures ∙ ap (member_cells opening.boxes query) c.index-constraints-place.is in
           w.in_ok-push.ensures.items ∙ ap₂ (λ (rows : List (List Cell)) (next : List Cell). rows ++ next ∷ []) at.invariant cells
-          ∙ sym (member_in c.args.mask query constraints at.place _ here (bit ∙ w.if-has_bit.true)))
-      | else-has_bit w ↦ rw w.rows-is (at.invariant ∙ sym (member_out c.args.mask query constraints at.place c.index-constraints-place.result here (bit ∙ w.if-has_bit.false)))
+          ∙ sym (member_in opening query constraints at.place _ here (bit ∙ w.if-has_bit.true)))
+      | else-has_bit w ↦ rw w.rows-is (at.invariant ∙ sym (member_out opening query constraints at.place c.index-constraints-place.result here (bit ∙ w.if-has_bit.false)))
     ]
