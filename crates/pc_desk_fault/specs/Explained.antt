@@ -37,6 +37,7 @@ abbrev pub IsExplainedFor : FileKind → List ℕ → Fault → List ℕ → Lis
 IsExplainedFor files.Schema schema fault file query out = AreRecordsTold (fault.place == 0) fault file (schema_text file) out
 IsExplainedFor files.Rows schema fault file query out = AreRecordsTold (fault.place == 0) fault file (rows_text schema file) out
 IsExplainedFor files.Constraints schema fault file query out = IsFileTold (fault.place == 0) schema fault file out
+IsExplainedFor files.Limits schema fault file query out = IsFileTold (fault.place == 0) schema fault file out
 IsExplainedFor files.Query schema fault file query out = IsQueryTold schema fault.reason query out
 IsExplainedFor files.Script schema fault file query out = IsScriptTold (fault.place == 0) schema fault file out
 IsExplainedFor files.Document schema fault file query out = out ≡ query_told (sentence_line fault.reason)

@@ -43,7 +43,7 @@ fn told_by_text(
     ensures { IfOk result (λ out. IsExplained schema.now fault file.now query.now out.items) }
 {
     match fault.file {
-        FileKind::Constraints => file_told(alloc, schema, fault, file),
+        FileKind::Constraints | FileKind::Limits => file_told(alloc, schema, fault, file),
         FileKind::Query => query_told(alloc, schema, fault.reason, query),
         FileKind::Script => script_told(alloc, schema, fault, file),
         FileKind::Schema => records_told(alloc, fault, file, tell_of_schema(alloc, file)?),

@@ -16,7 +16,7 @@ use Rattle.pc_model.specs.Texts.{text_of}
 use Rattle.pc_schema.specs.SchemaFile.{column_of, column_at, columns_from, schema_from, schema_of}
 use Rattle.pc_rows.specs.RowFile.{places_from, cells_of, cells_at, rows_from, rows_under, rows_of}
 use Rattle.pc_rows.specs.Stored.{row_limit}
-use Rattle.pc_lang.specs.Files.{with_line_at, constraints_from, constraints_of, lines_of, query_at}
+use Rattle.pc_lang.specs.Files.{as_limits, with_line_at, constraints_after, constraints_from, constraints_of, limits_of, lines_of, query_at}
 use Rattle.pc_lang.specs.Quantiles.{quantile_at, quantile_from}
 use Rattle.pc_session.specs.declared.line.Line.{Line}
 use Rattle.pc_session.specs.Edited.{Held}
@@ -97,10 +97,18 @@ lines_of_file schema place before (line ∷ rest) =
     (λ after. lines_of_file schema (place + 1) after rest)
 
 pub constraints_of_file : (schema : Schema) (bytes : List ℕ) → IsOf kinds.Constraints (constraints_of schema bytes)
-unfolding constraints_of
+unfolding constraints_after
 constraints_of_file schema bytes =
     then_of kinds.Constraints (placed kinds.Constraints 0 (text_of bytes)) (λ text. constraints_from schema 1 [] (lines_of text)) (placed_of kinds.Constraints 0 (text_of bytes))
     (λ text. lines_of_file schema 1 [] (lines_of text))
+
+limits_read : {X : Type 0} (read : Result X Fault) → IsOf kinds.Limits (as_limits read)
+limits_read (Ok x) = tt
+limits_read (Err fault) = refl
+
+pub limits_of_file : (schema : Schema) (before : List Constraint) (bytes : List ℕ) → IsOf kinds.Limits (limits_of schema before bytes)
+unfolding limits_of
+limits_of_file schema before bytes = limits_read (constraints_after schema before bytes)
 
 pub queries_of_words : (schema : Schema) (place : ℕ) (texts : List (List ℕ)) → IsOf kinds.Query (queries_from schema place texts)
 unfolding queries_from

@@ -53,6 +53,9 @@ with_rows found rows = record found { rows = rows }
 abbrev pub with_constraints : Found → List Constraint → Found
 with_constraints found constraints = record found { constraints = constraints }
 
+abbrev pub with_limited : Found → List Constraint → Found
+with_limited found limited = record found { limited = limited }
+
 abbrev pub with_bytes : Found → List ℕ → Found
 with_bytes found bytes = record found { bytes = bytes }
 

@@ -42,13 +42,14 @@ KeepsFile told kind name bytes (Err stop) = KeepsInVain told kind name bytes sto
 -- ---- several files
 
 -- the name of each kind of file that is read
-abbrev pub names_of : List ℕ → List ℕ → List ℕ → List ℕ → FileKind → List ℕ
-names_of schema rows constraints script kinds.Schema = schema
-names_of schema rows constraints script kinds.Rows = rows
-names_of schema rows constraints script kinds.Constraints = constraints
-names_of schema rows constraints script kinds.Script = script
-names_of schema rows constraints script kinds.Query = []
-names_of schema rows constraints script kinds.Document = []
+abbrev pub names_of : List ℕ → List ℕ → List ℕ → List ℕ → List ℕ → FileKind → List ℕ
+names_of schema rows constraints script limits kinds.Schema = schema
+names_of schema rows constraints script limits kinds.Rows = rows
+names_of schema rows constraints script limits kinds.Constraints = constraints
+names_of schema rows constraints script limits kinds.Script = script
+names_of schema rows constraints script limits kinds.Limits = limits
+names_of schema rows constraints script limits kinds.Query = []
+names_of schema rows constraints script limits kinds.Document = []
 
 -- where a file of this kind is refused, or a query after all files
 pub record ExplainsFault (told : Option Files) (name_of : FileKind → List ℕ) (kept : Kept) (kind : FileKind) : Type 0 where

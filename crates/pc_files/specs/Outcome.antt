@@ -13,10 +13,11 @@ use Rattle.pc_model.specs.Texts.{file_limit}
 use Rattle.pc_base.specs.Files.{Files, file_of}
 use Rattle.pc_schema.specs.SchemaFile.{schema_of}
 use Rattle.pc_rows.specs.RowFile.{rows_of}
-use Rattle.pc_lang.specs.Files.{constraints_of, query_at}
+use Rattle.pc_lang.specs.Files.{constraints_of, limits_of, query_at}
 use Rattle.pc_session.specs.Edited.{Held}
 use Rattle.pc_script.specs.Numbers.{said_lines}
 use Rattle.pc_script.specs.Script.{script_of}
+use Rattle.pc_files.specs.declared.reading.Limited.{Limited}
 use Rattle.pc_files.specs.declared.reading.Listing.{Listing}
 use Rattle.pc_files.specs.declared.reading.Observed.{Observed}
 use Rattle.pc_files.specs.declared.reading.Script.{Script}
@@ -41,6 +42,7 @@ limit_of kinds.Rows = file_limit
 limit_of kinds.Constraints = file_limit
 limit_of kinds.Query = file_limit
 limit_of kinds.Script = file_limit
+limit_of kinds.Limits = file_limit
 limit_of kinds.Document = document_limit
 
 -- the bytes of a file that is held and not too long
@@ -59,6 +61,9 @@ observed_files schema rows constraints = (kinds.Schema, schema) ∷ (kinds.Rows,
 
 abbrev pub listed_files : List ℕ → List ℕ → List NamedFile
 listed_files schema constraints = (kinds.Schema, schema) ∷ (kinds.Constraints, constraints) ∷ []
+
+abbrev pub limit_files : List ℕ → List ℕ → List ℕ → List NamedFile
+limit_files schema constraints limits = listed_files schema constraints ++ (kinds.Limits, limits) ∷ []
 
 abbrev pub script_files : List ℕ → List ℕ → List ℕ → List ℕ → List NamedFile
 script_files schema rows constraints script = observed_files schema rows constraints ++ (kinds.Script, script) ∷ []
@@ -86,6 +91,7 @@ pub record Found : Type 0 where
   pub schema : Schema
   pub rows : List Row
   pub constraints : List Constraint
+  pub limited : List Constraint
   pub bytes : List ℕ
   pub script : Script
 
@@ -93,13 +99,13 @@ abbrev pub no_script : Script
 no_script = record { lines = []; numbers = [] }
 
 abbrev pub nothing : Found
-nothing = record { schema = record { columns = [] }; rows = []; constraints = []; bytes = []; script = no_script }
+nothing = record { schema = record { columns = [] }; rows = []; constraints = []; limited = []; bytes = []; script = no_script }
 
 abbrev pub held_in : Found → Held
 held_in found = record { rows = found.rows; constraints = found.constraints }
 
--- One more file: rows and constraints are read with the schema that was found before them, and a script with all three; no file is
--- for queries.
+-- One more file: rows and constraints are read with the schema that was found before them, limits after the constraints, and a script
+-- with schema, rows and constraints; no file is for queries.
 abbrev pub with_file : Found → FileKind → List ℕ → Files → Result Found Obstacle
 with_file found kinds.Schema name shelf = do
   schema ← value_under kinds.Schema name schema_of shelf
@@ -116,6 +122,9 @@ with_file found kinds.Document name shelf = do
 with_file found kinds.Script name shelf = do
   script ← value_under kinds.Script name (numbered_script found.schema (held_in found)) shelf
   Ok (record found { script = script })
+with_file found kinds.Limits name shelf = do
+  limited ← value_under kinds.Limits name (limits_of found.schema found.constraints) shelf
+  Ok (record found { limited = limited })
 with_file found kinds.Query name shelf = Err (absent kinds.Query)
 
 -- what these files give after what was found, or the first obstacle in their order
@@ -149,6 +158,10 @@ observed_in found = record { schema = found.schema; rows = found.rows; constrain
 
 abbrev pub listing_in : Found → Listing
 listing_in found = record { schema = found.schema; constraints = found.constraints }
+
+-- the list in which limits follow the constraints, of which there are so many
+abbrev pub limited_in : Found → Limited
+limited_in found = record { schema = found.schema; all = found.limited; opening = length found.constraints }
 
 abbrev pub scripted_in : Found → Scripted
 scripted_in found = record { observed = observed_in found; script = found.script }

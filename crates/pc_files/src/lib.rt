@@ -12,10 +12,11 @@ mod writing;
 
 pub use kept::Kept;
 pub use line::{fault_line, malformed_line};
-pub use loading::{load_bytes, load_constraints, load_rows, load_schema, load_script};
+pub use loading::{load_bytes, load_constraints, load_limits, load_rows, load_schema, load_script};
 pub use reading::{
-    Listing, Observed, Script, Scripted, read_listing, read_listing_keeping, read_observed,
-    read_observed_keeping, read_queries, read_scripted, read_scripted_keeping,
+    Limited, Listing, Observed, Script, Scripted, read_limited_keeping, read_listing,
+    read_listing_keeping, read_observed, read_observed_keeping, read_queries, read_scripted,
+    read_scripted_keeping,
 };
 pub use reply::{Ending, Reply, put_reply};
 pub use stop::Stop;

@@ -8,7 +8,7 @@ ghost use Rattle.pc_model.specs.Refusals.{Gives, fault_at};
 ghost use Rattle.pc_model.specs.WellFormed.{IsWellFormed, HaveFewNames};
 ghost use Rattle.pc_schema.specs.SchemaFile.{schema_of};
 ghost use Rattle.pc_rows.specs.RowFile.{rows_of};
-ghost use Rattle.pc_lang.specs.Files.{constraints_of};
+ghost use Rattle.pc_lang.specs.Files.{constraints_of, limits_of};
 ghost use Rattle.pc_session.specs.Edited.{CanFollowAll};
 ghost use Rattle.pc_files.specs.Keeping.{KeepsFile};
 ghost use Rattle.pc_files.specs.Loading.{reading_of, IsLoaded};
@@ -18,7 +18,7 @@ ghost use Rattle.pc_files.specs.Reads.{IsUsable, found_of};
 use crate::reading::{Observed, Script};
 use crate::stop::Stop;
 use pc_base::{Loaded, Shelf};
-use pc_lang::read_constraints;
+use pc_lang::{read_constraints, read_limits};
 use pc_list::Seq;
 use pc_model::{Constraint, FILE_LIMIT, Fault, FileKind, Reason, Refusal, Schema};
 use pc_rows::{Rows, read_rows};
@@ -130,6 +130,25 @@ pub fn load_constraints<F: Shelf>(
 {
     load_last(alloc, files, FileKind::Constraints, name, last)?;
     Ok(read_constraints(alloc, schema, last.as_slice())?)
+}
+
+/// Loads and reads limits after these constraints, and keeps their bytes.
+pub fn load_limits<F: Shelf>(
+    alloc: Global,
+    files: &mut F,
+    name: &str,
+    schema: &Schema,
+    constraints: Seq<Constraint>,
+    last: &mut Seq<u8>,
+) -> Result<Seq<Constraint>, Stop>
+    requires well_formed { IsWellFormed schema.now }
+    requires before { AreConstraints schema.now constraints }
+    ensures loaded { IsLoaded (reading_of F.told F.leads files.old files.new) kinds.Limits name.now (limits_of schema.now constraints) result }
+    ensures kept { KeepsFile (F.told files.old).files kinds.Limits name.now last.new result }
+    ensures accepted { IfOk result (AreConstraints schema.now) }
+{
+    load_last(alloc, files, FileKind::Limits, name, last)?;
+    Ok(read_limits(alloc, schema, constraints, last.as_slice())?)
 }
 
 /// Loads and reads a script, which begins with what was observed, and keeps its bytes.

@@ -5,10 +5,10 @@ ghost use Rattle.pc_model.specs.WellFormed.{IsWellFormed};
 ghost use Rattle.pc_files.specs.Keeping.{KeptFrom, names_of};
 ghost use Rattle.pc_files.specs.Loading.{reading_of};
 ghost use Rattle.pc_files.specs.Outcome.{queries_of};
-ghost use Rattle.pc_files.specs.Reads.{IsScripted, IsShowable, IsUsable, ReadsListing, ReadsObserved, ReadsScripted};
+ghost use Rattle.pc_files.specs.Reads.{IsLimited, IsScripted, IsShowable, IsUsable, ReadsLimited, ReadsListing, ReadsObserved, ReadsScripted};
 
 use crate::kept::Kept;
-use crate::loading::{load_constraints, load_rows, load_schema, load_script};
+use crate::loading::{load_constraints, load_limits, load_rows, load_schema, load_script};
 use crate::stop::Stop;
 use pc_base::Shelf;
 use pc_lang::read_query;
@@ -31,6 +31,15 @@ pub struct Observed {
 pub struct Listing {
     pub schema: Schema,
     pub constraints: Seq<Constraint>,
+}
+
+/// Constraints, and limits after them in one list; and the schema that they are of.
+#[derive(Debug, Drop)]
+pub struct Limited {
+    pub schema: Schema,
+    pub all: Seq<Constraint>,
+    /// How many of the list are the constraints.
+    pub opening: usize,
 }
 
 /// The lines of a script that say something, each with its number in the file, from 1.
@@ -74,7 +83,7 @@ pub fn read_observed_keeping<F: Shelf>(
 ) -> Result<Observed, Stop>
     ensures read { ReadsObserved (reading_of F.told F.leads files.old files.new) schema.now rows.now constraints.now result }
     ensures sound { IfOk result IsUsable }
-    ensures kept { (script : List ℕ) → KeptFrom (F.told files.old).files (names_of schema.now rows.now constraints.now script) kept.new result }
+    ensures kept { (script limits : List ℕ) → KeptFrom (F.told files.old).files (names_of schema.now rows.now constraints.now script limits) kept.new result }
 {
     let schema = load_schema(alloc, files, schema, &mut kept.last)?;
     kept.set_schema_apart(alloc);
@@ -111,7 +120,7 @@ pub fn read_listing_keeping<F: Shelf>(
 ) -> Result<Listing, Stop>
     ensures read { ReadsListing (reading_of F.told F.leads files.old files.new) schema.now constraints.now result }
     ensures sound { IfOk result IsShowable }
-    ensures kept { (rows script : List ℕ) → KeptFrom (F.told files.old).files (names_of schema.now rows constraints.now script) kept.new result }
+    ensures kept { (rows script limits : List ℕ) → KeptFrom (F.told files.old).files (names_of schema.now rows constraints.now script limits) kept.new result }
 {
     let schema = load_schema(alloc, files, schema, &mut kept.last)?;
     kept.set_schema_apart(alloc);
@@ -119,6 +128,33 @@ pub fn read_listing_keeping<F: Shelf>(
     Ok(Listing {
         schema,
         constraints,
+    })
+}
+
+/// Loads and reads a schema, constraints and limits, each once and in this order, and keeps the bytes that explain a refusal.
+pub fn read_limited_keeping<F: Shelf>(
+    alloc: Global,
+    files: &mut F,
+    schema: &str,
+    constraints: &str,
+    limits: &str,
+    kept: &mut Kept,
+) -> Result<Limited, Stop>
+    ensures read { ReadsLimited (reading_of F.told F.leads files.old files.new) schema.now constraints.now limits.now result }
+    ensures sound { IfOk result IsLimited }
+    ensures kept { (rows script : List ℕ) → KeptFrom (F.told files.old).files (names_of schema.now rows constraints.now script limits.now) kept.new result }
+{
+    let listing = read_listing_keeping(alloc, files, schema, constraints, kept)?;
+    let Listing {
+        schema,
+        constraints,
+    } = listing;
+    let opening = constraints.len();
+    let all = load_limits(alloc, files, limits, &schema, constraints, &mut kept.last)?;
+    Ok(Limited {
+        schema,
+        all,
+        opening,
     })
 }
 
@@ -150,7 +186,7 @@ pub fn read_scripted_keeping<F: Shelf>(
 ) -> Result<Scripted, Stop>
     ensures read { ReadsScripted (reading_of F.told F.leads files.old files.new) schema.now rows.now constraints.now script.now result }
     ensures sound { IfOk result IsScripted }
-    ensures kept { KeptFrom (F.told files.old).files (names_of schema.now rows.now constraints.now script.now) kept.new result }
+    ensures kept { (limits : List ℕ) → KeptFrom (F.told files.old).files (names_of schema.now rows.now constraints.now script.now limits) kept.new result }
 {
     let observed = read_observed_keeping(alloc, files, schema, rows, constraints, kept)?;
     let script = load_script(alloc, files, script, &observed, &mut kept.last)?;

@@ -9,7 +9,7 @@ use Rattle.pc_model.specs.declared.fault.Refusal.{Refusal}
 use Rattle.pc_model.specs.declared.fault.Refusal.TheVariants as refusals
 use Rattle.pc_model.specs.Refusals.{◌>>=◌, fault_at, placed, RefusesAs}
 use Rattle.pc_model.specs.Texts.{text_of}
-use Rattle.pc_lang.specs.Files.{is_passed_over, without_return, lines_of, constraint_lines, constraints_from, constraints_of, left_after, with_line}
+use Rattle.pc_lang.specs.Files.{is_passed_over, without_return, lines_of, constraint_lines, as_limits, constraints_after, constraints_from, left_after, of_limits, refusal_of_limits, with_line}
 
 some_differs : {X : Type 0} (x : X) → Some x ≡ None → ⊥
 some_differs x e = cc
@@ -75,13 +75,18 @@ module _ (schema : Schema) (place : ℕ) (before : List Constraint) where
   refusal_step text line rest refusals.Memory split refused = tt
 
 -- a file that has a text
-pub text_read : (schema : Schema) (bytes text : List ℕ) → text_of bytes ≡ Ok text → constraints_of schema bytes ≡ constraints_from schema 1 [] (lines_of text)
-unfolding constraints_of
-text_read schema bytes text e = rw e refl
+pub text_read : (schema : Schema) (before : List Constraint) (bytes text : List ℕ) → text_of bytes ≡ Ok text → constraints_after schema before bytes ≡ constraints_from schema 1 before (lines_of text)
+unfolding constraints_after
+text_read schema before bytes text e = rw e refl
 
 -- a file that has none
-pub no_text : (schema : Schema) (bytes : List ℕ) (reason : Reason) → text_of bytes ≡ Err reason → constraints_of schema bytes ≡ Err (fault_at files.Constraints 0 reason)
-unfolding constraints_of
-no_text schema bytes reason e = rw e refl
+pub no_text : (schema : Schema) (before : List Constraint) (bytes : List ℕ) (reason : Reason) → text_of bytes ≡ Err reason → constraints_after schema before bytes ≡ Err (fault_at files.Constraints 0 reason)
+unfolding constraints_after
+no_text schema before bytes reason e = rw e refl
+
+-- a refusal of limits
+pub limits_refused : {X : Type 0} (refusal : Refusal) (wanted : Result X Fault) → RefusesAs refusal wanted → RefusesAs (refusal_of_limits refusal) (as_limits wanted)
+limits_refused (refusals.Fault fault) wanted is = rw is refl
+limits_refused refusals.Memory wanted is = tt
 
 pub ruleset texts = (text_read, no_text)

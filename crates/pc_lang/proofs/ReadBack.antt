@@ -28,7 +28,7 @@ use Rattle.pc_lang_tokens.proofs.TokensBack.{tokens_read_back}
 use Rattle.pc_lang_grammar.specs.Grammar.{head_tokens, line_tokens, question_tokens}
 use Rattle.pc_lang_grammar.proofs.Complete.{line_again, question_again}
 use Rattle.pc_lang.specs.Canonical.{constraint_text, constraints_text, head_for, line_for, query_text, question_for}
-use Rattle.pc_lang.specs.Files.{line_from, question_from, constraint_from, constraints_from, constraints_of, is_passed_over, lines_of, query_from, with_line, without_return, ends_with_return}
+use Rattle.pc_lang.specs.Files.{line_from, question_from, constraint_from, constraints_after, constraints_from, constraints_of, is_passed_over, lines_of, query_from, with_line, without_return, ends_with_return}
 use Rattle.pc_lang.proofs.Appending.{text_none, text_more}
 use Rattle.pc_lang.proofs.CanonicalTokens.{lines_fit}
 use Rattle.pc_lang.proofs.CanonicalSpelled.{lines_spelled, question_spelled}
@@ -167,6 +167,6 @@ file_again schema constraints formed accepted =
     rw (le-ltb file_limit (length (constraints_text schema constraints)) small, text, no_mark schema constraints) refl
 
 pub constraints_read_back : (schema : Schema) (constraints : List Constraint) → IsWellFormed schema → AreConstraints schema constraints → constraints_of schema (constraints_text schema constraints) ≡ Ok constraints
-unfolding constraints_of
+unfolding constraints_after
 constraints_read_back schema constraints formed accepted =
     rw (file_again schema constraints formed accepted) (lines_read_back schema 1 [] constraints formed accepted (spelled_lines schema constraints formed accepted))

@@ -4,6 +4,8 @@ use Rattle.std.specs.List.{slice_split}
 use Rattle.pc_model.specs.declared.fault.FileKind.TheVariants as files
 use Rattle.pc_model.specs.declared.fault.Reason.{Reason}
 use Rattle.pc_model.specs.declared.fault.Fault.{Fault}
+use Rattle.pc_model.specs.declared.fault.Refusal.{Refusal}
+use Rattle.pc_model.specs.declared.fault.Refusal.TheVariants as refusals
 use Rattle.pc_model.specs.declared.schema.Schema.{Schema}
 use Rattle.pc_model.specs.declared.constraint.Constraint.{Constraint}
 use Rattle.pc_model.specs.declared.query.Query.{Query}
@@ -60,9 +62,29 @@ constraints_from schema place before (line ∷ rest) =
 abbrev pub lines_of : List ℕ → List (List ℕ)
 lines_of text = slice_split (λ byte. byte == 10) text
 
+-- the constraints of a file, after those before
+unfoldable pub constraints_after : Schema → List Constraint → List ℕ → Result (List Constraint) Fault
+constraints_after schema before bytes = placed files.Constraints 0 (text_of bytes) >>= λ text. constraints_from schema 1 before (lines_of text)
+
 -- the constraints of a file
-unfoldable pub constraints_of : Schema → List ℕ → Result (List Constraint) Fault
-constraints_of schema bytes = placed files.Constraints 0 (text_of bytes) >>= λ text. constraints_from schema 1 [] (lines_of text)
+abbrev pub constraints_of : Schema → List ℕ → Result (List Constraint) Fault
+constraints_of schema bytes = constraints_after schema [] bytes
+
+abbrev pub of_limits : Fault → Fault
+of_limits fault = record fault { file = files.Limits }
+
+abbrev pub refusal_of_limits : Refusal → Refusal
+refusal_of_limits (refusals.Fault fault) = refusals.Fault (of_limits fault)
+refusal_of_limits refusals.Memory = refusals.Memory
+
+-- what is read of a file of limits, as it would be of one of constraints
+abbrev pub as_limits : {X : Type 0} → Result X Fault → Result X Fault
+as_limits (Ok x) = Ok x
+as_limits (Err fault) = Err (of_limits fault)
+
+-- constraints, and after them the lines of a file of limits, whose names are none of theirs
+unfoldable pub limits_of : Schema → List Constraint → List ℕ → Result (List Constraint) Fault
+limits_of schema before bytes = as_limits (constraints_after schema before bytes)
 
 -- the query of a text, at its place among the queries
 unfoldable pub query_from : Schema → List ℕ → Result Query Reason

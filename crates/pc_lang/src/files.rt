@@ -2,7 +2,7 @@ ghost use Rattle.std.specs.Prelude.{◌≡◌, get_or, ◌∷◌, ◌++◌, [], 
 ghost use Rattle.pc_model.specs.Accepted.{AreConstraints, IsQuery};
 ghost use Rattle.pc_model.specs.Refusals.{Answers, Gives};
 ghost use Rattle.pc_model.specs.WellFormed.{IsWellFormed};
-ghost use Rattle.pc_lang.specs.Files.{line_from, question_from, constraint_from, with_line, with_line_at, constraints_from, lines_of, constraints_of, query_from, query_at, line_number, constraint_lines, left_after};
+ghost use Rattle.pc_lang.specs.Files.{line_from, question_from, constraint_from, with_line, with_line_at, constraints_from, lines_of, constraints_of, constraints_after, limits_of, refusal_of_limits, query_from, query_at, line_number, constraint_lines, left_after};
 ghost use Rattle.pc_lang.specs.Meaning.{IsNamed};
 
 use crate::lines::{first_line, is_passed_over, without_return};
@@ -11,11 +11,10 @@ use crate::query::query_of;
 use pc_lang_grammar::{Line, Question, read_line, read_question};
 use pc_lang_tokens::read_tokens;
 use pc_list::Seq;
-use pc_model::{Constraint, FileKind, Query, ReadStop, Refusal, Schema, text_of};
+use pc_model::{Constraint, Fault, FileKind, Query, ReadStop, Refusal, Schema, text_of};
 use std::alloc::Global;
 
 /// Reads the constraints of a file. The place of a fault is the number of its line, and 0 for the file as a whole.
-#[tactic(auto, using(crate::proofs::FileLines::texts))]
 pub fn read_constraints(
     alloc: Global,
     schema: &Schema,
@@ -25,8 +24,56 @@ pub fn read_constraints(
     ensures gives { Gives result (constraints_of schema.now bytes.now) }
     ensures accepted { IfOk result (AreConstraints schema.now) }
 {
+    constraints_after(alloc, schema, Seq::new(alloc), bytes)
+}
+
+/// Reads the lines of a file of limits after these constraints, as if they went on in one file. The place of a fault is
+/// that in the file of limits.
+#[tactic(auto, unfolding(crate::specs::Files::limits_of), using(crate::proofs::FileLines::limits_refused))]
+pub fn read_limits(
+    alloc: Global,
+    schema: &Schema,
+    constraints: Seq<Constraint>,
+    bytes: &[u8],
+) -> Result<Seq<Constraint>, Refusal>
+    requires well_formed { IsWellFormed schema.now }
+    requires accepted { AreConstraints schema.now constraints }
+    ensures gives { Gives result (limits_of schema.now constraints bytes.now) }
+    ensures accepted { IfOk result (AreConstraints schema.now) }
+{
+    match constraints_after(alloc, schema, constraints, bytes) {
+        Ok(all) => Ok(all),
+        Err(refusal) => Err(of_limits(refusal)),
+    }
+}
+
+fn of_limits(refusal: Refusal) -> Refusal
+    ensures { result ≡ refusal_of_limits refusal }
+{
+    match refusal {
+        Refusal::Fault(fault) => Refusal::Fault(Fault {
+            file: FileKind::Limits,
+            place: fault.place,
+            reason: fault.reason,
+        }),
+        Refusal::Memory => Refusal::Memory,
+    }
+}
+
+#[tactic(auto, using(crate::proofs::FileLines::texts))]
+fn constraints_after(
+    alloc: Global,
+    schema: &Schema,
+    before: Seq<Constraint>,
+    bytes: &[u8],
+) -> Result<Seq<Constraint>, Refusal>
+    requires well_formed { IsWellFormed schema.now }
+    requires accepted { AreConstraints schema.now before }
+    ensures gives { Gives result (constraints_after schema.now before bytes.now) }
+    ensures accepted { IfOk result (AreConstraints schema.now) }
+{
     match text_of(bytes) {
-        Ok(text) => constraints_of_text(alloc, schema, text),
+        Ok(text) => constraints_of_text(alloc, schema, before, text),
         Err(reason) => Err(ReadStop::Reason(reason).at(FileKind::Constraints, 0)),
     }
 }
@@ -88,13 +135,15 @@ fn left_after(line: &[u8], before: usize) -> Option<usize>
 fn constraints_of_text(
     alloc: Global,
     schema: &Schema,
+    before: Seq<Constraint>,
     text: &[u8],
 ) -> Result<Seq<Constraint>, Refusal>
     requires well_formed { IsWellFormed schema.now }
-    ensures gives { Gives result (constraints_from schema.now 1 [] (lines_of text.now)) }
+    requires accepted { AreConstraints schema.now before }
+    ensures gives { Gives result (constraints_from schema.now 1 before (lines_of text.now)) }
     ensures accepted { IfOk result (AreConstraints schema.now) }
 {
-    let mut constraints = Seq::new(alloc);
+    let mut constraints = before;
     let mut place = 1;
     let mut rest = text;
     while let Some((line, after)) = first_line(rest) {

@@ -16,7 +16,9 @@ mod query;
 mod script_lines;
 mod whole;
 
-pub use files::{constraint_from, line_number, query_from, read_constraints, read_query};
+pub use files::{
+    constraint_from, line_number, query_from, read_constraints, read_limits, read_query,
+};
 pub use law::{parts_hold, ways_hold};
 pub use lines::{first_line, is_blank, is_passed_over, without_return};
 pub use pc_lang_tokens::{front_name, put_name};

@@ -14,6 +14,7 @@ pub enum FileKind {
     Query,
     Document,
     Script,
+    Limits,
 }
 
 /// Why something is refused. `number` gives the number under which it is printed.
@@ -155,6 +156,7 @@ impl FileKind {
             FileKind::Query => "query",
             FileKind::Document => "document",
             FileKind::Script => "script",
+            FileKind::Limits => "limits",
         }
     }
 }

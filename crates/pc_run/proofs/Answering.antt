@@ -11,7 +11,7 @@ use Rattle.pc_base.specs.declared.status.Status.TheVariants as ended
 use Rattle.pc_base.specs.Files.{Files, IsAbsent, file_of}
 use Rattle.pc_schema.specs.SchemaFile.{schema_of}
 use Rattle.pc_rows.specs.RowFile.{rows_of}
-use Rattle.pc_lang.specs.Files.{constraints_of}
+use Rattle.pc_lang.specs.Files.{constraints_of, limits_of}
 use Rattle.pc_run_words.specs.Words.{Asked, bound, prove, check, show, conflict, quantile, session, gen, command_of}
 use Rattle.pc_run.specs.declared.input.Input.{Input}
 use Rattle.pc_run.specs.declared.input.Input.TheVariants.{Asks, Proves, Shows, Contradicts, Measures, Follows}
@@ -33,6 +33,7 @@ absent_file found kinds.Rows name shelf none = rw (absent_value kinds.Rows name 
 absent_file found kinds.Constraints name shelf none = rw (absent_value kinds.Constraints name (constraints_of found.schema) shelf none) refl
 absent_file found kinds.Document name shelf none = rw (absent_value kinds.Document name whole shelf none) refl
 absent_file found kinds.Script name shelf none = rw (absent_value kinds.Script name (numbered_script found.schema (held_in found)) shelf none) refl
+absent_file found kinds.Limits name shelf none = rw (absent_value kinds.Limits name (limits_of found.schema found.constraints) shelf none) refl
 absent_file found kinds.Query name shelf none = refl
 
 stops_there : (read : Result Found Obstacle) (kind : FileKind) (name : List ℕ) (rest : List NamedFile) (shelf : Files) → file_of shelf name ≡ None → IsOk (read >>= λ found. found_after found ((kind, name) ∷ rest) shelf) → ⊥

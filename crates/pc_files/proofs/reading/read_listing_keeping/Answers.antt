@@ -46,7 +46,7 @@ returns-in_err-schema-clause-kept g c =
     let told = g.F.Shelf.told in
     let old = c.args.files.now in
     let reading = reading_of told g.F.Shelf.leads old c.load_schema.new.files in
-    rw (p.1, p.2) (λ rows script. schema_stops (told old).files (names_of c.args.schema.now rows c.args.constraints.now script) (record c.args.kept.now { last = c.load_schema.new.last }) reading c.in_err-schema.field-0.0
+    rw (p.1, p.2) (λ rows script limits. schema_stops (told old).files (names_of c.args.schema.now rows c.args.constraints.now script limits) (record c.args.kept.now { last = c.load_schema.new.last }) reading c.in_err-schema.field-0.0
     c.in_err-schema.ensures.loaded.loads c.in_err-schema.ensures.kept)
 
 pub returns-in_err-constraints-clause-kept : goal.returns-in_err-constraints-clause-kept
@@ -56,8 +56,8 @@ returns-in_err-constraints-clause-kept g c =
     let old = c.args.files.now in
     let still = c.in_ok-schema.ensures.loaded.one_load.files_stay in
     let reading = reading_of told g.F.Shelf.leads c.load_schema.new.files c.load_constraints.new.files in
-    rw (p.1, p.2) (rw c.set_schema_apart.ensures (λ rows script. later_stops (told old).files (names_of c.args.schema.now rows c.args.constraints.now script) (record { schema = c.load_schema.new.last; last = c.load_constraints.new.last }) kinds.Constraints reading (told c.load_schema.new.files).files c.in_err-constraints.field-0.0
+    rw (p.1, p.2) (rw c.set_schema_apart.ensures (λ rows script limits. later_stops (told old).files (names_of c.args.schema.now rows c.args.constraints.now script limits) (record { schema = c.load_schema.new.last; last = c.load_constraints.new.last }) kinds.Constraints reading (told c.load_schema.new.files).files c.in_err-constraints.field-0.0
     still c.in_err-constraints.ensures.loaded.loads c.in_err-constraints.ensures.kept c.in_ok-schema.ensures.kept))
 
 pub returns-clause-kept : goal.returns-clause-kept
-returns-clause-kept g c = rw c.set_schema_apart.ensures (λ rows script. c.in_ok-schema.ensures.kept)
+returns-clause-kept g c = rw c.set_schema_apart.ensures (λ rows script limits. c.in_ok-schema.ensures.kept)

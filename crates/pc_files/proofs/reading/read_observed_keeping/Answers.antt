@@ -66,7 +66,7 @@ returns-in_err-schema-clause-kept g c =
     let told = g.F.Shelf.told in
     let old = c.args.files.now in
     let reading = reading_of told g.F.Shelf.leads old c.load_schema.new.files in
-    rw (p.1, p.2) (λ script. schema_stops (told old).files (names_of c.args.schema.now c.args.rows.now c.args.constraints.now script) (record c.args.kept.now { last = c.load_schema.new.last }) reading c.in_err-schema.field-0.0
+    rw (p.1, p.2) (λ script limits. schema_stops (told old).files (names_of c.args.schema.now c.args.rows.now c.args.constraints.now script limits) (record c.args.kept.now { last = c.load_schema.new.last }) reading c.in_err-schema.field-0.0
     c.in_err-schema.ensures.loaded.loads c.in_err-schema.ensures.kept)
 
 pub returns-in_err-rows-clause-kept : goal.returns-in_err-rows-clause-kept
@@ -76,7 +76,7 @@ returns-in_err-rows-clause-kept g c =
     let old = c.args.files.now in
     let still = c.in_ok-schema.ensures.loaded.one_load.files_stay in
     let reading = reading_of told g.F.Shelf.leads c.load_schema.new.files c.load_rows.new.files in
-    rw (p.1, p.2) (rw c.set_schema_apart.ensures (λ script. later_stops (told old).files (names_of c.args.schema.now c.args.rows.now c.args.constraints.now script) (record { schema = c.load_schema.new.last; last = c.load_rows.new.last }) kinds.Rows reading (told c.load_schema.new.files).files c.in_err-rows.field-0.0
+    rw (p.1, p.2) (rw c.set_schema_apart.ensures (λ script limits. later_stops (told old).files (names_of c.args.schema.now c.args.rows.now c.args.constraints.now script limits) (record { schema = c.load_schema.new.last; last = c.load_rows.new.last }) kinds.Rows reading (told c.load_schema.new.files).files c.in_err-rows.field-0.0
     still c.in_err-rows.ensures.loaded.loads c.in_err-rows.ensures.kept c.in_ok-schema.ensures.kept))
 
 pub returns-in_err-constraints-clause-kept : goal.returns-in_err-constraints-clause-kept
@@ -86,8 +86,8 @@ returns-in_err-constraints-clause-kept g c =
     let old = c.args.files.now in
     let still = c.in_ok-rows.ensures.loaded.one_load.files_stay ∙ c.in_ok-schema.ensures.loaded.one_load.files_stay in
     let reading = reading_of told g.F.Shelf.leads c.load_rows.new.files c.load_constraints.new.files in
-    rw (p.1, p.2) (rw c.set_schema_apart.ensures (λ script. later_stops (told old).files (names_of c.args.schema.now c.args.rows.now c.args.constraints.now script) (record { schema = c.load_schema.new.last; last = c.load_constraints.new.last }) kinds.Constraints reading (told c.load_rows.new.files).files c.in_err-constraints.field-0.0
+    rw (p.1, p.2) (rw c.set_schema_apart.ensures (λ script limits. later_stops (told old).files (names_of c.args.schema.now c.args.rows.now c.args.constraints.now script limits) (record { schema = c.load_schema.new.last; last = c.load_constraints.new.last }) kinds.Constraints reading (told c.load_rows.new.files).files c.in_err-constraints.field-0.0
     still c.in_err-constraints.ensures.loaded.loads c.in_err-constraints.ensures.kept c.in_ok-schema.ensures.kept))
 
 pub returns-clause-kept : goal.returns-clause-kept
-returns-clause-kept g c = rw c.set_schema_apart.ensures (λ script. c.in_ok-schema.ensures.kept)
+returns-clause-kept g c = rw c.set_schema_apart.ensures (λ script limits. c.in_ok-schema.ensures.kept)

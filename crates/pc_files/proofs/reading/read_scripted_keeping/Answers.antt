@@ -42,15 +42,15 @@ returns-clause-read g c =
 pub returns-in_err-observed-clause-kept : goal.returns-in_err-observed-clause-kept
 returns-in_err-observed-clause-kept g c =
     let p = err_from_is_err_and c.from_residual.result c.from_residual.ensures.1 in
-    rw (p.1, p.2) (c.in_err-observed.ensures.kept c.args.script.now)
+    rw (p.1, p.2) (λ limits. c.in_err-observed.ensures.kept c.args.script.now limits)
 
 pub returns-in_err-script-clause-kept : goal.returns-in_err-script-clause-kept
 returns-in_err-script-clause-kept g c =
     let p = err_from_is_err_and c.from_residual-in_err-script.result c.from_residual-in_err-script.ensures.1 in
     let told = g.F.Shelf.told in
     let reading = reading_of told g.F.Shelf.leads c.read_observed_keeping.new.files c.load_script.new.files in
-    rw (p.1, p.2) (later_stops (told c.args.files.now).files (names_of c.args.schema.now c.args.rows.now c.args.constraints.now c.args.script.now) (record c.read_observed_keeping.new.kept { last = c.load_script.new.last }) kinds.Script reading (told c.read_observed_keeping.new.files).files c.in_err-script.field-0.0
-    c.in_ok-observed.ensures.read.few.files_stay c.in_err-script.ensures.loaded.loads c.in_err-script.ensures.kept (c.in_ok-observed.ensures.kept c.args.script.now))
+    rw (p.1, p.2) (λ limits. later_stops (told c.args.files.now).files (names_of c.args.schema.now c.args.rows.now c.args.constraints.now c.args.script.now limits) (record c.read_observed_keeping.new.kept { last = c.load_script.new.last }) kinds.Script reading (told c.read_observed_keeping.new.files).files c.in_err-script.field-0.0
+    c.in_ok-observed.ensures.read.few.files_stay c.in_err-script.ensures.loaded.loads c.in_err-script.ensures.kept (c.in_ok-observed.ensures.kept c.args.script.now limits))
 
 pub returns-clause-kept : goal.returns-clause-kept
-returns-clause-kept g c = c.in_ok-observed.ensures.kept c.args.script.now
+returns-clause-kept g c = λ limits. c.in_ok-observed.ensures.kept c.args.script.now limits
