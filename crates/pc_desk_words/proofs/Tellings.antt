@@ -28,6 +28,9 @@ module _ (words : List Text) where
   held_reads asked (calls.Session call) e holds = e ∙ holds
   held_reads asked (calls.Trial call) e holds = e ∙ holds
   held_reads asked (calls.Opens call) e holds = e ∙ holds
+  held_reads asked (calls.Limit call) e holds = e ∙ holds
+  held_reads asked (calls.Sql call) e holds = e ∙ holds
+  held_reads asked (calls.Draft call) e holds = e ∙ holds
   held_reads asked (calls.Shows text) e holds = absurd holds
   held_reads asked (calls.Refused text) e holds = absurd holds
 
@@ -36,6 +39,9 @@ module _ (words : List Text) where
   refused_reads missing none (calls.Session call) refused = absurd refused
   refused_reads missing none (calls.Trial call) refused = absurd refused
   refused_reads missing none (calls.Opens call) refused = absurd refused
+  refused_reads missing none (calls.Limit call) refused = absurd refused
+  refused_reads missing none (calls.Sql call) refused = absurd refused
+  refused_reads missing none (calls.Draft call) refused = absurd refused
   refused_reads missing none (calls.Shows text) refused = absurd refused
   refused_reads missing none (calls.Refused text) refused = (missing, ap only_shows none)
 
@@ -73,6 +79,9 @@ module _ (words : List Text) (kind : ErrorKind) where
   told_reads fails (calls.Session call) tells = absurd tells
   told_reads fails (calls.Trial call) tells = absurd tells
   told_reads fails (calls.Opens call) tells = absurd tells
+  told_reads fails (calls.Limit call) tells = absurd tells
+  told_reads fails (calls.Sql call) tells = absurd tells
+  told_reads fails (calls.Draft call) tells = absurd tells
   told_reads (inl memory) (calls.Shows text) tells = absurd (true≢false (sym tells ∙ ap is_request memory))
   told_reads (inr among) (calls.Shows text) tells = (no_call kind (fault_of desk_app words) (subcommand_of desk_app words) among, shown kind (fault_of desk_app words) among tells)
   told_reads (inl memory) (calls.Refused text) tells = absurd (tells.1 memory)

@@ -12,7 +12,7 @@ use Rattle.clap.specs.declared.parser.matches.ValueSource.TheVariants.{CommandLi
 use Rattle.clap.proofs.FaultLemmas.{stopped_fault}
 use Rattle.pc_num.specs.Scaled.{are_digits, digits_len, number_after, padded, scaled_of, scaled_size}
 use Rattle.pc_desk_words.specs.Program.{desk_app, desk_shape}
-use Rattle.pc_desk_words.specs.Words.{ask, asked_by, asked_of, asked_without, budget_of, opens, scale_of, session, trial, usual_nodes, usual_scale, with_files}
+use Rattle.pc_desk_words.specs.Words.{ask, asked_by, asked_of, asked_without, budget_of, draft, limit, opens, scale_of, session, sql, trial, usual_nodes, usual_scale, with_files}
 use Rattle.pc_desk_words.specs.declared.form.Form.TheVariants as forms
 use Rattle.pc_desk_words.specs.declared.form.SheetForm.TheVariants as sheets
 use Rattle.pc_desk_words.proofs.PlainWords.{ArePlain, AreFit, Reaches, plain_reaches, plainly, reaches_end}
@@ -31,6 +31,15 @@ try_shape = shape_at (codes "try")
 
 abbrev opens_shape : Shape
 opens_shape = shape_at (codes "opens")
+
+abbrev limit_shape : Shape
+limit_shape = shape_at (codes "limit")
+
+abbrev schema_shape : Shape
+schema_shape = shape_at (codes "schema")
+
+abbrev sql_shape : Shape
+sql_shape = shape_at (codes "sql")
 
 abbrev row : Text → List Text → Row
 row id values = record { id = id; values = values; count = None; source = Some CommandLine; reading = AsWritten }
@@ -87,6 +96,18 @@ opens_is_verb : IsVerb (codes "opens") opens_shape
 unfolding walked defaults_fault
 opens_is_verb = record { walked_at = refl; passes = refl; fails = λ words. refl; found = λ words. refl }
 
+limit_is_verb : IsVerb (codes "limit") limit_shape
+unfolding walked defaults_fault
+limit_is_verb = record { walked_at = refl; passes = refl; fails = λ words. refl; found = λ words. refl }
+
+schema_is_verb : IsVerb (codes "schema") schema_shape
+unfolding walked defaults_fault
+schema_is_verb = record { walked_at = refl; passes = refl; fails = λ words. refl; found = λ words. refl }
+
+sql_is_verb : IsVerb (codes "sql") sql_shape
+unfolding walked defaults_fault
+sql_is_verb = record { walked_at = refl; passes = refl; fails = λ words. refl; found = λ words. refl }
+
 -- what is wrong after the walk over a verb's words
 abbrev after_walk : Shape → Held → Kinds
 after_walk s end = or_else (settle_fault s.rules s.args_override_self end) (or_else (defaults_fault (settled s.rules end).rows s.rules) (check_fault s (finished s.rules end) false))
@@ -115,49 +136,54 @@ module _ (name : Text) (s : Shape) (is : IsVerb name s) (words : List Text) (end
   verb_read : asked_of (name ∷ words) ≡ asked_by (Some (name, finished s.rules end.held))
   verb_read = ap₂ asked_without no_faults verb_found
 
--- ---- `ask`
+-- ---- words that all go to one positional
 
-in_range : (count : ℕ) → 1 ≤ count → count ≤ 16 → range_kinds 1 16 count ≡ []
-in_range count least most =
+in_range : (count most : ℕ) → (1 == most) ≡ false → 1 ≤ count → count ≤ most → range_kinds 1 most count ≡ []
+in_range count most many least within =
     let some : (count == 0) ≡ false = grind (arith, least) in
     let enough : nat_lt count 1 ≡ false = grind (arith, least) in
-    let few : nat_lt 16 count ≡ false = grind (arith, most) in
-    rw (some, enough, few) refl
+    let few : nat_lt most count ≡ false = grind (arith, within) in
+    rw (many, some, enough, few) refl
 
 any_text : (values : List Text) → values_kinds false parsers.String values ≡ []
 any_text [] = refl
 any_text (v ∷ values) = any_text values
 
-abbrev query_walk : List Row → List Text → Walk
-query_walk rows queries =
-    record { held = record { rows = rows; pending = Some (codes "query", queries); skip = 0 }; waiting = positional; position = 4; is_trailing = false; stopped = None }
+abbrev many_walk : Text → ℕ → List Row → List Text → Walk
+many_walk id position rows values =
+    record { held = record { rows = rows; pending = Some (id, values); skip = 0 }; waiting = positional; position = position; is_trailing = false; stopped = None }
 
-module _ (rows : List Row) where
-  queries_reach : (before queries : List Text) → ArePlain queries → Reaches ask_shape (query_walk rows before) queries (query_walk rows (before ++ queries))
-  queries_reach before [] plain =
-      subst (λ all. Reaches ask_shape (query_walk rows before) [] (query_walk rows all)) (sym (append-nil before)) (reaches_end ask_shape (query_walk rows before))
-  queries_reach before (query ∷ queries) plain =
-      plain_reaches ask_shape (query_walk rows (before ++ query ∷ queries)) queries (query_walk rows before) (query ∷ []) (refl, tt) plain
-      (λ more. subst (λ all. Reaches ask_shape (query_walk rows (before ++ query ∷ [])) queries (query_walk rows all)) (append_assoc before (query ∷ []) queries)
-      (queries_reach (before ++ query ∷ []) queries more))
+module _ (s : Shape) (at : List Text → Walk) (fits : (before : List Text) (word : Text) → AreFit s (at before) (word ∷ []))
+    (grows : (before : List Text) (word : Text) → plainly s (at before) word ≡ at (before ++ word ∷ [])) where
+  many_reach : (before values : List Text) → ArePlain values → Reaches s (at before) values (at (before ++ values))
+  many_reach before [] plain = subst (λ all. Reaches s (at before) [] (at all)) (sym (append-nil before)) (reaches_end s (at before))
+  many_reach before (word ∷ values) plain =
+      plain_reaches s (at (before ++ word ∷ values)) values (at before) (word ∷ []) (fits before word) plain
+      (λ more. subst (λ (w : Walk). Reaches s w values (at (before ++ word ∷ values))) (sym (grows before word))
+      (subst (λ all. Reaches s (at (before ++ word ∷ [])) values (at all)) (append_assoc before (word ∷ []) values) (many_reach (before ++ word ∷ []) values more)))
+
+-- ---- `ask`
 
 module _ (schema rows constraints query : Text) (queries : List Text) (plain : ArePlain (schema ∷ rows ∷ constraints ∷ query ∷ queries)) (few : length queries < 16) where
   abbrev file_rows : List Row
   file_rows = row (codes "schema") (schema ∷ []) ∷ row (codes "rows") (rows ∷ []) ∷ row (codes "constraints") (constraints ∷ []) ∷ []
 
+  abbrev queries_at : List Text → Walk
+  queries_at before = many_walk (codes "query") 4 file_rows before
+
   abbrev asked_end : Walk
-  asked_end = query_walk file_rows (query ∷ queries)
+  asked_end = queries_at (query ∷ queries)
 
   ask_reaches : Reaches ask_shape start (schema ∷ rows ∷ constraints ∷ query ∷ queries) asked_end
   ask_reaches =
       plain_reaches ask_shape asked_end queries start (schema ∷ rows ∷ constraints ∷ query ∷ []) (refl, (refl, (refl, (refl, tt)))) plain
-      (queries_reach file_rows (query ∷ []) queries)
+      (many_reach ask_shape queries_at (λ before word. (refl, tt)) (λ before word. refl) (query ∷ []) queries)
 
   ask_after : after_walk ask_shape asked_end.held ≡ []
   unfolding defaults_fault
   ask_after =
       let count : length (query ∷ queries) ≤ 16 = omega (arith, few) in
-      ap (λ kinds. or_else (or_else kinds (values_kinds false parsers.String (query ∷ queries))) []) (in_range (length (query ∷ queries)) (omega arith) count)
+      ap (λ kinds. or_else (or_else kinds (values_kinds false parsers.String (query ∷ queries))) []) (in_range (length (query ∷ queries)) 16 refl (omega arith) count)
       ∙ ap (λ kinds. or_else kinds []) (any_text (query ∷ queries))
 
   pub ask_read : asked_of (codes "ask" ∷ schema ∷ rows ∷ constraints ∷ query ∷ queries)
@@ -195,3 +221,47 @@ module _ (schema constraints : Text) (plain : ArePlain (schema ∷ constraints �
   pub opens_read : asked_of (codes "opens" ∷ schema ∷ constraints ∷ []) ≡ Some (opens (record { form = sheets.Text; files = with_files schema [] constraints }))
   unfolding defaults_fault
   opens_read = words_read (codes "opens") opens_shape opens_is_verb (schema ∷ constraints ∷ []) (refl, (refl, tt)) plain refl
+
+module _ (schema constraints last : Text) (plain : ArePlain (schema ∷ constraints ∷ last ∷ [])) where
+  pub limit_read : asked_of (codes "limit" ∷ schema ∷ constraints ∷ last ∷ []) ≡ Some (limit (record { files = with_files schema [] constraints; limits = last }))
+  unfolding defaults_fault
+  limit_read = words_read (codes "limit") limit_shape limit_is_verb (schema ∷ constraints ∷ last ∷ []) (refl, (refl, (refl, tt))) plain refl
+
+  pub sql_read : asked_of (codes "sql" ∷ schema ∷ constraints ∷ last ∷ []) ≡ Some (sql (record { files = with_files schema [] constraints; table = last }))
+  unfolding defaults_fault
+  sql_read = words_read (codes "sql") sql_shape sql_is_verb (schema ∷ constraints ∷ last ∷ []) (refl, (refl, (refl, tt))) plain refl
+
+-- ---- `schema`
+
+abbrev Drafts : Text → List Text → Type 0
+Drafts rows columns = asked_of (codes "schema" ∷ rows ∷ columns) ≡ Some (draft (record { rows = rows; columns = columns }))
+
+draft_of_all : (rows : Text) → ArePlain (rows ∷ []) → Drafts rows []
+unfolding defaults_fault
+draft_of_all rows plain = words_read (codes "schema") schema_shape schema_is_verb (rows ∷ []) (refl, tt) plain refl
+
+module _ (rows column : Text) (columns : List Text) (plain : ArePlain (rows ∷ column ∷ columns)) (few : length columns < 12) where
+  abbrev columns_at : List Text → Walk
+  columns_at before = many_walk (codes "column") 2 (row (codes "rows") (rows ∷ []) ∷ []) before
+
+  abbrev drafted_end : Walk
+  drafted_end = columns_at (column ∷ columns)
+
+  draft_reaches : Reaches schema_shape start (rows ∷ column ∷ columns) drafted_end
+  draft_reaches =
+      plain_reaches schema_shape drafted_end columns start (rows ∷ column ∷ []) (refl, (refl, tt)) plain
+      (many_reach schema_shape columns_at (λ before word. (refl, tt)) (λ before word. refl) (column ∷ []) columns)
+
+  draft_after : after_walk schema_shape drafted_end.held ≡ []
+  unfolding defaults_fault
+  draft_after =
+      let count : length (column ∷ columns) ≤ 12 = omega (arith, few) in
+      ap (λ kinds. or_else (or_else kinds (values_kinds false parsers.String (column ∷ columns))) []) (in_range (length (column ∷ columns)) 12 refl (omega arith) count)
+      ∙ ap (λ kinds. or_else kinds []) (any_text (column ∷ columns))
+
+  draft_of_some : Drafts rows (column ∷ columns)
+  draft_of_some = verb_read (codes "schema") schema_shape schema_is_verb (rows ∷ column ∷ columns) drafted_end draft_reaches draft_after
+
+pub draft_read : (rows : Text) (columns : List Text) → ArePlain (rows ∷ columns) → length columns ≤ 12 → Drafts rows columns
+draft_read rows [] plain few = draft_of_all rows plain
+draft_read rows (column ∷ columns) plain few = draft_of_some rows column columns plain (omega (arith, few))

@@ -2,14 +2,17 @@
 use Rattle.std.specs.Prelude.{◌≡◌, ◌≢◌, ◌≤◌, ⊤, ℕ, true, false, List, map, length, Option, Some, None}
 use Rattle.clap.specs.declared.error.kind.ErrorKind.{ErrorKind}
 use Rattle.clap.specs.declared.error.kind.ErrorKind.TheVariants.{OutOfMemory}
-use Rattle.pc_desk_words.specs.Words.{Asked, AskNames, FileNames, HeadNames, IsBudget, IsScale, OpensNames, SessionNames, TrialNames, MayHelp, MayRefuse, ask, asked_of, is_request, opens, session, trial}
+use Rattle.pc_desk_words.specs.Words.{Asked, AskNames, FileNames, DraftNames, HeadNames, IsBudget, IsScale, LimitNames, OpensNames, SessionNames, SqlNames, TrialNames, MayHelp, MayRefuse, ask, asked_of, draft, is_request, limit, opens, session, sql, trial}
 use Rattle.pc_desk_words.specs.declared.call.Ask.{Ask}
 use Rattle.pc_desk_words.specs.declared.call.Call.{Call}
 use Rattle.pc_desk_words.specs.declared.call.Call.TheVariants as calls
+use Rattle.pc_desk_words.specs.declared.call.Draft.{Draft}
 use Rattle.pc_desk_words.specs.declared.call.Files.{Files}
 use Rattle.pc_desk_words.specs.declared.call.Head.{Head}
+use Rattle.pc_desk_words.specs.declared.call.Limit.{Limit}
 use Rattle.pc_desk_words.specs.declared.call.Opens.{Opens}
 use Rattle.pc_desk_words.specs.declared.call.Session.{Session}
+use Rattle.pc_desk_words.specs.declared.call.Sql.{Sql}
 use Rattle.pc_desk_words.specs.declared.call.Trial.{Trial}
 
 abbrev pub file_names : Files → FileNames
@@ -32,12 +35,24 @@ trial_names call = record { form = call.form; scale = call.scale; files = file_n
 abbrev pub opens_names : Opens → OpensNames
 opens_names call = record { form = call.form; files = file_names call.files }
 
+abbrev pub limit_names : Limit → LimitNames
+limit_names call = record { files = file_names call.files; limits = call.limits.now }
+
+abbrev pub sql_names : Sql → SqlNames
+sql_names call = record { files = file_names call.files; table = call.table.now }
+
+abbrev pub draft_names : Draft → DraftNames
+draft_names call = record { rows = call.rows.now; columns = map (λ text. text.now) call.columns.items }
+
 -- what was found is this call
 abbrev pub Holds : Option Asked → Call → Type 0
 Holds asked (calls.Ask call) = asked ≡ Some (ask (ask_names call))
 Holds asked (calls.Session call) = asked ≡ Some (session (session_names call))
 Holds asked (calls.Trial call) = asked ≡ Some (trial (trial_names call))
 Holds asked (calls.Opens call) = asked ≡ Some (opens (opens_names call))
+Holds asked (calls.Limit call) = asked ≡ Some (limit (limit_names call))
+Holds asked (calls.Sql call) = asked ≡ Some (sql (sql_names call))
+Holds asked (calls.Draft call) = asked ≡ Some (draft (draft_names call))
 Holds asked (calls.Shows text) = ⊥
 Holds asked (calls.Refused text) = ⊥
 
@@ -52,6 +67,9 @@ Tells kind (calls.Ask call) = ⊥
 Tells kind (calls.Session call) = ⊥
 Tells kind (calls.Trial call) = ⊥
 Tells kind (calls.Opens call) = ⊥
+Tells kind (calls.Limit call) = ⊥
+Tells kind (calls.Sql call) = ⊥
+Tells kind (calls.Draft call) = ⊥
 Tells kind (calls.Shows text) = is_request kind ≡ true
 Tells kind (calls.Refused text) = (is_request kind ≡ false) × (kind ≢ OutOfMemory)
 
@@ -60,6 +78,9 @@ IsRefusal (calls.Ask call) = ⊥
 IsRefusal (calls.Session call) = ⊥
 IsRefusal (calls.Trial call) = ⊥
 IsRefusal (calls.Opens call) = ⊥
+IsRefusal (calls.Limit call) = ⊥
+IsRefusal (calls.Sql call) = ⊥
+IsRefusal (calls.Draft call) = ⊥
 IsRefusal (calls.Shows text) = ⊥
 IsRefusal (calls.Refused text) = ⊤
 
@@ -69,6 +90,9 @@ Reads words (calls.Ask call) = asked_of words ≡ Some (ask (ask_names call))
 Reads words (calls.Session call) = asked_of words ≡ Some (session (session_names call))
 Reads words (calls.Trial call) = asked_of words ≡ Some (trial (trial_names call))
 Reads words (calls.Opens call) = asked_of words ≡ Some (opens (opens_names call))
+Reads words (calls.Limit call) = asked_of words ≡ Some (limit (limit_names call))
+Reads words (calls.Sql call) = asked_of words ≡ Some (sql (sql_names call))
+Reads words (calls.Draft call) = asked_of words ≡ Some (draft (draft_names call))
 Reads words (calls.Shows text) = (asked_of words ≡ None) × MayHelp words
 Reads words (calls.Refused text) = (asked_of words ≡ None) × MayRefuse words
 
@@ -78,5 +102,8 @@ HasBudget (calls.Ask call) = IsBudget call.nodes × (1 ≤ length call.queries.i
 HasBudget (calls.Session call) = IsBudget call.nodes
 HasBudget (calls.Trial call) = IsScale call.scale
 HasBudget (calls.Opens call) = ⊤
+HasBudget (calls.Limit call) = ⊤
+HasBudget (calls.Sql call) = ⊤
+HasBudget (calls.Draft call) = ⊤
 HasBudget (calls.Shows text) = ⊤
 HasBudget (calls.Refused text) = ⊤

@@ -44,6 +44,17 @@ scale_rule = record (new_rule (codes "scale")) {
 abbrev pub file_rule : Text → Rule
 file_rule id = record (new_rule id) { value_names = 1; required = true }
 
+-- the most columns that may be wanted: no schema has more
+abbrev pub most_columns : ℕ
+most_columns = 12
+
+abbrev pub column_rule : Rule
+column_rule = record (new_rule (codes "column")) {
+  value_names = 1;
+  range = Some (record { start_inclusive = 1; end_inclusive = most_columns });
+  action = Some Append;
+}
+
 abbrev pub query_rule : Rule
 query_rule = record (new_rule (codes "query")) {
   value_names = 1;
@@ -82,6 +93,20 @@ opens_verb forms =
     (with_both (with_rule (new_app (codes "opens")) (form_rule forms))
     (file_rule (codes "schema")) (file_rule (codes "constraints"))).top
 
+-- a schema, constraints, and what stands last
+abbrev pub listing_verb : Text → Text → Shape
+listing_verb name last =
+    (with_both (with_rule (new_app name) (file_rule (codes "schema"))) (file_rule (codes "constraints")) (file_rule last)).top
+
+abbrev pub limit_verb : Shape
+limit_verb = listing_verb (codes "limit") (codes "limits")
+
+abbrev pub sql_verb : Shape
+sql_verb = listing_verb (codes "sql") (codes "table")
+
+abbrev pub schema_verb : Shape
+schema_verb = (with_both (new_app (codes "schema")) (file_rule (codes "rows")) column_rule).top
+
 -- a verb has to be named, and without a word help is told
 abbrev pub desk_shape : Shape
 desk_shape = record (new_shape (codes "pc_desk")) {
@@ -94,7 +119,10 @@ desk_shape = record (new_shape (codes "pc_desk")) {
 
 -- by what the forms of `ask` and `session` may be, and those of `try` and `opens`
 abbrev pub desk_with : ValueParser → ValueParser → App
-desk_with forms sheets = record { top = desk_shape; subs = ask_verb forms ∷ session_verb forms ∷ try_verb sheets ∷ opens_verb sheets ∷ [] }
+desk_with forms sheets = record {
+  top = desk_shape;
+  subs = ask_verb forms ∷ session_verb forms ∷ try_verb sheets ∷ opens_verb sheets ∷ limit_verb ∷ schema_verb ∷ sql_verb ∷ [];
+}
 
 -- any text may stand as a form here: which it names is told by `form_named` and `sheet_form_named`
 abbrev pub desk_app : App

@@ -1,5 +1,5 @@
 -- Which words are a call.
-use Rattle.std.specs.Prelude.{◌≡◌, ℕ, ◌≤◌, nat_le, ◌&&◌, ◌==◌, not, ℤ, pos, int_le, unsigned_abs, Bool, true, false, List, [], ◌∷◌, codes, bytes_eq, Option, Some, None, option_map, option_and_then, if◌then◌else◌}
+use Rattle.std.specs.Prelude.{◌≡◌, ℕ, ◌≤◌, nat_le, ◌&&◌, ◌==◌, not, ℤ, pos, int_le, unsigned_abs, Bool, true, false, List, [], ◌∷◌, codes, bytes_eq, Option, Some, None, option_map, option_and_then, unwrap_or, if◌then◌else◌}
 use Rattle.std.specs.List.{list_all, list_any}
 use Rattle.std.specs.Result.{result_ok}
 use Rattle.std.specs.Str.Parse.{digits_value, without_leading_plus}
@@ -46,12 +46,30 @@ pub record OpensNames : Type 0 where
   pub form : SheetForm
   pub files : FileNames
 
+-- of `limit`: the files, of which there are no rows, and the name of the limits
+pub record LimitNames : Type 0 where
+  pub files : FileNames
+  pub limits : List ℕ
+
+-- of `sql`: the files, of which there are no rows, and the name of the table
+pub record SqlNames : Type 0 where
+  pub files : FileNames
+  pub table : List ℕ
+
+-- of `schema`: the rows, and the columns that are wanted
+pub record DraftNames : Type 0 where
+  pub rows : List ℕ
+  pub columns : List (List ℕ)
+
 -- a verb with its values
 pub data Asked : Type 0 where
   ask : AskNames → Asked
   session : SessionNames → Asked
   trial : TrialNames → Asked
   opens : OpensNames → Asked
+  limit : LimitNames → Asked
+  sql : SqlNames → Asked
+  draft : DraftNames → Asked
 
 -- ---- values
 
@@ -171,6 +189,25 @@ with_form form files = record { form = form; files = files }
 abbrev pub opens_in : List Row → Option OpensNames
 opens_in found = option_and_then (λ form. option_map (with_form form) (rowless_files_in found)) (sheet_form_in found)
 
+abbrev pub with_limits : FileNames → List ℕ → LimitNames
+with_limits files limits = record { files = files; limits = limits }
+
+abbrev pub limit_in : List Row → Option LimitNames
+limit_in found = option_and_then (λ files. option_map (with_limits files) (first_of (codes "limits") found)) (rowless_files_in found)
+
+abbrev pub with_table : FileNames → List ℕ → SqlNames
+with_table files table = record { files = files; table = table }
+
+abbrev pub sql_in : List Row → Option SqlNames
+sql_in found = option_and_then (λ files. option_map (with_table files) (first_of (codes "table") found)) (rowless_files_in found)
+
+abbrev pub with_columns : List (List ℕ) → List ℕ → DraftNames
+with_columns columns rows = record { rows = rows; columns = columns }
+
+-- all columns are wanted where none is named
+abbrev pub draft_in : List Row → Option DraftNames
+draft_in found = option_map (with_columns (unwrap_or (all_of (codes "column") found) [])) (first_of (codes "rows") found)
+
 -- the verb of a name, by what was found of it
 abbrev pub asked_in : List ℕ → List Row → Option Asked
 asked_in name found =
@@ -178,7 +215,10 @@ asked_in name found =
     else (if bytes_eq name (codes "session") then option_map session (session_in found)
     else (if bytes_eq name (codes "try") then option_map trial (trial_in found)
     else (if bytes_eq name (codes "opens") then option_map opens (opens_in found)
-    else None)))
+    else (if bytes_eq name (codes "limit") then option_map limit (limit_in found)
+    else (if bytes_eq name (codes "sql") then option_map sql (sql_in found)
+    else (if bytes_eq name (codes "schema") then option_map draft (draft_in found)
+    else None))))))
 
 abbrev pub asked_by : Option (Text × List Row) → Option Asked
 asked_by = option_and_then (λ (verb : Text × List Row). asked_in verb.0 verb.1)

@@ -56,6 +56,27 @@ pub struct Opens<'a> {
     pub files: Files<'a>,
 }
 
+/// The verb `limit`: the files, of which the rows have no name, and the limits.
+#[derive(Clone, Copy, Debug)]
+pub struct Limit<'a> {
+    pub files: Files<'a>,
+    pub limits: &'a str,
+}
+
+/// The verb `sql`: the files, of which the rows have no name, and the table.
+#[derive(Clone, Copy, Debug)]
+pub struct Sql<'a> {
+    pub files: Files<'a>,
+    pub table: &'a str,
+}
+
+/// The verb `schema`: the rows, and the columns that are wanted, which are all where none is named.
+#[derive(Debug, Drop)]
+pub struct Draft<'a> {
+    pub rows: &'a str,
+    pub columns: Vec<&'a str>,
+}
+
 /// What words come to.
 #[derive(Debug, Drop)]
 pub enum Call<'a> {
@@ -63,6 +84,9 @@ pub enum Call<'a> {
     Session(Session<'a>),
     Trial(Trial<'a>),
     Opens(Opens<'a>),
+    Limit(Limit<'a>),
+    Sql(Sql<'a>),
+    Draft(Draft<'a>),
     /// The help or version that was asked for.
     Shows(String),
     /// What is wrong with the words, as `clap` tells it.

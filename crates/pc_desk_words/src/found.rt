@@ -1,11 +1,11 @@
 //! What `clap` found of a verb, read as a call.
-ghost use Rattle.std.specs.Prelude.{◌≡◌, ◌≤◌, map, length, IfOk, IfSome, option_map};
+ghost use Rattle.std.specs.Prelude.{◌≡◌, ◌≤◌, [], codes, map, length, IfOk, IfSome, option_map, unwrap_or};
 ghost use Rattle.clap.specs.Words.{found_of, rows_of, subcommand_rows_of};
 ghost use Rattle.clap.specs.Walk.{all_of, first_of};
-ghost use Rattle.pc_desk_words.specs.Calls.{ask_names, file_names, head_names, opens_names, session_names, trial_names, HasBudget, HoldsIf};
-ghost use Rattle.pc_desk_words.specs.Words.{ask_in, asked_by, asked_in, asking, budget_of, files_in, form_in, head_in, nodes_in, opens_in, rowless_files_in, scale_in, scale_of, scale_within, session_in, sheet_form_in, trial_in, within, IsBudget, IsScale};
+ghost use Rattle.pc_desk_words.specs.Calls.{ask_names, draft_names, file_names, head_names, limit_names, opens_names, session_names, sql_names, trial_names, HasBudget, HoldsIf};
+ghost use Rattle.pc_desk_words.specs.Words.{ask_in, asked_by, asked_in, asking, budget_of, draft_in, files_in, form_in, head_in, limit_in, nodes_in, opens_in, rowless_files_in, scale_in, scale_of, scale_within, session_in, sheet_form_in, sql_in, trial_in, within, IsBudget, IsScale};
 
-use crate::call::{Ask, Call, Files, Head, Opens, Session, Trial};
+use crate::call::{Ask, Call, Draft, Files, Head, Limit, Opens, Session, Sql, Trial};
 use crate::form::{Form, SheetForm};
 use clap::ArgMatches;
 use pc_num::{Memory, read_scaled};
@@ -46,6 +46,9 @@ fn call_of<'a>(
         "session" => Ok(session_in(found).map(Call::Session)),
         "try" => Ok(trial_in(found).map(Call::Trial)),
         "opens" => Ok(opens_in(found).map(Call::Opens)),
+        "limit" => Ok(limit_in(found).map(Call::Limit)),
+        "sql" => Ok(sql_in(found).map(Call::Sql)),
+        "schema" => Ok(draft_in(alloc, found)?.map(Call::Draft)),
         _ => Ok(None),
     }
 }
@@ -110,6 +113,41 @@ fn opens_in<'a>(found: &ArgMatches<'a>) -> Option<Opens<'a>>
     let form = sheet_form_in(found)?;
     let files = rowless_files_in(found)?;
     Some(Opens { form, files })
+}
+
+fn limit_in<'a>(found: &ArgMatches<'a>) -> Option<Limit<'a>>
+    ensures { option_map limit_names result ≡ limit_in (rows_of (found_of found.now)) }
+{
+    let files = rowless_files_in(found)?;
+    let limits = text_in(found, "limits")?;
+    Some(Limit { files, limits })
+}
+
+fn sql_in<'a>(found: &ArgMatches<'a>) -> Option<Sql<'a>>
+    ensures { option_map sql_names result ≡ sql_in (rows_of (found_of found.now)) }
+{
+    let files = rowless_files_in(found)?;
+    let table = text_in(found, "table")?;
+    Some(Sql { files, table })
+}
+
+fn draft_in<'a>(alloc: Global, found: &ArgMatches<'a>) -> Result<Option<Draft<'a>>, Memory>
+    ensures { IfOk result (λ call. option_map draft_names call ≡ draft_in (rows_of (found_of found.now))) }
+{
+    let Some(rows) = text_in(found, "rows") else {
+        return Ok(None);
+    };
+    let columns = columns_in(alloc, found)?;
+    Ok(Some(Draft { rows, columns }))
+}
+
+fn columns_in<'a>(alloc: Global, found: &ArgMatches<'a>) -> Result<Vec<&'a str>, Memory>
+    ensures { IfOk result (λ columns. map (λ text. text.now) columns.items ≡ unwrap_or (all_of (codes "column") (rows_of (found_of found.now))) []) }
+{
+    match texts_in(found, "column") {
+        Some(columns) => Ok(columns.to_vec(alloc)?),
+        None => Ok(Vec::new(alloc)),
+    }
 }
 
 fn head_in<'a>(found: &ArgMatches<'a>) -> Option<Head<'a>>

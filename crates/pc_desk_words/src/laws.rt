@@ -1,6 +1,6 @@
-ghost use Rattle.std.specs.Prelude.{◌≡◌, ◌<◌, ◌∷◌, [], ℕ, List, All, Some, codes, false, length};
-ghost use Rattle.pc_desk_words.specs.Program.{most_queries};
-ghost use Rattle.pc_desk_words.specs.Words.{ask, asked_of, is_dashed, opens, session, trial, usual_nodes, usual_scale, with_files};
+ghost use Rattle.std.specs.Prelude.{◌≡◌, ◌<◌, ◌≤◌, ◌∷◌, [], ℕ, List, All, Some, codes, false, length};
+ghost use Rattle.pc_desk_words.specs.Program.{most_columns, most_queries};
+ghost use Rattle.pc_desk_words.specs.Words.{ask, asked_of, draft, is_dashed, limit, opens, session, sql, trial, usual_nodes, usual_scale, with_files};
 ghost use Rattle.pc_desk_words.specs.declared.form.Form.TheVariants.{Text};
 ghost use Rattle.pc_desk_words.specs.declared.form.SheetForm.TheVariants as sheets;
 
@@ -23,4 +23,19 @@ pub fn plain_words_are_a_trial()
 /// After `opens`, two such words are the schema and the constraints, shown as text.
 pub fn plain_words_ask_what_opens()
     ensures { (schema constraints : List ℕ) → All (λ word. is_dashed word ≡ false) (schema ∷ constraints ∷ []) → asked_of (codes "opens" ∷ schema ∷ constraints ∷ []) ≡ Some (opens (record { form = sheets.Text; files = with_files schema [] constraints })) }
+{}
+
+/// After `limit`, three such words are the schema, the constraints and the limits.
+pub fn plain_words_ask_for_limits()
+    ensures { (schema constraints limits : List ℕ) → All (λ word. is_dashed word ≡ false) (schema ∷ constraints ∷ limits ∷ []) → asked_of (codes "limit" ∷ schema ∷ constraints ∷ limits ∷ []) ≡ Some (limit (record { files = with_files schema [] constraints; limits = limits })) }
+{}
+
+/// After `sql`, three such words are the schema, the constraints and the table.
+pub fn plain_words_ask_for_sql()
+    ensures { (schema constraints table : List ℕ) → All (λ word. is_dashed word ≡ false) (schema ∷ constraints ∷ table ∷ []) → asked_of (codes "sql" ∷ schema ∷ constraints ∷ table ∷ []) ≡ Some (sql (record { files = with_files schema [] constraints; table = table })) }
+{}
+
+/// After `schema`, such words are the rows and the columns that are wanted, of which there may be none and at most twelve.
+pub fn plain_words_ask_for_a_draft()
+    ensures { (rows : List ℕ) (columns : List (List ℕ)) → All (λ word. is_dashed word ≡ false) (rows ∷ columns) → length columns ≤ most_columns → asked_of (codes "schema" ∷ rows ∷ columns) ≡ Some (draft (record { rows = rows; columns = columns })) }
 {}

@@ -2,7 +2,7 @@ ghost use Rattle.std.specs.Prelude.{◌≡◌, ◌∷◌, [], false, true, pos, 
 ghost use Rattle.clap.specs.Words.{app_of, rule_of};
 ghost use Rattle.clap.specs.declared.builder.command.Command.TheViews.{out-Command};
 ghost use Rattle.clap.specs.declared.builder.value_parser.ValueParser.TheVariants.{Signed};
-ghost use Rattle.pc_desk_words.specs.Program.{ask_verb, desk_app, desk_shape, desk_with, file_rule, form_rule, most_nodes, nodes_rule, opens_verb, query_rule, scale_rule, session_verb, try_verb, with_both, with_words};
+ghost use Rattle.pc_desk_words.specs.Program.{ask_verb, column_rule, desk_app, desk_shape, desk_with, file_rule, form_rule, limit_verb, most_nodes, nodes_rule, opens_verb, query_rule, scale_rule, schema_verb, session_verb, sql_verb, try_verb, with_both, with_words};
 
 use crate::texts;
 use clap::builder::ValueParser;
@@ -36,6 +36,20 @@ fn desk_with<'a>(
     sheets: ValueParser<'a>,
 ) -> Result<Command<'a>, AllocError>
     ensures { IfOk result (λ command. app_of command ≡ desk_with forms.entry sheets.entry) }
+{
+    holding_desk(alloc, forms, sheets)?
+        .subcommand(limit(alloc)?)?
+        .subcommand(draft(alloc)?)?
+        .subcommand(sql(alloc)?)
+}
+
+/// .. and with those that hold constraints against a table or tell what they open.
+fn holding_desk<'a>(
+    alloc: Global,
+    forms: ValueParser<'a>,
+    sheets: ValueParser<'a>,
+) -> Result<Command<'a>, AllocError>
+    ensures { IfOk result (λ command. app_of command ≡ record { top = desk_shape; subs = ask_verb forms.entry ∷ session_verb forms.entry ∷ try_verb sheets.entry ∷ opens_verb sheets.entry ∷ [] }) }
 {
     answering_desk(alloc, forms)?
         .subcommand(trial(alloc, sheets)?)?
@@ -108,6 +122,40 @@ fn opens<'a>(alloc: Global, forms: ValueParser<'a>) -> Result<Command<'a>, Alloc
         .after_help(texts::OPENS_AFTER);
     let command = command.arg(form(alloc, forms, texts::SHEET_AS))?;
     with_both(command, schema(alloc), constraints(alloc))
+}
+
+fn limit<'a>(alloc: Global) -> Result<Command<'a>, AllocError>
+    ensures app { IfOk result (λ command. app_of command ≡ record { top = limit_verb; subs = [] }) }
+    ensures local { IfOk result (λ command. (out-Command command).has_globals ≡ false) }
+{
+    let command = Command::new(alloc, "limit")
+        .about(texts::LIMIT_ABOUT)
+        .after_help(texts::LIMIT_AFTER);
+    let command = command.arg(schema(alloc))?;
+    let limits = file(alloc, "limits", "LIMITS", texts::LIMITS);
+    with_both(command, constraints(alloc), limits)
+}
+
+fn sql<'a>(alloc: Global) -> Result<Command<'a>, AllocError>
+    ensures app { IfOk result (λ command. app_of command ≡ record { top = sql_verb; subs = [] }) }
+    ensures local { IfOk result (λ command. (out-Command command).has_globals ≡ false) }
+{
+    let command = Command::new(alloc, "sql")
+        .about(texts::SQL_ABOUT)
+        .after_help(texts::SQL_AFTER);
+    let command = command.arg(schema(alloc))?;
+    let table = file(alloc, "table", "TABLE", texts::TABLE);
+    with_both(command, constraints(alloc), table)
+}
+
+fn draft<'a>(alloc: Global) -> Result<Command<'a>, AllocError>
+    ensures app { IfOk result (λ command. app_of command ≡ record { top = schema_verb; subs = [] }) }
+    ensures local { IfOk result (λ command. (out-Command command).has_globals ≡ false) }
+{
+    let command = Command::new(alloc, "schema")
+        .about(texts::SCHEMA_ABOUT)
+        .after_help(texts::SCHEMA_AFTER);
+    with_both(command, rows(alloc, texts::SCHEMA_ROWS), columns(alloc))
 }
 
 /// The options and files of `ask` and `session`, and what stands last.
@@ -209,6 +257,17 @@ fn file<'a>(alloc: Global, id: &'a str, name: &'a str, help: &'a str) -> Arg<'a>
         .value_name(name)
         .required(true)
         .help(help)
+}
+
+fn columns<'a>(alloc: Global) -> Arg<'a>
+    ensures rule { rule_of result ≡ column_rule }
+    ensures local { result.global ≡ false }
+{
+    Arg::new(alloc, "column")
+        .value_name("COLUMN")
+        .num_args(1..=12)
+        .action(ArgAction::Append)
+        .help(texts::COLUMN)
 }
 
 fn queries<'a>(alloc: Global) -> Arg<'a>

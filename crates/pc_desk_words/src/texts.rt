@@ -32,6 +32,28 @@ Example:
     };
 }
 
+/// What stands below the help of a verb whose output has one form.
+macro_rules! after_written {
+    ($statuses:literal, $refused:literal, $example:literal) => {
+        concat!(
+            "\
+Statuses:
+",
+            $statuses,
+            "  3  ",
+            $refused,
+            " are refused
+  4  a file could not be read
+  5  the answer could not be written
+  6  memory ran out
+
+Example:
+  pc_desk ",
+            $example,
+        )
+    };
+}
+
 /// Below `ask` and `session`.
 macro_rules! after_answers {
     ($refused:literal, $example:literal) => {
@@ -98,6 +120,45 @@ pub(crate) const OPENS_AFTER: &str = after_findings!(
 ",
     "opens sales.schema lost.pc"
 );
+
+pub(crate) const LIMIT_ABOUT: &str =
+    "Write constraints with lines that limit and do not open: no row may be lost by them alone";
+
+pub(crate) const LIMIT_AFTER: &str = after_written!(
+    "  0  it is written
+",
+    "words, a file or what would be written",
+    "limit sales.schema lost.pc narrow.pc > both.pc"
+);
+
+pub(crate) const SCHEMA_ABOUT: &str =
+    "Draft a schema for a table, and tell which columns have none";
+
+pub(crate) const SCHEMA_AFTER: &str = after_written!(
+    "  0  all columns that are wanted are drafted
+  1  a column is left out: it is told on standard error
+",
+    "words, a file or a table of which no column fits",
+    "schema sales.csv day branch price > sales.schema"
+);
+
+pub(crate) const SQL_ABOUT: &str =
+    "Write a statement of SQL that holds constraints against a table of a database";
+
+pub(crate) const SQL_AFTER: &str = after_written!(
+    "  0  it is written
+",
+    "words or a file",
+    "sql sales.schema lost.pc sales | sqlite3 sales.db"
+);
+
+pub(crate) const LIMITS: &str = "the limits: lines as constraints have them";
+
+pub(crate) const TABLE: &str = "the table in the database, such as sales or audit.sales";
+
+pub(crate) const SCHEMA_ROWS: &str = "the row file (CSV), with a header";
+
+pub(crate) const COLUMN: &str = "a column that is wanted; all of the header where none is named";
 
 pub(crate) const SCHEMA: &str = "the schema file: a line for each column";
 
