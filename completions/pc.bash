@@ -1,4 +1,4 @@
-# Completions of pc, pc_desk, pc_view and pc_draft for bash: source this file.
+# Completions of pc, pc_desk and pc_view for bash: source this file.
 _pc() {
   local word=${COMP_WORDS[COMP_CWORD]} command=${COMP_WORDS[1]} previous=${COMP_WORDS[COMP_CWORD - 1]}
   COMPREPLY=()
@@ -17,9 +17,9 @@ _pc_desk() {
   local word=${COMP_WORDS[COMP_CWORD]} verb=${COMP_WORDS[1]} previous=${COMP_WORDS[COMP_CWORD - 1]}
   COMPREPLY=()
   if [ "$COMP_CWORD" -eq 1 ]; then
-    mapfile -t COMPREPLY < <(compgen -W "ask session try opens help --help --version" -- "$word")
+    mapfile -t COMPREPLY < <(compgen -W "ask session try opens limit schema sql help --help --version" -- "$word")
   elif [ "$verb" = help ]; then
-    mapfile -t COMPREPLY < <(compgen -W "ask session try opens" -- "$word")
+    mapfile -t COMPREPLY < <(compgen -W "ask session try opens limit schema sql" -- "$word")
   elif [[ $previous == --as && $verb =~ ^(try|opens)$ ]]; then
     mapfile -t COMPREPLY < <(compgen -W "text table json" -- "$word")
   elif [ "$previous" = --as ]; then
@@ -32,6 +32,13 @@ _pc_desk() {
     mapfile -t COMPREPLY < <(compgen -W "--as --scale --help" -- "$word")
   elif [[ $word == -* && $verb == opens ]]; then
     mapfile -t COMPREPLY < <(compgen -W "--as --help" -- "$word")
+  elif [[ $word == -* && $verb =~ ^(limit|schema|sql)$ ]]; then
+    mapfile -t COMPREPLY < <(compgen -W "--help" -- "$word")
+  elif [[ $verb == schema && $COMP_CWORD -gt 2 && -r ${COMP_WORDS[2]} ]]; then
+    # the names of the header, where they are plain
+    local header
+    IFS= read -r header < "${COMP_WORDS[2]}"
+    mapfile -t COMPREPLY < <(IFS=,; compgen -W "${header%$'\r'}" -- "$word")
   elif [[ $word == -* ]]; then
     mapfile -t COMPREPLY < <(compgen -W "--as --nodes --help" -- "$word")
   else
@@ -49,22 +56,6 @@ _pc_view() {
     mapfile -t COMPREPLY < <(compgen -f -- "$word")
   fi
 }
-_pc_draft() {
-  local word=${COMP_WORDS[COMP_CWORD]} command=${COMP_WORDS[1]}
-  COMPREPLY=()
-  if [ "$COMP_CWORD" -eq 1 ]; then
-    mapfile -t COMPREPLY < <(compgen -W "schema sql" -- "$word")
-  elif [[ $command == schema && $COMP_CWORD -eq 2 || $command == sql && $COMP_CWORD -le 3 ]]; then
-    compopt -o filenames
-    mapfile -t COMPREPLY < <(compgen -f -- "$word")
-  elif [[ $command == schema && -r ${COMP_WORDS[2]} ]]; then
-    # the names of the header, where they are plain
-    local header
-    IFS= read -r header < "${COMP_WORDS[2]}"
-    mapfile -t COMPREPLY < <(IFS=,; compgen -W "${header%$'\r'}" -- "$word")
-  fi
-}
 complete -F _pc pc ./pc
 complete -F _pc_desk pc_desk ./pc_desk
 complete -F _pc_view pc_view ./pc_view
-complete -F _pc_draft pc_draft ./pc_draft

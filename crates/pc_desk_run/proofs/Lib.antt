@@ -1,3 +1,4 @@
+mod Drafts
 mod Explained
 mod FaultFiles
 mod Following

@@ -2,6 +2,7 @@
 use Rattle.std.proofs.Common.{◌≡◌, ◌⊎◌, ⊎_elim, inl, inr, ℕ, Bool, true, false, List, [], Some, if◌then◌else◌, refl, sym, subst, ◌∙◌}
 use Rattle.std.specs.List.{list_any}
 use Rattle.pc_files.specs.Writing.{IsCutOff, IsUntouched}
+use Rattle.pc_desk_schema.specs.Draft.{is_whole}
 use Rattle.pc_desk_try.specs.Trials.{is_kept, trial_of}
 use Rattle.pc_desk_words.specs.Words.{Asked, asked_of}
 use Rattle.pc_desk_run.specs.declared.ended.Ended.{Ended}
@@ -10,7 +11,7 @@ use Rattle.pc_desk_run.specs.declared.reply.Reply.{Reply}
 use Rattle.pc_desk_run.specs.declared.reply.Reply.TheVariants as replies
 use Rattle.pc_desk_run.specs.Endings.{is_impossible, is_open}
 use Rattle.pc_desk_run.specs.Meaning.{AsksFor, Call, Delivers, HasAnswered, HasRefused, IsNoted, KeepsPromise}
-use Rattle.pc_desk_run.specs.Outcome.{Input, asks, follows, lists, tries}
+use Rattle.pc_desk_run.specs.Outcome.{Input, asks, drafts, follows, limits, lists, tests, tries}
 use Rattle.pc_desk_run.specs.Replies.{IsNoCall, IsSaid, RefusesAsked, RepliesTo, RepliesToNone, Responds}
 
 module _ (call : Call) where
@@ -30,6 +31,9 @@ module _ (call : Call) where
   said_keeps (follows form nodes scripted) ended text note said has = keeps_by (list_any is_impossible said.0) (list_any is_open said.0) ended said.2.0 has
   said_keeps (tries form scale observed) ended text note said has = trial_keeps (is_kept (trial_of scale observed.constraints observed.rows)) ended said.0 has
   said_keeps (lists form listing) ended text note said has = keeps_by false false ended said.2.0 has
+  said_keeps (limits limited) ended text note said has = keeps_by false false ended said.2.0 has
+  said_keeps (tests table listing) ended text note said has = keeps_by false false ended said.0 has
+  said_keeps (drafts draft) ended text note said has = trial_keeps (is_whole draft) ended said.0 has
 
   -- ---- refusals
 
@@ -54,8 +58,8 @@ module _ (call : Call) where
   replied : (asked : Asked) (reply : Reply) (result : Ended) → asked_of call.words ≡ Some asked → RepliesTo call.reading asked reply → Delivers call.output call.notes reply result → KeepsPromise call result
   replied asked (replies.Says ended text note) result verb says delivers =
       ⊎_elim (λ whole. subst (λ (e : Ended). KeepsPromise call e) (sym whole.0)
-      (said_keeps says.input ended text note.now says.said (record { text = text; note = note.now; asked = asked; verb = verb; answers = says; written = whole.1; noted = whole.2 })))
-      (λ short. cut_off text result (inl (asked, ended, note.now, verb, says)) short) delivers
+      (said_keeps says.input ended text note says.said (record { text = text; note = note; asked = asked; verb = verb; answers = says; written = whole.1; noted = whole.2 })))
+      (λ short. cut_off text result (inl (asked, ended, note, verb, says)) short) delivers
   replied asked (replies.Refuses ended text) result verb refuses delivers =
       subst (λ (e : Ended). KeepsPromise call e) (sym delivers.0)
       (refuses_keep asked ended text refuses (record { text = text; refuses = inl (asked, verb, refuses); silent = delivers.1; noted = delivers.2 }))
@@ -66,7 +70,7 @@ module _ (call : Call) where
   replied_none : (reply : Reply) (result : Ended) → IsNoCall call.reading call.words → RepliesToNone call.words reply → Delivers call.output call.notes reply result → KeepsPromise call result
   replied_none (replies.Says ended text note) result none says delivers =
       ⊎_elim (λ whole. subst (λ (e : Ended). KeepsPromise call e) (sym (whole.0 ∙ says.1))
-      (inr (record { no_call = none; asked = says.0; text = text; written = whole.1; noted = silent_note note.now says.2 whole.2 })))
+      (inr (record { no_call = none; asked = says.0; text = text; written = whole.1; noted = silent_note note says.2 whole.2 })))
       (λ short. cut_off text result (inr (none, says.0)) short) delivers
   replied_none (replies.Refuses ended text) result none is delivers =
       subst (λ (e : Ended). KeepsPromise call e) (sym (delivers.0 ∙ is.1))

@@ -11,6 +11,8 @@ use Rattle.pc_desk_table.specs.declared.entry.SaidLack.{SaidLack}
 use Rattle.pc_desk_table.specs.declared.entry.SaidLack.TheVariants as lacks
 use Rattle.pc_desk_run.specs.declared.ended.Ended.{Ended}
 use Rattle.pc_desk_run.specs.declared.ended.Ended.TheVariants as ends
+use Rattle.pc_desk_schema.specs.Draft.{is_whole}
+use Rattle.pc_desk_schema.specs.declared.draft.Draft.{Draft}
 use Rattle.pc_desk_try.specs.declared.tried.Trial.{Trial}
 use Rattle.pc_desk_try.specs.Trials.{is_kept}
 
@@ -64,3 +66,7 @@ ended_of entries = if list_any is_impossible entries then ends.Impossible else (
 -- constraints that a table keeps are settled; where it breaks one something is to be looked at
 abbrev pub ended_of_trial : Trial → Ended
 ended_of_trial trial = if is_kept trial then ends.Settled else ends.Open
+
+-- a column that is left out is to be looked at
+abbrev pub ended_of_draft : Draft → Ended
+ended_of_draft draft = if is_whole draft then ends.Settled else ends.Open

@@ -86,5 +86,5 @@ KeepsPromise call ends.Memory = HasNoMemory call
 -- what was asked for is put first; where that is cut off, the note is that of the fault
 abbrev pub Delivers : Writing → Writing → Reply → Ended → Type 0
 Delivers output notes (replies.Says ended text note) result =
-    ((result ≡ ended) × IsWritten output text × IsNoted notes note.now) ⊎ (((result ≡ ends.WriteFault) × IsCutOff output text) ⊎ ((result ≡ ends.Memory) × IsUntouched output))
+    ((result ≡ ended) × IsWritten output text × IsNoted notes note) ⊎ (((result ≡ ends.WriteFault) × IsCutOff output text) ⊎ ((result ≡ ends.Memory) × IsUntouched output))
 Delivers output notes (replies.Refuses ended text) result = (result ≡ ended) × IsSilent output × IsNoted notes text

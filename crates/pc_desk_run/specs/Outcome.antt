@@ -1,25 +1,33 @@
 -- What the files of a call come to, or what stands in the way.
-use Rattle.std.specs.Prelude.{ℕ, List, Option, Result, Ok}
+use Rattle.std.specs.Prelude.{◌≡◌, ℕ, List, [], ◌∷◌, Option, Result, Ok, IfSome}
+use Rattle.pc_model.specs.declared.fault.FileKind.TheVariants as kinds
+use Rattle.pc_model.specs.declared.fault.Fault.{Fault}
 use Rattle.pc_model.specs.Refusals.{◌>>=◌}
 use Rattle.pc_base.specs.Files.{Files}
 use Rattle.pc_desk_answers.specs.Questions.{questions_of}
-use Rattle.pc_desk_words.specs.Words.{Asked, FileNames, ask, opens, session, trial}
+use Rattle.pc_desk_schema.specs.Draft.{drafted_of}
+use Rattle.pc_desk_schema.specs.declared.draft.Draft.{Draft}
+use Rattle.pc_desk_words.specs.Words.{AskNames, Asked, DraftNames, FileNames, OpensNames, SessionNames, SqlNames, TrialNames, ask, draft, limit, opens, session, sql, trial}
 use Rattle.pc_desk_words.specs.declared.form.Form.{Form}
 use Rattle.pc_desk_words.specs.declared.form.SheetForm.{SheetForm}
+use Rattle.pc_files.specs.declared.reading.Limited.{Limited}
 use Rattle.pc_files.specs.declared.reading.Listing.{Listing}
 use Rattle.pc_files.specs.declared.reading.Observed.{Observed}
 use Rattle.pc_files.specs.declared.reading.Scripted.{Scripted}
-use Rattle.pc_files.specs.Outcome.{FilesComeTo, Found, NamedFile, Obstacle, listed_files, listing_in, mapped, observed_files, observed_in, or_refused, script_files, scripted_in}
+use Rattle.pc_files.specs.Outcome.{Found, NamedFile, Obstacle, limit_files, limited_in, listed_files, listing_in, mapped, observed_files, observed_in, or_refused, outcome_of, script_files, scripted_in, value_under}
 use Rattle.pc_desk_run.specs.declared.input.Asking.{Asking}
 
--- What is asked, or a script that is followed, by searches of at most so many nodes each; or constraints that are held against the
--- rows, whose numbers are multiplied by so many millionths; or constraints of which is asked what they open. Each with the form in
--- which it is shown.
+-- What is asked, or a script that is followed, by searches of at most so many nodes each; constraints that are held against the
+-- rows, whose numbers are multiplied by so many millionths; constraints of which is asked what they open. Each with the form in
+-- which it is shown. Or limits behind constraints; constraints that a table of this name is tested by; or a draft of a schema.
 pub data Input : Type 0 where
   asks : Form → ℕ → Asking → Input
   follows : Form → ℕ → Scripted → Input
   tries : SheetForm → ℕ → Observed → Input
   lists : SheetForm → Listing → Input
+  limits : Limited → Input
+  tests : List ℕ → Listing → Input
+  drafts : Draft → Input
 
 abbrev pub data_files : FileNames → List NamedFile
 data_files names = observed_files names.schema names.rows names.constraints
@@ -30,6 +38,9 @@ files_of (ask names) = data_files names.files
 files_of (trial names) = data_files names.files
 files_of (opens names) = listed_files names.files.schema names.files.constraints
 files_of (session names) = script_files names.files.schema names.files.rows names.files.constraints names.script
+files_of (limit names) = limit_files names.files.schema names.files.constraints names.limits
+files_of (sql names) = listed_files names.files.schema names.files.constraints
+files_of (draft names) = (kinds.Rows, names.rows) ∷ []
 
 -- the questions of texts, with what was found
 abbrev pub asking_in : List (List ℕ) → Found → Result Asking Obstacle
@@ -37,12 +48,40 @@ asking_in texts found = do
   questions ← or_refused (questions_of found.schema texts)
   Ok (record { observed = observed_in found; questions = questions })
 
-abbrev pub input_in : Asked → Found → Result Input Obstacle
-input_in (ask names) found = mapped (asks names.form names.nodes) (asking_in names.queries found)
-input_in (session names) found = Ok (follows names.form names.nodes (scripted_in found))
-input_in (trial names) found = Ok (tries names.form names.scale (observed_in found))
-input_in (opens names) found = Ok (lists names.form (listing_in found))
+-- ---- what was found in the files of each verb
+
+abbrev pub asks_in : AskNames → Found → Result Input Obstacle
+asks_in names found = mapped (asks names.form names.nodes) (asking_in names.queries found)
+
+abbrev pub follows_in : SessionNames → Found → Result Input Obstacle
+follows_in names found = Ok (follows names.form names.nodes (scripted_in found))
+
+abbrev pub tries_in : TrialNames → Found → Result Input Obstacle
+tries_in names found = Ok (tries names.form names.scale (observed_in found))
+
+abbrev pub lists_in : OpensNames → Found → Result Input Obstacle
+lists_in names found = Ok (lists names.form (listing_in found))
+
+abbrev pub limits_in : Found → Result Input Obstacle
+limits_in found = Ok (limits (limited_in found))
+
+abbrev pub tests_in : SqlNames → Found → Result Input Obstacle
+tests_in names found = Ok (tests names.table (listing_in found))
+
+-- a draft is of the bytes of a row file, which are read with no schema
+abbrev pub drafted_for : DraftNames → List ℕ → Result Draft Fault
+drafted_for names bytes = drafted_of bytes names.columns
+
+-- what the files that a shelf holds come to
+abbrev pub comes_to : Asked → Files → Result Input Obstacle
+comes_to (ask names) shelf = outcome_of (files_of (ask names)) (asks_in names) shelf
+comes_to (session names) shelf = outcome_of (files_of (session names)) (follows_in names) shelf
+comes_to (trial names) shelf = outcome_of (files_of (trial names)) (tries_in names) shelf
+comes_to (opens names) shelf = outcome_of (files_of (opens names)) (lists_in names) shelf
+comes_to (limit names) shelf = outcome_of (files_of (limit names)) limits_in shelf
+comes_to (sql names) shelf = outcome_of (files_of (sql names)) (tests_in names) shelf
+comes_to (draft names) shelf = mapped drafts (value_under kinds.Rows names.rows (drafted_for names) shelf)
 
 -- where the shelf tells its files, the call comes to this with them
 abbrev pub ComesTo : Option Files → Asked → Result Input Obstacle → Type 0
-ComesTo told asked outcome = FilesComeTo told (files_of asked) (input_in asked) outcome
+ComesTo told asked outcome = IfSome told (λ shelf. comes_to asked shelf ≡ outcome)

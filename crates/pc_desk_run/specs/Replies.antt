@@ -1,16 +1,24 @@
 -- What is replied to words, by what the files hold.
-use Rattle.std.specs.Prelude.{◌≡◌, ◌⊎◌, ℕ, List, [], Some, None, Ok, Err}
+use Rattle.std.specs.Prelude.{◌≡◌, ◌⊎◌, ℕ, List, [], ◌++◌, drop, length, take, Some, None, Ok, Err}
+use Rattle.pc_model.specs.declared.constraint.Constraint.{Constraint}
 use Rattle.pc_model.specs.declared.fault.Fault.{Fault}
 use Rattle.pc_model.specs.declared.fault.FileKind.{FileKind}
 use Rattle.pc_files.specs.declared.kept.Kept.{Kept}
 use Rattle.pc_files.specs.declared.stop.Stop.{Stop}
 use Rattle.pc_files.specs.declared.stop.Stop.TheVariants as stops
-use Rattle.pc_files.specs.Keeping.{ExplainsFault}
 use Rattle.pc_files.specs.Loading.{EndsAt, IsUnread, LoadsAll, Reading}
 use Rattle.pc_files.specs.Outcome.{refused}
+use Rattle.pc_files.specs.declared.reading.Limited.{Limited}
 use Rattle.pc_files.specs.declared.reading.Listing.{Listing}
+use Rattle.pc_lang.specs.Canonical.{constraints_text}
+use Rattle.pc_schema.specs.Plain.{plain_text}
 use Rattle.pc_files.specs.Reads.{start_of}
 use Rattle.pc_desk_answers.specs.Blocks.{ArePosed, AreShown, asked, ground_of, posed_by}
+use Rattle.pc_desk_limit.specs.declared.limiting.Limiting.{Limiting}
+use Rattle.pc_desk_limit.specs.declared.limiting.Limiting.TheVariants.{Outside, TooMany, Written}
+use Rattle.pc_desk_limit.specs.Limiting.{IsClosed, IsLimiting}
+use Rattle.pc_desk_schema.specs.Texts.{remark_lines}
+use Rattle.pc_desk_sql.specs.Spelled.{sql_text}
 use Rattle.pc_desk_table.specs.declared.entry.Entry.{Entry}
 use Rattle.pc_desk_words.specs.declared.form.Form.{Form}
 use Rattle.pc_desk_words.specs.Words.{Asked, MayHelp, MayRefuse, asked_of}
@@ -25,10 +33,10 @@ use Rattle.pc_desk_try.specs.Openings.{AreOpenings}
 use Rattle.pc_desk_try.specs.Shown.{sheet_of}
 use Rattle.pc_desk_try.specs.Trials.{trial_of}
 use Rattle.pc_desk_words.specs.declared.form.SheetForm.{SheetForm}
-use Rattle.pc_desk_run.specs.Endings.{ended_of, ended_of_trial}
-use Rattle.pc_desk_run.specs.Inputs.{IsSoundInput, names_in}
-use Rattle.pc_desk_run.specs.Outcome.{ComesTo, Input, asks, files_of, follows, lists, tries}
-use Rattle.pc_desk_run.specs.Texts.{AreRefusedLines, Named, named_in, note_on, sheet_text, text_of, unread_line}
+use Rattle.pc_desk_run.specs.Endings.{ended_of, ended_of_draft, ended_of_trial}
+use Rattle.pc_desk_run.specs.Inputs.{Explains, IsInputOf, IsSoundInput}
+use Rattle.pc_desk_run.specs.Outcome.{ComesTo, Input, asks, drafts, files_of, follows, limits, lists, tests, tries}
+use Rattle.pc_desk_run.specs.Texts.{AreRefusedLines, Named, named_in, no_column_lines, note_on, outside_lines, sheet_text, text_of, too_many_lines, unread_line}
 
 -- what a text is of, with a status and a note beside it
 abbrev pub Saying : Type 1
@@ -47,9 +55,22 @@ abbrev pub AreOpeningsShown : SheetForm → Listing → List Opening → Saying
 AreOpeningsShown form listing openings ended text said =
     (ended ≡ ends.Settled) × (text ≡ sheet_text form (openings_sheet listing.schema listing.constraints openings)) × (said ≡ note_on listing.constraints)
 
+-- .. of what is written with no form
+abbrev pub IsWritten : Ended → List ℕ → List ℕ → Saying
+IsWritten status written note ended text said = (ended ≡ status) × (text ≡ written) × (said ≡ note)
+
+-- the constraints among a list that limits follow, and these
+abbrev pub opening_of : Limited → List Constraint
+opening_of limited = take limited.opening limited.all
+
+abbrev pub limits_of : Limited → List Constraint
+limits_of limited = drop limited.opening limited.all
+
 -- What is said of an input. Entries show answers to what is asked: each is right, by searches of at most so many nodes, and stands
 -- beside the answer to the same where nothing is lost; of a script, which may add constraints, each has the number of its line in the
--- file. A trial is that of the constraints over the rows; and each row that can be lost is in one of the classes that are shown.
+-- file. A trial is that of the constraints over the rows; and each row that can be lost is in one of the classes that are shown. A
+-- list that is written allows what its constraints allow as far as it meets the limits; a statement is that for the constraints, and
+-- a draft that of the file, with what is said of columns beside it.
 abbrev pub IsSaid : Input → Saying
 IsSaid (asks form nodes asking) ended text note =
     (entries : List Entry) × AreShown (ground_of asking.observed nodes) (asked asking.observed.schema asking.questions) entries
@@ -60,11 +81,35 @@ IsSaid (tries form scale observed) ended text note =
     IsTrialShown form (trial_of scale observed.constraints observed.rows) (note_on observed.constraints) ended text note
 IsSaid (lists form listing) ended text note =
     (openings : List Opening) × AreOpenings listing.schema listing.constraints openings × AreOpeningsShown form listing openings ended text note
+IsSaid (limits limited) ended text note =
+    (written : List Constraint) × IsClosed limited.schema (opening_of limited) (limits_of limited) written
+    × IsWritten ends.Settled (constraints_text limited.schema written) [] ended text note
+IsSaid (tests table listing) ended text note =
+    IsWritten ends.Settled (sql_text listing.schema listing.constraints table) (note_on listing.constraints) ended text note
+IsSaid (drafts draft) ended text note = IsWritten (ended_of_draft draft) (plain_text draft.schema.columns) (remark_lines draft) ended text note
 
 -- the reply is what is said
 abbrev pub Says : Saying → Reply → Type 0
-Says Said (replies.Says ended text note) = Said ended text note.now
+Says Said (replies.Says ended text note) = Said ended text note
 Says Said (replies.Refuses ended text) = ⊥
+
+-- why limits are not written
+abbrev pub IsLimitRefusal : Named → Limited → Limiting → List ℕ → Type 0
+IsLimitRefusal named limited (Written written) text = ⊥
+IsLimitRefusal named limited (Outside place) text = text ≡ outside_lines named limited.opening place
+IsLimitRefusal named limited (TooMany lines) text = text ≡ too_many_lines named lines
+
+-- why nothing is written of an input
+abbrev pub IsUnwritten : Named → Input → List ℕ → Type 0
+IsUnwritten named (limits limited) text =
+    (limiting : Limiting) × IsLimiting limited.schema (opening_of limited) (limits_of limited) limiting × IsLimitRefusal named limited limiting text
+IsUnwritten named (drafts draft) text = (length draft.schema.columns ≡ 0) × (text ≡ no_column_lines named ++ remark_lines draft)
+IsUnwritten named input text = ⊥
+
+-- the reply is what is said of an input, or why nothing is
+abbrev pub Answers : Named → Input → Reply → Type 0
+Answers named input (replies.Says ended text note) = IsSaid input ended text note
+Answers named input (replies.Refuses ended text) = (ended ≡ ends.Refused) × IsUnwritten named input text
 
 -- why files give nothing; without memory there is no reply
 abbrev pub IsStopReply : Named → Kept → Stop → Reply → Type 0
@@ -72,13 +117,24 @@ IsStopReply named kept (stops.Refused fault) reply = (text : List ℕ) × AreRef
 IsStopReply named kept (stops.Unread kind) reply = reply ≡ replies.Refuses ends.ReadFault (unread_line named kind)
 IsStopReply named kept stops.Memory reply = ⊥
 
--- The files are accepted and come to this input; and this is the text of what is shown of its answers, with this status and note.
-pub record SaysAnswers (reading : Reading) (asked : Asked) (ended : Ended) (text note : List ℕ) : Type 0 where
-  pub input : Input
+-- the files are accepted and come to this input, of which form, nodes, factor and table are those of the words
+pub record IsPosed (reading : Reading) (asked : Asked) (input : Input) : Type 0 where
   pub agrees : ComesTo reading.before.files asked (Ok input)
+  pub posed : IsInputOf asked input
   pub sound : IsSoundInput input
   pub loads : LoadsAll reading (files_of asked)
+
+-- .. and this is the text of what is shown of its answers, with this status and note
+pub record SaysAnswers (reading : Reading) (asked : Asked) (ended : Ended) (text note : List ℕ) : Type 0 where
+  pub input : Input
+  pub posed : IsPosed reading asked input
   pub said : IsSaid input ended text note
+
+-- .. or why nothing is written of it
+pub record RefusesInput (reading : Reading) (asked : Asked) (text : List ℕ) : Type 0 where
+  pub input : Input
+  pub posed : IsPosed reading asked input
+  pub unwritten : IsUnwritten (named_in asked) input text
 
 -- A file or a query has a first fault, and nothing was loaded after that file. What explains it is told of the bytes that the shelf
 -- holds under the names of the schema and of the refused file.
@@ -87,7 +143,7 @@ pub record RefusesFault (reading : Reading) (asked : Asked) (text : List ℕ) : 
   pub agrees : ComesTo reading.before.files asked (Err (refused fault))
   pub loads : EndsAt reading (files_of asked) fault.file
   pub kept : Kept
-  pub explains : ExplainsFault reading.before.files (names_in (named_in asked)) kept fault.file
+  pub explains : Explains reading.before.files asked kept fault.file
   pub told : AreRefusedLines (named_in asked) kept fault text
 
 -- the last load failed, and no other
@@ -97,7 +153,7 @@ pub record RefusesLoad (reading : Reading) (asked : Asked) (text : List ℕ) : T
   pub told : text ≡ unread_line (named_in asked) kind
 
 abbrev pub RefusesAsked : Reading → Asked → Ended → List ℕ → Type 0
-RefusesAsked reading asked ends.Refused text = RefusesFault reading asked text
+RefusesAsked reading asked ends.Refused text = RefusesFault reading asked text ⊎ RefusesInput reading asked text
 RefusesAsked reading asked ends.ReadFault text = RefusesLoad reading asked text
 RefusesAsked reading asked ends.Settled text = ⊥
 RefusesAsked reading asked ends.Open text = ⊥
@@ -107,7 +163,7 @@ RefusesAsked reading asked ends.Memory text = ⊥
 
 -- the reply to a call
 abbrev pub RepliesTo : Reading → Asked → Reply → Type 0
-RepliesTo reading asked (replies.Says ended text note) = SaysAnswers reading asked ended text note.now
+RepliesTo reading asked (replies.Says ended text note) = SaysAnswers reading asked ended text note
 RepliesTo reading asked (replies.Refuses ended text) = RefusesAsked reading asked ended text
 
 -- the words are no call, and nothing was loaded
@@ -117,7 +173,7 @@ pub record IsNoCall (reading : Reading) (words : List (List ℕ)) : Type 0 where
 
 -- help that was asked for has no note; else the words are refused
 abbrev pub RepliesToNone : List (List ℕ) → Reply → Type 0
-RepliesToNone words (replies.Says ended text note) = MayHelp words × (ended ≡ ends.Settled) × (note.now ≡ [])
+RepliesToNone words (replies.Says ended text note) = MayHelp words × (ended ≡ ends.Settled) × (note ≡ [])
 RepliesToNone words (replies.Refuses ended text) = MayRefuse words × (ended ≡ ends.Refused)
 
 abbrev pub RespondsTo : Reading → List (List ℕ) → Reply → Type 0

@@ -1,5 +1,5 @@
 -- The texts that a run writes.
-use Rattle.std.specs.Prelude.{◌≡◌, ℕ, ◌-◌, ◌==◌, ◌||◌, Bool, true, false, List, [], ◌∷◌, ◌++◌, codes, decimal, get_or, length, map, if◌then◌else◌}
+use Rattle.std.specs.Prelude.{◌≡◌, ℕ, ◌-◌, ◌==◌, ◌||◌, Bool, true, false, List, [], ◌∷◌, ◌++◌, codes, decimal, get_or, length, map, nat_lt, if◌then◌else◌}
 use Rattle.std.specs.List.{concat}
 use Rattle.pc_model.specs.declared.constraint.Constraint.{Constraint}
 use Rattle.pc_model.specs.declared.fault.Fault.{Fault}
@@ -18,7 +18,7 @@ use Rattle.pc_desk_table.specs.declared.sheet.Sheet.{Sheet}
 use Rattle.pc_desk_table.specs.Sheets.{sheet_json, sheet_lines, sheet_table}
 use Rattle.pc_desk_table.specs.Table.{table_text}
 use Rattle.pc_desk_words.specs.Calls.{file_names}
-use Rattle.pc_desk_words.specs.Words.{Asked, FileNames, ask, opens, session, trial}
+use Rattle.pc_desk_words.specs.Words.{Asked, FileNames, ask, draft, limit, opens, session, sql, trial, with_files}
 use Rattle.pc_desk_words.specs.declared.form.Form.{Form}
 use Rattle.pc_desk_words.specs.declared.form.Form.TheVariants as forms
 use Rattle.pc_desk_words.specs.declared.form.SheetForm.{SheetForm}
@@ -40,20 +40,27 @@ sheet_text sheet_forms.Json sheet = sheet_json sheet
 
 -- ---- why nothing is shown
 
--- what a call reads: the names of its files, its script and its queries
+-- what a call reads: the names of its files, its script, its limits and its queries
 pub record Named : Type 0 where
   pub files : FileNames
   pub script : List ℕ
+  pub limits : List ℕ
   pub queries : List (List ℕ)
 
+abbrev pub named_files : FileNames → Named
+named_files files = record { files = files; script = []; limits = []; queries = [] }
+
 abbrev pub named_in : Asked → Named
-named_in (ask names) = record { files = names.files; script = []; queries = names.queries }
-named_in (session names) = record { files = names.files; script = names.script; queries = [] }
-named_in (trial names) = record { files = names.files; script = []; queries = [] }
-named_in (opens names) = record { files = names.files; script = []; queries = [] }
+named_in (ask names) = record (named_files names.files) { queries = names.queries }
+named_in (session names) = record (named_files names.files) { script = names.script }
+named_in (trial names) = named_files names.files
+named_in (opens names) = named_files names.files
+named_in (limit names) = record (named_files names.files) { limits = names.limits }
+named_in (sql names) = named_files names.files
+named_in (draft names) = named_files (with_files [] names.rows [])
 
 abbrev pub named_of : Sources → Named
-named_of sources = record { files = file_names sources.files; script = sources.script.now; queries = map (λ text. text.now) sources.queries.now }
+named_of sources = record { files = file_names sources.files; script = sources.script.now; limits = sources.limits.now; queries = map (λ text. text.now) sources.queries.now }
 
 -- a file as it was named, or the text of the query at a place
 abbrev pub name_of : Named → FileKind → ℕ → List ℕ
@@ -62,6 +69,7 @@ name_of named kinds.Rows place = named.files.rows
 name_of named kinds.Constraints place = named.files.constraints
 name_of named kinds.Query place = get_or named.queries (place - 1) []
 name_of named kinds.Script place = named.script
+name_of named kinds.Limits place = named.limits
 name_of named kinds.Document place = []
 
 -- what the places of a file count, which is asked of those that have places
@@ -70,6 +78,7 @@ part_name kinds.Rows = codes "record"
 part_name kinds.Schema = codes "record"
 part_name kinds.Constraints = codes "line"
 part_name kinds.Script = codes "line"
+part_name kinds.Limits = codes "line"
 part_name kinds.Document = codes "line"
 part_name kinds.Query = codes "line"
 
@@ -79,6 +88,7 @@ is_query kinds.Schema = false
 is_query kinds.Rows = false
 is_query kinds.Constraints = false
 is_query kinds.Script = false
+is_query kinds.Limits = false
 is_query kinds.Document = false
 
 -- the file, with the line or record where it has one; or the query
@@ -96,6 +106,27 @@ pub record AreRefusedLines (named : Named) (kept : Kept) (fault : Fault) (text :
 
 abbrev pub unread_line : Named → FileKind → List ℕ
 unread_line named kind = concat (codes "read fault: " ∷ file_name_of kind ∷ codes ": " ∷ name_of named kind 0 ∷ line_break ∷ [])
+
+-- ---- why nothing is written of files that are accepted
+
+-- the file in which a constraint stands, of which so many are before the limits
+abbrev pub list_name : Named → ℕ → ℕ → List ℕ
+list_name named opening place = if nat_lt place opening then named.files.constraints else named.limits
+
+abbrev pub outside_lines : Named → ℕ → ℕ → List ℕ
+outside_lines named opening place =
+    concat
+    (codes "limits refused: a line `outside`" ∷ line_break ∷ codes "  " ∷ list_name named opening place
+    ∷ codes ": the line speaks of the rows of no predicate, and a line that is added would take rows from it" ∷ line_break ∷ [])
+
+abbrev pub too_many_lines : Named → ℕ → List ℕ
+too_many_lines named lines =
+    concat
+    (codes "limits refused: " ∷ decimal lines ∷ codes " lines" ∷ line_break ∷ codes "  " ∷ named.limits ∷ codes ", after the lines of "
+    ∷ named.files.constraints ∷ codes ": with the lines that close them there would be " ∷ decimal lines ∷ codes ", and a file has at most 20" ∷ line_break ∷ [])
+
+abbrev pub no_column_lines : Named → List ℕ
+no_column_lines named = concat (codes "schema refused: no column fits" ∷ line_break ∷ codes "  " ∷ named.files.rows ∷ line_break ∷ [])
 
 -- ---- what is said beside
 

@@ -6,7 +6,7 @@ ghost use Rattle.pc_desk_run.specs.Endings.{code_of};
 pub enum Ended {
     /// What was asked for is written, and all of it is settled; of `try`, the table keeps the constraints.
     Settled,
-    /// It is written, and an end is outer, or something is undecided; of `try`, there is something to look at.
+    /// It is written, and an end is outer, or something is undecided; of `try` and of `schema`, there is something to look at.
     Open,
     /// It is written, and for a block no lost rows are possible.
     Impossible,

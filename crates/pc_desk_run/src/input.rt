@@ -1,18 +1,23 @@
-ghost use Rattle.std.specs.Prelude.{IfOk};
+ghost use Rattle.std.specs.Prelude.{◌≡◌, ◌≤◌, IfOk, length};
+ghost use Rattle.pc_model.specs.WellFormed.{IsWellFormed};
+ghost use Rattle.pc_files.specs.Keeping.{KeptFrom, none_kept};
 ghost use Rattle.pc_files.specs.Loading.{reading_of};
-ghost use Rattle.pc_desk_words.specs.Calls.{ask_names, opens_names, session_names, trial_names};
+ghost use Rattle.pc_desk_words.specs.Calls.{ask_names, draft_names, file_names, limit_names, session_names, trial_names};
 ghost use Rattle.pc_desk_words.specs.Words as words;
-ghost use Rattle.pc_files.specs.Reads.{IsScripted, IsShowable, IsUsable};
-ghost use Rattle.pc_desk_run.specs.Inputs.{IsAsking, KeepsAsked, ReadsAsking, ReadsOpens, ReadsSession, ReadsTrial};
+ghost use Rattle.pc_files.specs.Reads.{IsLimited, IsScripted, IsShowable, IsUsable};
+ghost use Rattle.pc_desk_run.specs.Texts.{named_files};
+ghost use Rattle.pc_desk_run.specs.Inputs.{IsAsking, KeepsAsked, KeepsDraftUntil, ReadsAsking, ReadsDraft, ReadsFiles, ReadsLimits, ReadsSession, ReadsTrial, names_in};
 
 use pc_base::Shelf;
 use pc_desk_answers::{Question, read_questions};
-use pc_desk_words::{Ask, Opens, Session, Trial};
+use pc_desk_schema::{Draft as Drafted, draft_schema};
+use pc_desk_words::{Ask, Draft, Files, Limit, Session, Trial};
 use pc_files::{
-    Kept, Listing, Observed, Scripted, Stop, read_listing_keeping, read_observed_keeping,
-    read_scripted_keeping,
+    Kept, Limited, Listing, Observed, Scripted, Stop, load_bytes, read_limited_keeping,
+    read_listing_keeping, read_observed_keeping, read_scripted_keeping,
 };
 use pc_list::Seq;
+use pc_model::FileKind;
 use std::alloc::Global;
 
 /// What is asked, and of what.
@@ -94,17 +99,55 @@ pub(crate) fn read_trial<F: Shelf>(
     )
 }
 
-/// Reads the files of `opens`.
-pub(crate) fn read_opens<F: Shelf>(
+/// Reads the files of `opens` or of `sql`.
+pub(crate) fn read_files<F: Shelf>(
     alloc: Global,
     files: &mut F,
-    opens: &Opens,
+    names: Files<'_>,
     kept: &mut Kept,
 ) -> Result<Listing, Stop>
-    ensures read { ReadsOpens (reading_of F.told F.leads files.old files.new) (opens_names opens.now) result }
+    ensures read { ReadsFiles (reading_of F.told F.leads files.old files.new) (file_names names.entry) result }
     ensures sound { IfOk result IsShowable }
-    ensures kept { KeepsAsked (F.told files.old).files (words.opens (opens_names opens.now)) kept.new result }
+    ensures kept { KeptFrom (F.told files.old).files (names_in (named_files (file_names names.entry))) kept.new result }
 {
-    let names = opens.files;
     read_listing_keeping(alloc, files, names.schema, names.constraints, kept)
+}
+
+/// Reads the files of `limit`.
+pub(crate) fn read_limits<F: Shelf>(
+    alloc: Global,
+    files: &mut F,
+    limit: &Limit,
+    kept: &mut Kept,
+) -> Result<Limited, Stop>
+    ensures read { ReadsLimits (reading_of F.told F.leads files.old files.new) (limit_names limit.now) result }
+    ensures sound { IfOk result IsLimited }
+    ensures kept { KeepsAsked (F.told files.old).files (words.limit (limit_names limit.now)) kept.new result }
+{
+    let names = limit.files;
+    read_limited_keeping(
+        alloc,
+        files,
+        names.schema,
+        names.constraints,
+        limit.limits,
+        kept,
+    )
+}
+
+/// Reads the rows of `schema`, and drafts a schema for the columns that are wanted.
+pub(crate) fn read_draft<F: Shelf>(
+    alloc: Global,
+    files: &mut F,
+    wish: &Draft,
+    kept: &mut Kept,
+) -> Result<Drafted, Stop>
+    requires { kept.old ≡ none_kept }
+    ensures read { ReadsDraft (reading_of F.told F.leads files.old files.new) (draft_names wish.now) result }
+    ensures sound { IfOk result (λ draft. 1 ≤ length draft.schema.columns → IsWellFormed draft.schema) }
+    ensures kept { KeepsDraftUntil (F.told files.old).files (draft_names wish.now) kept.new result }
+{
+    kept.last = load_bytes(alloc, files, FileKind::Rows, wish.rows)?;
+    let columns = wish.columns.as_slice();
+    Ok(draft_schema(alloc, kept.last.as_slice(), columns)?)
 }

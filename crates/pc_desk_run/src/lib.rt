@@ -10,6 +10,8 @@ mod reply;
 mod run;
 mod session;
 mod settled;
+mod unwritten;
+mod written;
 
 pub use ended::Ended;
 pub use run::desk;

@@ -1,21 +1,22 @@
 ghost use Rattle.std.specs.Prelude.{◌≡◌, ◌-◌, [], IfOk, get_or, map, string_bytes};
-ghost use Rattle.pc_desk_words.specs.Calls.{ask_names, file_names, opens_names, session_names, trial_names};
+ghost use Rattle.pc_desk_words.specs.Calls.{ask_names, draft_names, file_names, limit_names, session_names, trial_names};
 ghost use Rattle.pc_desk_words.specs.Words as words;
-ghost use Rattle.pc_desk_run.specs.Texts.{AreRefusedLines, is_query, name_of, named_in, named_of, part_name, place_text, unread_line};
+ghost use Rattle.pc_desk_run.specs.Texts.{AreRefusedLines, is_query, name_of, named_files, named_in, named_of, part_name, place_text, unread_line};
 
 use pc_desk_fault::{About, explained};
-use pc_desk_words::{Ask, Files, Opens, Session, Trial};
+use pc_desk_words::{Ask, Draft, Files, Limit, Session, Trial};
 use pc_files::{Kept, malformed_line};
 use pc_list::Seq;
 use pc_model::{Fault, FileKind};
 use pc_num::Memory;
 use std::alloc::Global;
 
-/// The names of what a verb reads: its files, and its queries or its script.
+/// The names of what a verb reads: its files, and its queries, its script or its limits.
 #[derive(Clone, Copy, Debug)]
 pub(crate) struct Sources<'a> {
     pub files: Files<'a>,
     pub script: &'a str,
+    pub limits: &'a str,
     pub queries: &'a [&'a str],
 }
 
@@ -26,6 +27,7 @@ pub(crate) fn sources_of_ask<'a>(ask: &'a Ask<'a>) -> Sources<'a>
     Sources {
         files: ask.files,
         script: "",
+        limits: "",
         queries: ask.queries.as_slice(),
     }
 }
@@ -37,6 +39,7 @@ pub(crate) fn sources_of_session<'a>(session: &Session<'a>) -> Sources<'a>
     Sources {
         files: session.files,
         script: session.script,
+        limits: "",
         queries: &[],
     }
 }
@@ -48,20 +51,37 @@ pub(crate) fn sources_of_trial<'a>(trial: &Trial<'a>) -> Sources<'a>
     sources_of_files(trial.files)
 }
 
-/// What `opens` reads.
-pub(crate) fn sources_of_opens<'a>(opens: &Opens<'a>) -> Sources<'a>
-    ensures { named_of result ≡ named_in (words.opens (opens_names opens.now)) }
+/// What `limit` reads.
+pub(crate) fn sources_of_limit<'a>(limit: &Limit<'a>) -> Sources<'a>
+    ensures { named_of result ≡ named_in (words.limit (limit_names limit.now)) }
 {
-    sources_of_files(opens.files)
+    Sources {
+        files: limit.files,
+        script: "",
+        limits: limit.limits,
+        queries: &[],
+    }
 }
 
-// Of no script and no queries.
-fn sources_of_files(files: Files<'_>) -> Sources<'_>
-    ensures { named_of result ≡ record { files = file_names files.entry; script = []; queries = [] } }
+/// What `schema` reads.
+pub(crate) fn sources_of_draft<'a>(draft: &Draft<'a>) -> Sources<'a>
+    ensures { named_of result ≡ named_in (words.draft (draft_names draft.now)) }
+{
+    sources_of_files(Files {
+        schema: "",
+        rows: draft.rows,
+        constraints: "",
+    })
+}
+
+/// Files with no script, no limits and no queries.
+pub(crate) fn sources_of_files(files: Files<'_>) -> Sources<'_>
+    ensures { named_of result ≡ named_files (file_names files.entry) }
 {
     Sources {
         files,
         script: "",
+        limits: "",
         queries: &[],
     }
 }
@@ -130,6 +150,7 @@ fn name_of<'a>(sources: &Sources<'a>, kind: FileKind, place: u64) -> &'a str
         FileKind::Rows => sources.files.rows,
         FileKind::Constraints => sources.files.constraints,
         FileKind::Script => sources.script,
+        FileKind::Limits => sources.limits,
         FileKind::Query => query_at(sources.queries, place),
         FileKind::Document => "",
     }

@@ -12,14 +12,15 @@ ghost use Rattle.pc_desk_run.specs.Texts.{named_of};
 
 use crate::ended::Ended;
 use crate::form::{sheet_text, text_of};
-use crate::input::{Asking, read_asking, read_opens, read_session, read_trial};
+use crate::input::{Asking, read_asking, read_files, read_session, read_trial};
 use crate::line::{
-    Sources, refused_lines, sources_of_ask, sources_of_opens, sources_of_session, sources_of_trial,
+    Sources, refused_lines, sources_of_ask, sources_of_files, sources_of_session, sources_of_trial,
     unread_line,
 };
 use crate::note::note_on;
 use crate::session::follow_script;
 use crate::settled::{ended_of, ended_of_trial};
+use crate::written::{reply_to_draft, reply_to_limit, reply_to_sql};
 use pc_base::Shelf;
 use pc_desk_answers::answer_questions;
 use pc_desk_table::Entry;
@@ -36,7 +37,7 @@ pub(crate) enum Reply {
     Says {
         ended: Ended,
         text: Seq<u8>,
-        note: &'static str,
+        note: Seq<u8>,
     },
     Refuses {
         ended: Ended,
@@ -58,19 +59,22 @@ pub(crate) fn respond<F: Shelf>(
         Call::Session(session) => reply_to_session(alloc, files, &session),
         Call::Trial(trial) => reply_to_trial(alloc, files, &trial),
         Call::Opens(opens) => reply_to_opens(alloc, files, &opens),
-        Call::Shows(text) => Ok(help(text)),
+        Call::Limit(limit) => reply_to_limit(alloc, files, &limit),
+        Call::Sql(sql) => reply_to_sql(alloc, files, &sql),
+        Call::Draft(draft) => reply_to_draft(alloc, files, &draft),
+        Call::Shows(text) => Ok(help(alloc, text)),
         Call::Refused(text) => Ok(refusal(text)),
     }
 }
 
 // What words get that ask for help.
-fn help(text: String) -> Reply
+fn help(alloc: Global, text: String) -> Reply
     ensures { (asked : List (List ℕ)) → MayHelp asked → RepliesToNone asked result }
 {
     Reply::Says {
         ended: Ended::Settled,
         text: Seq::from_vec(text.into_bytes()),
-        note: "",
+        note: Seq::new(alloc),
     }
 }
 
@@ -125,9 +129,9 @@ fn reply_to_opens<F: Shelf>(alloc: Global, files: &mut F, opens: &Opens) -> Resu
     ensures { IfOk result (RepliesTo (reading_of F.told F.leads files.old files.new) (words.opens (opens_names opens.now))) }
 {
     let mut kept = Kept::new(alloc);
-    match read_opens(alloc, files, opens, &mut kept) {
+    match read_files(alloc, files, opens.files, &mut kept) {
         Ok(listing) => opened(alloc, &listing, opens.form),
-        Err(stop) => stopped(alloc, &sources_of_opens(opens), &kept, stop),
+        Err(stop) => stopped(alloc, &sources_of_files(opens.files), &kept, stop),
     }
 }
 
@@ -138,12 +142,8 @@ fn answered(alloc: Global, asking: &Asking, form: Form, nodes: u32) -> Result<Re
 {
     let questions = asking.questions.as_slice();
     let entries = answer_questions(alloc, &asking.observed, questions, nodes)?;
-    shown(
-        alloc,
-        form,
-        &entries,
-        note_on(asking.observed.constraints.as_slice()),
-    )
+    let note = note_on(alloc, asking.observed.constraints.as_slice())?;
+    shown(alloc, form, &entries, note)
 }
 
 fn followed(alloc: Global, scripted: Scripted, form: Form, nodes: u32) -> Result<Reply, Memory>
@@ -152,16 +152,11 @@ fn followed(alloc: Global, scripted: Scripted, form: Form, nodes: u32) -> Result
     ensures { IfOk result (Says (IsSaid (follows form nodes scripted))) }
 {
     let entries = follow_script(alloc, scripted, nodes)?;
-    shown(alloc, form, &entries, "")
+    shown(alloc, form, &entries, Seq::new(alloc))
 }
 
-fn shown(
-    alloc: Global,
-    form: Form,
-    entries: &Seq<Entry>,
-    note: &'static str,
-) -> Result<Reply, Memory>
-    ensures { IfOk result (Says (IsShown form entries.now note.now)) }
+fn shown(alloc: Global, form: Form, entries: &Seq<Entry>, note: Seq<u8>) -> Result<Reply, Memory>
+    ensures { IfOk result (Says (IsShown form entries.now note)) }
 {
     let entries = entries.as_slice();
     Ok(Reply::Says {
@@ -180,7 +175,7 @@ fn tried(alloc: Global, observed: &Observed, form: SheetForm, scale: u64) -> Res
     Ok(Reply::Says {
         ended: ended_of_trial(&trial),
         text: Seq::from_vec(sheet_text(alloc, form, &sheet)?),
-        note: note_on(constraints),
+        note: note_on(alloc, constraints)?,
     })
 }
 
@@ -195,11 +190,16 @@ fn opened(alloc: Global, listing: &Listing, form: SheetForm) -> Result<Reply, Me
     Ok(Reply::Says {
         ended: Ended::Settled,
         text: Seq::from_vec(sheet_text(alloc, form, &sheet)?),
-        note: note_on(constraints),
+        note: note_on(alloc, constraints)?,
     })
 }
 
-fn stopped(alloc: Global, sources: &Sources, kept: &Kept, stop: Stop) -> Result<Reply, Memory>
+pub(crate) fn stopped(
+    alloc: Global,
+    sources: &Sources,
+    kept: &Kept,
+    stop: Stop,
+) -> Result<Reply, Memory>
     ensures { IfOk result (IsStopReply (named_of sources.now) kept.now stop) }
 {
     match stop {

@@ -33,7 +33,7 @@ fn deliver<K: Sink, N: Sink>(reply: &Reply, out: &mut K, notes: &mut N) -> Ended
     match reply {
         Reply::Says { ended, text, note } => match put_text(out, text.as_slice()) {
             Put::All => {
-                tell(notes, note.as_bytes());
+                tell(notes, note.as_slice());
                 *ended
             }
             Put::Failed => {

@@ -1,8 +1,9 @@
 ghost use Rattle.std.specs.Prelude.{◌≡◌};
 ghost use Rattle.std.specs.List.{list_any};
-ghost use Rattle.pc_desk_run.specs.Endings.{ended_of, ended_of_trial, has_outer, is_impossible, is_open, is_outer};
+ghost use Rattle.pc_desk_run.specs.Endings.{ended_of, ended_of_draft, ended_of_trial, has_outer, is_impossible, is_open, is_outer};
 
 use crate::ended::Ended;
+use pc_desk_schema::Draft;
 use pc_desk_table::{End, Entry, Mark, Range, Said, SaidLack};
 use pc_desk_try::Trial;
 
@@ -24,6 +25,17 @@ pub(crate) fn ended_of_trial(trial: &Trial) -> Ended
     ensures ended { result ≡ ended_of_trial trial.now }
 {
     if trial.is_kept() {
+        Ended::Settled
+    } else {
+        Ended::Open
+    }
+}
+
+/// Whether all columns that are wanted are drafted.
+pub(crate) fn ended_of_draft(draft: &Draft) -> Ended
+    ensures ended { result ≡ ended_of_draft draft.now }
+{
+    if draft.is_whole() {
         Ended::Settled
     } else {
         Ended::Open

@@ -3,7 +3,6 @@ use crate::command::Command;
 use crate::trouble::Trouble;
 use pc_base::{MemShelf, MemSink};
 use pc_desk_run::desk;
-use pc_draft_run::draft;
 use pc_list::Seq;
 use pc_run::run;
 use pc_view_run::view;
@@ -96,7 +95,6 @@ enum Program {
     Pc,
     Desk,
     View,
-    Draft,
 }
 
 impl Program {
@@ -107,8 +105,6 @@ impl Program {
             Ok(Program::Desk)
         } else if name == "pc_view" {
             Ok(Program::View)
-        } else if name == "pc_draft" {
-            Ok(Program::Draft)
         } else {
             Err(NO_PROGRAM)
         }
@@ -127,7 +123,6 @@ impl Program {
             Program::Pc => run(alloc, words, shelf, out).code(),
             Program::Desk => desk(alloc, words, shelf, out, notes).code(),
             Program::View => view(alloc, words, shelf, out).code(),
-            Program::Draft => draft(alloc, words, shelf, out).code(),
         }
     }
 
@@ -136,10 +131,10 @@ impl Program {
         u64::from(self != Program::Desk || status <= 2)
     }
 
-    /// Whether the status says that the words are no command, of which two programs have none.
+    /// Whether the status says that the words are no command, of which one program has none.
     fn is_usage(self, status: u8) -> bool {
-        status == 2 && matches!(self, Program::Pc | Program::Draft)
+        status == 2 && self == Program::Pc
     }
 }
 
-const NO_PROGRAM: Trouble = Trouble::Line("a run is one of pc, pc_desk, pc_view or pc_draft");
+const NO_PROGRAM: Trouble = Trouble::Line("a run is one of pc, pc_desk or pc_view");

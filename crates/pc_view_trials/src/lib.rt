@@ -1,4 +1,4 @@
-//! Tests of what no file of trials shows of `view` and `draft`: loads and puts that fail, and statuses.
+//! Tests of what no file of trials shows of `view`: loads and puts that fail, and statuses.
 #![tactic(auto)]
 
 #[cfg(test)]

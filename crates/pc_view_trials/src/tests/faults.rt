@@ -1,6 +1,5 @@
 //! Inputs that are not there, loads and puts that fail, and the numbers of the statuses.
 use pc_base::{MemShelf, MemSink};
-use pc_draft_run::draft;
 use pc_view_run::{Ended, view};
 use std::alloc::Global;
 use std::test::Fail;
@@ -61,38 +60,6 @@ static VIEWS: [(&[&str], Option<&str>, Failure, Ending); 5] = [
     (&[], Some("x\n"), Failure::Put(0), ("", 3)),
 ];
 
-/// The words of a run of pc_draft, what fails in it, and how it is to end.
-static DRAFTS: [(&[&str], Failure, Ending); 8] = [
-    (
-        &["sql", "schema", "constraints", "sales"],
-        Failure::Load(0),
-        ("read fault: schema\n", 4),
-    ),
-    (
-        &["sql", "schema", "constraints", "sales"],
-        Failure::Load(1),
-        ("read fault: constraints\n", 4),
-    ),
-    (
-        &["sql", "schema", "constraints", "sales"],
-        Failure::Put(6),
-        ("SELECT", 5),
-    ),
-    (
-        &["sql", "empty", "constraints", "sales"],
-        Failure::Put(9),
-        ("malformed", 3),
-    ),
-    (
-        &["schema", "rows", "day"],
-        Failure::Load(0),
-        ("read fault: rows\n", 4),
-    ),
-    (&["schema", "rows", "day"], Failure::Put(7), ("day,int", 5)),
-    (&["schema", "rows", "hour"], Failure::Put(6), ("column", 5)),
-    (&["schema", "empty"], Failure::Put(9), ("malformed", 3)),
-];
-
 /// A shelf with the files, and an input, if there is one.
 fn shelf_of(alloc: Global, input: Option<&str>, failure: Failure) -> Result<MemShelf, Fail> {
     let mut shelf = MemShelf::new(alloc);
@@ -132,24 +99,6 @@ fn views_with_failures(rt: HostRuntime) -> Result<(), Fail> {
         let mut shelf = shelf_of(alloc, *input, *failure)?;
         let mut sink = sink_of(alloc, *failure)?;
         let ended = view(
-            alloc,
-            owned(alloc, words)?.as_slice(),
-            &mut shelf,
-            &mut sink,
-        );
-        assert!(rt; ended.code() == *status, "the status of {text}");
-        assert!(rt; sink.kept.as_slice() == text.as_bytes(), "want {text}");
-    }
-    Ok(())
-}
-
-#[test]
-fn drafts_with_failures(rt: HostRuntime) -> Result<(), Fail> {
-    let alloc = rt.alloc();
-    for (words, failure, (text, status)) in &DRAFTS {
-        let mut shelf = shelf_of(alloc, None, *failure)?;
-        let mut sink = sink_of(alloc, *failure)?;
-        let ended = draft(
             alloc,
             owned(alloc, words)?.as_slice(),
             &mut shelf,

@@ -10,4 +10,4 @@ returns-clause-read g c =
     reads_trial reading (trial_names c.args.trial.now) c.read_observed_keeping.result c.read_observed_keeping.ensures.read
 
 pub returns-clause-kept : goal.returns-clause-kept
-returns-clause-kept g c = c.read_observed_keeping.ensures.kept []
+returns-clause-kept g c = c.read_observed_keeping.ensures.kept [] []

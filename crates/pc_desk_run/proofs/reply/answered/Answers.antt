@@ -10,7 +10,7 @@ pub returns : goal.returns
 returns c =
     let asking = c.args.asking.now in
     let entries = c.in_ok-entries.entries in
-    let noted : c.note_on.result.now ≡ note_on asking.observed.constraints = search rules in
+    let noted : c.in_ok-note.note ≡ note_on asking.observed.constraints = search rules in
     let shown = rw noted at c.shown.ensures in
     record {
       says = IfOk-weaker c.shown.result _ _

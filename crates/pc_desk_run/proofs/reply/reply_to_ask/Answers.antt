@@ -1,24 +1,31 @@
-use Rattle.std.proofs.Common.{Err, Ok}
+use Rattle.std.proofs.Common.{Err, Ok, refl}
 use Rattle.std.proofs.lemmas.Result.{IfOk-weaker}
 use Rattle.pc_files.specs.Loading.{reading_of}
 use Rattle.pc_files.proofs.ReadFiles.{read_as}
 use Rattle.pc_desk_words.specs.Calls.{ask_names}
 use Rattle.pc_desk_words.specs.Words.{ask}
-use Rattle.pc_desk_run.specs.Outcome.{asking_in, asks, files_of}
-use Rattle.pc_desk_run.proofs.Replies.{says_input, says_stop}
+use Rattle.pc_desk_run.specs.Inputs.{names_in}
+use Rattle.pc_desk_run.specs.Outcome.{Input, asking_in, asks, files_of}
+use Rattle.pc_desk_run.specs.Replies.{IsPosed}
+use Rattle.pc_desk_run.specs.Texts.{named_in}
+use Rattle.pc_desk_run.proofs.Replies.{explained, says_answers, says_input, says_stop}
 use Rattle.pc_desk_run.proofs.reply.reply_to_ask.Goals as goal
 
 pub returns-in-Ok : goal.returns-in-Ok
 returns-in-Ok g c =
     let names = ask_names c.args.ask.now in
     let reading = reading_of g.F.Shelf.told g.F.Shelf.leads c.args.files.now c.read_asking.new.files in
-    let asking = c.in-Ok.asking in
-    let read = read_as (asks names.form names.nodes) (files_of (ask names)) (asking_in names.queries) reading (Ok asking) c.in-Ok.ensures.read in
-    IfOk-weaker c.answered.result _ _ (says_input reading (ask names) (asks names.form names.nodes asking) read (c.in-Ok.ensures.sound, c.requires)) c.answered.ensures.says
+    let input : Input = asks names.form names.nodes c.in-Ok.asking in
+    let read = read_as (asks names.form names.nodes) (files_of (ask names)) (asking_in names.queries) reading (Ok c.in-Ok.asking) c.in-Ok.ensures.read in
+    let posed : IsPosed reading (ask names) input = record { agrees = read.agrees; posed = (refl, refl); sound = (c.in-Ok.ensures.sound, c.requires); loads = read.loads } in
+    IfOk-weaker c.answered.result _ _ (λ reply says. says_input reading (ask names) input posed reply (says_answers (named_in (ask names)) input reply says)) c.answered.ensures.says
 
 pub returns : goal.returns
 returns g c =
     let names = ask_names c.args.ask.now in
-    let reading = reading_of g.F.Shelf.told g.F.Shelf.leads c.args.files.now c.read_asking.new.files in
-    let read = read_as (asks names.form names.nodes) (files_of (ask names)) (asking_in names.queries) reading (Err c.in-Err.stop) c.in-Err.ensures.read in
-    IfOk-weaker c.stopped.result _ _ (says_stop reading (ask names) c.read_asking.new.kept c.in-Err.stop read c.in-Err.ensures.kept) (rw c.sources_of_ask.ensures at c.stopped.ensures)
+    let told = g.F.Shelf.told in
+    let reading = reading_of told g.F.Shelf.leads c.args.files.now c.read_asking.new.files in
+    let stop = c.in-Err.stop in
+    let read = read_as (asks names.form names.nodes) (files_of (ask names)) (asking_in names.queries) reading (Err stop) c.in-Err.ensures.read in
+    let explains = explained (told c.args.files.now).files (names_in (named_in (ask names))) c.read_asking.new.kept stop c.in-Err.ensures.kept in
+    IfOk-weaker c.stopped.result _ _ (says_stop reading (ask names) c.read_asking.new.kept stop read.agrees read.loads explains) (rw c.sources_of_ask.ensures at c.stopped.ensures)

@@ -1,7 +1,7 @@
 use Rattle.std.proofs.Common.{inl}
 use Rattle.std.proofs.lemmas.Result.{IfOk-weaker}
-use Rattle.pc_desk_words.specs.Calls.{ask_names, opens_names, session_names, trial_names}
-use Rattle.pc_desk_words.specs.Words.{ask, opens, session, trial}
+use Rattle.pc_desk_words.specs.Calls.{ask_names, draft_names, limit_names, opens_names, session_names, sql_names, trial_names}
+use Rattle.pc_desk_words.specs.Words.{ask, draft, limit, opens, session, sql, trial}
 use Rattle.pc_desk_run.proofs.reply.respond.Goals as goal
 
 pub reply_to_ask-requires : goal.reply_to_ask-requires
@@ -32,3 +32,18 @@ pub returns-in-Opens : goal.returns-in-Opens
 returns-in-Opens g c =
     let reads = rw c.in-Opens.is at c.in_ok-call.ensures.reads in
     record { responds = IfOk-weaker c.reply_to_opens.result _ _ (λ reply replies. inl (opens (opens_names c.in-Opens.opens), reads, replies)) c.reply_to_opens.ensures }
+
+pub returns-in-Limit : goal.returns-in-Limit
+returns-in-Limit g c =
+    let reads = rw c.in-Limit.is at c.in_ok-call.ensures.reads in
+    record { responds = IfOk-weaker c.reply_to_limit.result _ _ (λ reply replies. inl (limit (limit_names c.in-Limit.limit), reads, replies)) c.reply_to_limit.ensures }
+
+pub returns-in-Sql : goal.returns-in-Sql
+returns-in-Sql g c =
+    let reads = rw c.in-Sql.is at c.in_ok-call.ensures.reads in
+    record { responds = IfOk-weaker c.reply_to_sql.result _ _ (λ reply replies. inl (sql (sql_names c.in-Sql.sql), reads, replies)) c.reply_to_sql.ensures }
+
+pub returns-in-Draft : goal.returns-in-Draft
+returns-in-Draft g c =
+    let reads = rw c.in-Draft.is at c.in_ok-call.ensures.reads in
+    record { responds = IfOk-weaker c.reply_to_draft.result _ _ (λ reply replies. inl (draft (draft_names c.in-Draft.draft), reads, replies)) c.reply_to_draft.ensures }

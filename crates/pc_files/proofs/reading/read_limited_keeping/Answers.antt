@@ -38,7 +38,7 @@ returns-clause-read g c =
     let front = listed_files c.args.schema.now c.args.constraints.now in
     let at_last = at_next told leads old c.read_listing_keeping.new.files c.load_limits.new.files front found c.in_ok-listing.ensures.read kinds.Limits c.args.limits.now (limits_of found.schema found.constraints) (with_limited found) (λ shelf. refl)
     c.in_ok-all.all c.in_ok-all.ensures.loaded in
-    whole_read (λ (found : Found). Ok (limited_in found)) (kinds.Schema, c.args.schema.now) ((kinds.Constraints, c.args.constraints.now) ∷ (kinds.Limits, c.args.limits.now) ∷ []) (reading_of told leads old c.load_limits.new.files) all at_last (limited_in all) refl
+    rw c.len-opening.ensures (whole_read (λ (found : Found). Ok (limited_in found)) (kinds.Schema, c.args.schema.now) ((kinds.Constraints, c.args.constraints.now) ∷ (kinds.Limits, c.args.limits.now) ∷ []) (reading_of told leads old c.load_limits.new.files) all at_last (limited_in all) refl)
 
 pub returns-in_err-listing-clause-kept : goal.returns-in_err-listing-clause-kept
 returns-in_err-listing-clause-kept g c =

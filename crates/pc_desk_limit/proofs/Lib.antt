@@ -1,0 +1,9 @@
+pub mod Closed
+pub mod ClosingLines
+pub mod Law
+pub mod Left
+pub mod Lengths
+pub mod Names
+pub mod Quantified
+pub mod Speaking
+pub mod Steps

@@ -1,0 +1,1 @@
+use Rattle.pc_desk_run.proofs.written.closed.Goals as goal

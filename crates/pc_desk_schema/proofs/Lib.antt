@@ -1,0 +1,13 @@
+pub mod Drafting
+pub mod Headers
+pub mod Named
+pub mod NamesFit
+pub mod NumbersFit
+pub mod Odds
+pub mod Reading
+pub mod Scales
+pub mod SchemaText
+pub mod Silence
+pub mod Telling
+pub mod Texts
+pub mod Wider

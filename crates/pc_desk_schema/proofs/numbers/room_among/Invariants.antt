@@ -1,0 +1,7 @@
+use Rattle.std.proofs.Common.{◌≡◌, drop}
+use Rattle.std.specs.List.{find, list_all}
+use Rattle.pc_desk_schema.specs.Numbers.{has_room_at}
+use Rattle.pc_desk_schema.proofs.numbers.room_among.Given as goal
+
+abbrev pub invariant-loop-scale : goal.invariant-loop-scale
+invariant-loop-scale l = find (λ scale. list_all (has_room_at scale) l.texts) (drop l.scale-index l.scales) ≡ find (λ scale. list_all (has_room_at scale) l.texts) l.scales

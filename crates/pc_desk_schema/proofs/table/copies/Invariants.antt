@@ -1,0 +1,5 @@
+use Rattle.std.proofs.Common.{◌≡◌, map, take}
+use Rattle.pc_desk_schema.proofs.table.copies.Given as goal
+
+abbrev pub invariant-loop-name : goal.invariant-loop-name
+invariant-loop-name l = l.texts ≡ map (λ name. name.now) (take l.name-index l.names)

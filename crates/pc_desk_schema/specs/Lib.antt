@@ -1,0 +1,9 @@
+pub mod Columns
+pub mod Dates
+pub mod Draft
+pub mod Fits
+pub mod Names
+pub mod Numbers
+pub mod Sound
+pub mod Texts
+pub mod Told

@@ -1,8 +1,0 @@
--- What holds of the columns that are found, as far as the names have come.
-use Rattle.std.specs.Prelude.{◌≤◌, length}
-use Rattle.pc_model.specs.WellFormed.{AreColumns}
-use Rattle.pc_infer.specs.declared.found.Found.{Found}
-
-pub record IsSound (found : Found) : Type 0 where
-  pub columns : AreColumns found.columns
-  pub within : length found.columns ≤ found.count
