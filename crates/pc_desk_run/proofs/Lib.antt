@@ -2,6 +2,7 @@ mod Drafts
 mod Explained
 mod FaultFiles
 mod Following
-mod Replies
+mod Noting
 mod Promises
 mod ReadInputs
+mod Replies

@@ -27,7 +27,7 @@ module _ (call : Call) where
   trial_keeps false ended is has = keeps_by false true ended is has
 
   said_keeps : (input : Input) (ended : Ended) (text note : List ℕ) → IsSaid input ended text note → HasAnswered call ended → KeepsPromise call ended
-  said_keeps (asks form nodes asking) ended text note said has = keeps_by (list_any is_impossible said.0) (list_any is_open said.0) ended said.2.0 has
+  said_keeps (asks form nodes asking) ended text note said has = keeps_by (list_any is_impossible said.0) (list_any is_open said.0) ended said.4.0 has
   said_keeps (follows form nodes scripted) ended text note said has = keeps_by (list_any is_impossible said.0) (list_any is_open said.0) ended said.2.0 has
   said_keeps (tries form scale observed) ended text note said has = trial_keeps (is_kept (trial_of scale observed.constraints observed.rows)) ended said.0 has
   said_keeps (lists form listing) ended text note said has = keeps_by false false ended said.2.0 has

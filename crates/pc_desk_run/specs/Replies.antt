@@ -36,7 +36,7 @@ use Rattle.pc_desk_words.specs.declared.form.SheetForm.{SheetForm}
 use Rattle.pc_desk_run.specs.Endings.{ended_of, ended_of_draft, ended_of_trial}
 use Rattle.pc_desk_run.specs.Inputs.{Explains, IsInputOf, IsSoundInput}
 use Rattle.pc_desk_run.specs.Outcome.{ComesTo, Input, asks, drafts, files_of, follows, limits, lists, tests, tries}
-use Rattle.pc_desk_run.specs.Texts.{AreRefusedLines, Named, named_in, no_column_lines, note_on, outside_lines, sheet_text, text_of, too_many_lines, unread_line}
+use Rattle.pc_desk_run.specs.Texts.{AreRefusedLines, IsNoteBeside, Named, named_in, no_column_lines, note_on, outside_lines, sheet_text, text_of, too_many_lines, unread_line}
 
 -- what a text is of, with a status and a note beside it
 abbrev pub Saying : Type 1
@@ -67,14 +67,14 @@ abbrev pub limits_of : Limited → List Constraint
 limits_of limited = drop limited.opening limited.all
 
 -- What is said of an input. Entries show answers to what is asked: each is right, by searches of at most so many nodes, and stands
--- beside the answer to the same where nothing is lost; of a script, which may add constraints, each has the number of its line in the
--- file. A trial is that of the constraints over the rows; and each row that can be lost is in one of the classes that are shown. A
+-- beside the answer to the same where nothing is lost; the note names constraints that open rows beside others that they cross. Of a
+-- script, which may add constraints, each has the number of its line in the file. A trial is that of the constraints over the rows; and each row that can be lost is in one of the classes that are shown. A
 -- list that is written allows what its constraints allow as far as it meets the limits; a statement is that for the constraints, and
 -- a draft that of the file, with what is said of columns beside it.
 abbrev pub IsSaid : Input → Saying
 IsSaid (asks form nodes asking) ended text note =
     (entries : List Entry) × AreShown (ground_of asking.observed nodes) (asked asking.observed.schema asking.questions) entries
-    × IsShown form entries (note_on asking.observed.constraints) ended text note
+    × (said : List ℕ) × IsNoteBeside asking.observed.schema asking.observed.constraints said × IsShown form entries said ended text note
 IsSaid (follows form nodes scripted) ended text note =
     (entries : List Entry) × ArePosed (posed_by scripted.observed.schema nodes (start_of scripted) scripted.script) entries × IsShown form entries [] ended text note
 IsSaid (tries form scale observed) ended text note =

@@ -5,6 +5,7 @@ use Rattle.pc_model.specs.declared.constraint.Constraint.{Constraint}
 use Rattle.pc_model.specs.declared.fault.Fault.{Fault}
 use Rattle.pc_model.specs.declared.fault.FileKind.{FileKind}
 use Rattle.pc_model.specs.declared.fault.FileKind.TheVariants as kinds
+use Rattle.pc_model.specs.declared.schema.Schema.{Schema}
 use Rattle.pc_model.specs.FaultTexts.{file_name_of}
 use Rattle.pc_files.specs.declared.kept.Kept.{Kept}
 use Rattle.pc_files.specs.Texts.{line_break, malformed_line}
@@ -17,6 +18,8 @@ use Rattle.pc_desk_table.specs.Lines.{lines_text}
 use Rattle.pc_desk_table.specs.declared.sheet.Sheet.{Sheet}
 use Rattle.pc_desk_table.specs.Sheets.{sheet_json, sheet_lines, sheet_table}
 use Rattle.pc_desk_table.specs.Table.{table_text}
+use Rattle.pc_desk_try.specs.Beside.{AreBeside}
+use Rattle.pc_desk_try.specs.Written.{written_name}
 use Rattle.pc_desk_words.specs.Calls.{file_names}
 use Rattle.pc_desk_words.specs.Words.{Asked, FileNames, ask, draft, limit, opens, session, sql, trial, with_files}
 use Rattle.pc_desk_words.specs.declared.form.Form.{Form}
@@ -136,6 +139,33 @@ note_if false = []
 
 abbrev pub note_on : List Constraint → List ℕ
 note_on constraints = note_if (length constraints == 0)
+
+-- of a constraint that is told
+unfoldable pub name_if : Constraint → Bool → List ℕ
+name_if c true = 32 ∷ written_name c.when c.name
+name_if c false = []
+
+-- the names of those constraints whose truth is told, each after a blank
+unfoldable pub beside_names : List Constraint → List Bool → List ℕ
+beside_names [] truths = []
+beside_names (c ∷ constraints) [] = []
+beside_names (c ∷ constraints) (told ∷ truths) = name_if c told ++ beside_names constraints truths
+
+unfoldable pub titled_line : List ℕ → List ℕ → List ℕ
+titled_line title names = (title ++ names) ++ line_break
+
+-- nothing is said of no names
+abbrev pub beside_line : List ℕ → List ℕ
+beside_line [] = []
+beside_line (byte ∷ names) =
+    titled_line (codes "rows may be lost that one constraint alone speaks of, beside others that it crosses (see pc_desk opens):") (byte ∷ names)
+
+abbrev pub note_with : List Constraint → List Bool → List ℕ
+note_with constraints truths = note_on constraints ++ beside_line (beside_names constraints truths)
+
+-- .. which constraints let rows be lost that no other speaks of, beside constraints that they cross
+abbrev pub IsNoteBeside : Schema → List Constraint → List ℕ → Type 0
+IsNoteBeside schema constraints note = (truths : List Bool) × AreBeside schema constraints truths × (note ≡ note_with constraints truths)
 
 abbrev pub write_fault_line : List ℕ
 write_fault_line = codes "write fault: standard output" ++ line_break

@@ -17,7 +17,7 @@ use crate::line::{
     Sources, refused_lines, sources_of_ask, sources_of_files, sources_of_session, sources_of_trial,
     unread_line,
 };
-use crate::note::note_on;
+use crate::note::{note_beside, note_on};
 use crate::session::follow_script;
 use crate::settled::{ended_of, ended_of_trial};
 use crate::written::{reply_to_draft, reply_to_limit, reply_to_sql};
@@ -142,7 +142,8 @@ fn answered(alloc: Global, asking: &Asking, form: Form, nodes: u32) -> Result<Re
 {
     let questions = asking.questions.as_slice();
     let entries = answer_questions(alloc, &asking.observed, questions, nodes)?;
-    let note = note_on(alloc, asking.observed.constraints.as_slice())?;
+    let observed = &asking.observed;
+    let note = note_beside(alloc, &observed.schema, observed.constraints.as_slice())?;
     shown(alloc, form, &entries, note)
 }
 
