@@ -1,0 +1,14 @@
+pub mod AddedRuns
+pub mod Each
+pub mod EachHolds
+pub mod Ends
+pub mod Extremes
+pub mod Limits
+pub mod MadeUp
+pub mod Moved
+pub mod Ordered
+pub mod Rooms
+pub mod Runs
+pub mod Sides
+pub mod Standing
+pub mod Told

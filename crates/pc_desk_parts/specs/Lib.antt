@@ -1,0 +1,10 @@
+pub mod Counts
+pub mod Ends
+pub mod Held
+pub mod Lost
+pub mod Made
+pub mod Moved
+pub mod Parts
+pub mod Stands
+pub mod Sums
+pub mod Told

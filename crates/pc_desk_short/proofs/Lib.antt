@@ -1,0 +1,4 @@
+pub mod Claims
+pub mod Impossible
+pub mod Served
+pub mod Weights
