@@ -3,8 +3,10 @@
 
 mod cells;
 mod explained;
+mod laws;
 mod sheet;
 mod texts;
 
 pub use explained::{Explained, Found, MadeEnd};
+pub use laws::explanations_are_read_back;
 pub use sheet::why_sheet;
