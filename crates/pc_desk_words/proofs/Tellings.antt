@@ -26,6 +26,7 @@ module _ (words : List Text) where
   pub held_reads : (asked : Option Asked) (call : Call) → asked_of words ≡ asked → Holds asked call → Reads words call
   held_reads asked (calls.Ask call) e holds = e ∙ holds
   held_reads asked (calls.Session call) e holds = e ∙ holds
+  held_reads asked (calls.Why call) e holds = e ∙ holds
   held_reads asked (calls.Trial call) e holds = e ∙ holds
   held_reads asked (calls.Opens call) e holds = e ∙ holds
   held_reads asked (calls.Limit call) e holds = e ∙ holds
@@ -37,6 +38,7 @@ module _ (words : List Text) where
   pub refused_reads : asked_of words ≡ None → fault_of desk_app words ≡ [] → (call : Call) → IsRefusal call → Reads words call
   refused_reads missing none (calls.Ask call) refused = absurd refused
   refused_reads missing none (calls.Session call) refused = absurd refused
+  refused_reads missing none (calls.Why call) refused = absurd refused
   refused_reads missing none (calls.Trial call) refused = absurd refused
   refused_reads missing none (calls.Opens call) refused = absurd refused
   refused_reads missing none (calls.Limit call) refused = absurd refused
@@ -77,6 +79,7 @@ module _ (words : List Text) (kind : ErrorKind) where
   pub told_reads : (kind ≡ OutOfMemory) ⊎ IsAmong kind (fault_of desk_app words) → (call : Call) → Tells kind call → Reads words call
   told_reads fails (calls.Ask call) tells = absurd tells
   told_reads fails (calls.Session call) tells = absurd tells
+  told_reads fails (calls.Why call) tells = absurd tells
   told_reads fails (calls.Trial call) tells = absurd tells
   told_reads fails (calls.Opens call) tells = absurd tells
   told_reads fails (calls.Limit call) tells = absurd tells

@@ -12,9 +12,10 @@ use Rattle.clap.specs.declared.parser.matches.ValueSource.TheVariants.{CommandLi
 use Rattle.clap.proofs.FaultLemmas.{stopped_fault}
 use Rattle.pc_num.specs.Scaled.{are_digits, digits_len, number_after, padded, scaled_of, scaled_size}
 use Rattle.pc_desk_words.specs.Program.{desk_app, desk_shape}
-use Rattle.pc_desk_words.specs.Words.{ask, asked_by, asked_of, asked_without, budget_of, draft, limit, opens, scale_of, session, sql, trial, usual_nodes, usual_scale, with_files}
+use Rattle.pc_desk_words.specs.Words.{ask, asked_by, asked_of, asked_without, budget_of, draft, limit, opens, scale_of, session, sql, trial, usual_nodes, usual_scale, why, with_files}
 use Rattle.pc_desk_words.specs.declared.form.Form.TheVariants as forms
 use Rattle.pc_desk_words.specs.declared.form.SheetForm.TheVariants as sheets
+use Rattle.pc_desk_words.specs.declared.form.WhyForm.TheVariants as whys
 use Rattle.pc_desk_words.proofs.PlainWords.{ArePlain, AreFit, Reaches, plain_reaches, plainly, reaches_end}
 
 abbrev shape_at : Text → Shape
@@ -25,6 +26,9 @@ ask_shape = shape_at (codes "ask")
 
 abbrev session_shape : Shape
 session_shape = shape_at (codes "session")
+
+abbrev why_shape : Shape
+why_shape = shape_at (codes "why")
 
 abbrev try_shape : Shape
 try_shape = shape_at (codes "try")
@@ -87,6 +91,10 @@ ask_is_verb = record { walked_at = refl; passes = refl; fails = λ words. refl; 
 session_is_verb : IsVerb (codes "session") session_shape
 unfolding walked defaults_fault
 session_is_verb = record { walked_at = refl; passes = refl; fails = λ words. refl; found = λ words. refl }
+
+why_is_verb : IsVerb (codes "why") why_shape
+unfolding walked defaults_fault
+why_is_verb = record { walked_at = refl; passes = refl; fails = λ words. refl; found = λ words. refl }
 
 try_is_verb : IsVerb (codes "try") try_shape
 unfolding walked defaults_fault
@@ -162,34 +170,65 @@ module _ (s : Shape) (at : List Text → Walk) (fits : (before : List Text) (wor
       (λ more. subst (λ (w : Walk). Reaches s w values (at (before ++ word ∷ values))) (sym (grows before word))
       (subst (λ all. Reaches s (at (before ++ word ∷ [])) values (at all)) (append_assoc before (word ∷ []) values) (many_reach (before ++ word ∷ []) values more)))
 
--- ---- `ask`
+-- ---- the verbs that take queries
 
-module _ (schema rows constraints query : Text) (queries : List Text) (plain : ArePlain (schema ∷ rows ∷ constraints ∷ query ∷ queries)) (few : length queries < 16) where
+module _ (schema rows constraints : Text) where
   abbrev file_rows : List Row
   file_rows = row (codes "schema") (schema ∷ []) ∷ row (codes "rows") (rows ∷ []) ∷ row (codes "constraints") (constraints ∷ []) ∷ []
 
   abbrev queries_at : List Text → Walk
   queries_at before = many_walk (codes "query") 4 file_rows before
 
-  abbrev asked_end : Walk
-  asked_end = queries_at (query ∷ queries)
+  -- after the files all words are queries, from one to sixteen
+  record TakesQueries (s : Shape) (query : Text) : Type 0 where
+    pub fit : AreFit s start (schema ∷ rows ∷ constraints ∷ query ∷ [])
+    pub first : fold (plainly s) start (schema ∷ rows ∷ constraints ∷ query ∷ []) ≡ queries_at (query ∷ [])
+    pub fits : (before : List Text) (word : Text) → AreFit s (queries_at before) (word ∷ [])
+    pub grows : (before : List Text) (word : Text) → plainly s (queries_at before) word ≡ queries_at (before ++ word ∷ [])
+    pub after : (values : List Text) → after_walk s (queries_at (query ∷ values)).held
+        ≡ or_else (or_else (range_kinds 1 16 (length (query ∷ values))) (values_kinds false parsers.String (query ∷ values))) []
 
-  ask_reaches : Reaches ask_shape start (schema ∷ rows ∷ constraints ∷ query ∷ queries) asked_end
-  ask_reaches =
-      plain_reaches ask_shape asked_end queries start (schema ∷ rows ∷ constraints ∷ query ∷ []) (refl, (refl, (refl, (refl, tt)))) plain
-      (many_reach ask_shape queries_at (λ before word. (refl, tt)) (λ before word. refl) (query ∷ []) queries)
-
-  ask_after : after_walk ask_shape asked_end.held ≡ []
+  ask_takes : (query : Text) → TakesQueries ask_shape query
   unfolding defaults_fault
-  ask_after =
-      let count : length (query ∷ queries) ≤ 16 = omega (arith, few) in
-      ap (λ kinds. or_else (or_else kinds (values_kinds false parsers.String (query ∷ queries))) []) (in_range (length (query ∷ queries)) 16 refl (omega arith) count)
-      ∙ ap (λ kinds. or_else kinds []) (any_text (query ∷ queries))
+  ask_takes query = record { fit = (refl, (refl, (refl, (refl, tt)))); first = refl; fits = λ before word. (refl, tt); grows = λ before word. refl; after = λ values. refl }
 
-  pub ask_read : asked_of (codes "ask" ∷ schema ∷ rows ∷ constraints ∷ query ∷ queries)
-      ≡ Some (ask (record { form = forms.Text; nodes = usual_nodes; files = with_files schema rows constraints; queries = query ∷ queries }))
-  unfolding budget_of
-  ask_read = verb_read (codes "ask") ask_shape ask_is_verb (schema ∷ rows ∷ constraints ∷ query ∷ queries) asked_end ask_reaches ask_after
+  why_takes : (query : Text) → TakesQueries why_shape query
+  unfolding defaults_fault
+  why_takes query = record { fit = (refl, (refl, (refl, (refl, tt)))); first = refl; fits = λ before word. (refl, tt); grows = λ before word. refl; after = λ values. refl }
+
+  module _ (query : Text) (queries : List Text) (plain : ArePlain (schema ∷ rows ∷ constraints ∷ query ∷ queries)) (few : length queries < 16) where
+    abbrev words : List Text
+    words = schema ∷ rows ∷ constraints ∷ query ∷ queries
+
+    abbrev asked_end : Walk
+    asked_end = queries_at (query ∷ queries)
+
+    module _ (name : Text) (s : Shape) (is : IsVerb name s) (takes : TakesQueries s query) where
+      queries_reach : Reaches s start words asked_end
+      queries_reach =
+          plain_reaches s asked_end queries start (schema ∷ rows ∷ constraints ∷ query ∷ []) takes.fit plain
+          (λ more. subst (λ (w : Walk). Reaches s w queries asked_end) (sym takes.first)
+          (many_reach s queries_at takes.fits takes.grows (query ∷ []) queries more))
+
+      queries_after : after_walk s asked_end.held ≡ []
+      queries_after =
+          let count : length (query ∷ queries) ≤ 16 = omega (arith, few) in
+          takes.after queries
+          ∙ ap (λ kinds. or_else (or_else kinds (values_kinds false parsers.String (query ∷ queries))) []) (in_range (length (query ∷ queries)) 16 refl (omega arith) count)
+          ∙ ap (λ kinds. or_else kinds []) (any_text (query ∷ queries))
+
+      queries_read : asked_of (name ∷ words) ≡ asked_by (Some (name, finished s.rules asked_end.held))
+      queries_read = verb_read name s is words asked_end queries_reach queries_after
+
+    pub ask_read : asked_of (codes "ask" ∷ words)
+        ≡ Some (ask (record { form = forms.Text; nodes = usual_nodes; files = with_files schema rows constraints; queries = query ∷ queries }))
+    unfolding budget_of
+    ask_read = queries_read (codes "ask") ask_shape ask_is_verb (ask_takes query)
+
+    pub why_read : asked_of (codes "why" ∷ words)
+        ≡ Some (why (record { form = whys.Text; nodes = usual_nodes; files = with_files schema rows constraints; queries = query ∷ queries }))
+    unfolding budget_of
+    why_read = queries_read (codes "why") why_shape why_is_verb (why_takes query)
 
 -- ---- the verbs that take as many words as they have positionals
 

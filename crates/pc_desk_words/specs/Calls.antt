@@ -2,7 +2,7 @@
 use Rattle.std.specs.Prelude.{◌≡◌, ◌≢◌, ◌≤◌, ⊤, ℕ, true, false, List, map, length, Option, Some, None}
 use Rattle.clap.specs.declared.error.kind.ErrorKind.{ErrorKind}
 use Rattle.clap.specs.declared.error.kind.ErrorKind.TheVariants.{OutOfMemory}
-use Rattle.pc_desk_words.specs.Words.{Asked, AskNames, FileNames, DraftNames, HeadNames, IsBudget, IsScale, LimitNames, OpensNames, SessionNames, SqlNames, TrialNames, MayHelp, MayRefuse, ask, asked_of, draft, is_request, limit, opens, session, sql, trial}
+use Rattle.pc_desk_words.specs.Words.{Asked, AskNames, FileNames, DraftNames, HeadNames, IsBudget, IsScale, LimitNames, OpensNames, SessionNames, SqlNames, TrialNames, WhyNames, MayHelp, MayRefuse, ask, asked_of, draft, is_request, limit, opens, session, sql, trial, why}
 use Rattle.pc_desk_words.specs.declared.call.Ask.{Ask}
 use Rattle.pc_desk_words.specs.declared.call.Call.{Call}
 use Rattle.pc_desk_words.specs.declared.call.Call.TheVariants as calls
@@ -14,12 +14,13 @@ use Rattle.pc_desk_words.specs.declared.call.Opens.{Opens}
 use Rattle.pc_desk_words.specs.declared.call.Session.{Session}
 use Rattle.pc_desk_words.specs.declared.call.Sql.{Sql}
 use Rattle.pc_desk_words.specs.declared.call.Trial.{Trial}
+use Rattle.pc_desk_words.specs.declared.call.Why.{Why}
 
 abbrev pub file_names : Files → FileNames
 file_names files = record { schema = files.schema.now; rows = files.rows.now; constraints = files.constraints.now }
 
 abbrev pub head_names : Head → HeadNames
-head_names head = record { form = head.form; nodes = head.nodes; files = file_names head.files }
+head_names head = record { nodes = head.nodes; files = file_names head.files }
 
 abbrev pub ask_names : Ask → AskNames
 ask_names call =
@@ -28,6 +29,10 @@ ask_names call =
 abbrev pub session_names : Session → SessionNames
 session_names call =
     record { form = call.form; nodes = call.nodes; files = file_names call.files; script = call.script.now }
+
+abbrev pub why_names : Why → WhyNames
+why_names call =
+    record { form = call.form; nodes = call.nodes; files = file_names call.files; queries = map (λ text. text.now) call.queries.items }
 
 abbrev pub trial_names : Trial → TrialNames
 trial_names call = record { form = call.form; scale = call.scale; files = file_names call.files }
@@ -48,6 +53,7 @@ draft_names call = record { rows = call.rows.now; columns = map (λ text. text.n
 abbrev pub Holds : Option Asked → Call → Type 0
 Holds asked (calls.Ask call) = asked ≡ Some (ask (ask_names call))
 Holds asked (calls.Session call) = asked ≡ Some (session (session_names call))
+Holds asked (calls.Why call) = asked ≡ Some (why (why_names call))
 Holds asked (calls.Trial call) = asked ≡ Some (trial (trial_names call))
 Holds asked (calls.Opens call) = asked ≡ Some (opens (opens_names call))
 Holds asked (calls.Limit call) = asked ≡ Some (limit (limit_names call))
@@ -65,6 +71,7 @@ HoldsIf asked (Some call) = Holds asked call
 abbrev pub Tells : ErrorKind → Call → Type 0
 Tells kind (calls.Ask call) = ⊥
 Tells kind (calls.Session call) = ⊥
+Tells kind (calls.Why call) = ⊥
 Tells kind (calls.Trial call) = ⊥
 Tells kind (calls.Opens call) = ⊥
 Tells kind (calls.Limit call) = ⊥
@@ -76,6 +83,7 @@ Tells kind (calls.Refused text) = (is_request kind ≡ false) × (kind ≢ OutOf
 abbrev pub IsRefusal : Call → Type 0
 IsRefusal (calls.Ask call) = ⊥
 IsRefusal (calls.Session call) = ⊥
+IsRefusal (calls.Why call) = ⊥
 IsRefusal (calls.Trial call) = ⊥
 IsRefusal (calls.Opens call) = ⊥
 IsRefusal (calls.Limit call) = ⊥
@@ -88,6 +96,7 @@ IsRefusal (calls.Refused text) = ⊤
 abbrev pub Reads : List (List ℕ) → Call → Type 0
 Reads words (calls.Ask call) = asked_of words ≡ Some (ask (ask_names call))
 Reads words (calls.Session call) = asked_of words ≡ Some (session (session_names call))
+Reads words (calls.Why call) = asked_of words ≡ Some (why (why_names call))
 Reads words (calls.Trial call) = asked_of words ≡ Some (trial (trial_names call))
 Reads words (calls.Opens call) = asked_of words ≡ Some (opens (opens_names call))
 Reads words (calls.Limit call) = asked_of words ≡ Some (limit (limit_names call))
@@ -100,6 +109,7 @@ Reads words (calls.Refused text) = (asked_of words ≡ None) × MayRefuse words
 abbrev pub HasBudget : Call → Type 0
 HasBudget (calls.Ask call) = IsBudget call.nodes × (1 ≤ length call.queries.items)
 HasBudget (calls.Session call) = IsBudget call.nodes
+HasBudget (calls.Why call) = IsBudget call.nodes × (1 ≤ length call.queries.items)
 HasBudget (calls.Trial call) = IsScale call.scale
 HasBudget (calls.Opens call) = ⊤
 HasBudget (calls.Limit call) = ⊤

@@ -66,21 +66,24 @@ query_rule = record (new_rule (codes "query")) {
 abbrev pub with_both : App → Rule → Rule → App
 with_both app first second = with_rule (with_rule app first) second
 
--- the options and files of `ask` and `session`, and what stands last
-abbrev pub with_words : App → ValueParser → Rule → App
-with_words app forms last =
-    with_both (with_both (with_both app (form_rule forms) nodes_rule)
+-- the options and files of `ask`, `session` and `why`, and what stands last
+abbrev pub with_words : App → Rule → Rule → App
+with_words app form last =
+    with_both (with_both (with_both app form nodes_rule)
     (file_rule (codes "schema")) (file_rule (codes "rows")))
     (file_rule (codes "constraints")) last
 
 abbrev pub verb : ValueParser → Text → Rule → Shape
-verb forms name last = (with_words (new_app name) forms last).top
+verb forms name last = (with_words (new_app name) (form_rule forms) last).top
 
 abbrev pub ask_verb : ValueParser → Shape
 ask_verb forms = verb forms (codes "ask") query_rule
 
 abbrev pub session_verb : ValueParser → Shape
 session_verb forms = verb forms (codes "session") (file_rule (codes "script"))
+
+abbrev pub why_verb : ValueParser → Shape
+why_verb forms = verb forms (codes "why") query_rule
 
 abbrev pub try_verb : ValueParser → Shape
 try_verb forms =
@@ -117,13 +120,13 @@ desk_shape = record (new_shape (codes "pc_desk")) {
   arg_required_else_help = true;
 }
 
--- by what the forms of `ask` and `session` may be, and those of `try` and `opens`
-abbrev pub desk_with : ValueParser → ValueParser → App
-desk_with forms sheets = record {
+-- by what the forms of `ask` and `session` may be, those of `why`, and those of `try` and `opens`
+abbrev pub desk_with : ValueParser → ValueParser → ValueParser → App
+desk_with forms whys sheets = record {
   top = desk_shape;
-  subs = ask_verb forms ∷ session_verb forms ∷ try_verb sheets ∷ opens_verb sheets ∷ limit_verb ∷ schema_verb ∷ sql_verb ∷ [];
+  subs = ask_verb forms ∷ session_verb forms ∷ why_verb whys ∷ try_verb sheets ∷ opens_verb sheets ∷ limit_verb ∷ schema_verb ∷ sql_verb ∷ [];
 }
 
--- any text may stand as a form here: which it names is told by `form_named` and `sheet_form_named`
+-- any text may stand as a form here: which it names is told by `form_named`, `why_form_named` and `sheet_form_named`
 abbrev pub desk_app : App
-desk_app = desk_with parsers.String parsers.String
+desk_app = desk_with parsers.String parsers.String parsers.String

@@ -14,6 +14,8 @@ use Rattle.pc_desk_words.specs.declared.form.Form.{Form}
 use Rattle.pc_desk_words.specs.declared.form.Form.TheVariants as forms
 use Rattle.pc_desk_words.specs.declared.form.SheetForm.{SheetForm}
 use Rattle.pc_desk_words.specs.declared.form.SheetForm.TheVariants as sheets
+use Rattle.pc_desk_words.specs.declared.form.WhyForm.{WhyForm}
+use Rattle.pc_desk_words.specs.declared.form.WhyForm.TheVariants as whys
 
 -- the names of the three files
 pub record FileNames : Type 0 where
@@ -28,7 +30,14 @@ pub record AskNames : Type 0 where
   pub files : FileNames
   pub queries : List (List ℕ)
 
--- of `session`: the same, with the name of the script
+-- of `why`: how explanations are shown, and the same
+pub record WhyNames : Type 0 where
+  pub form : WhyForm
+  pub nodes : ℕ
+  pub files : FileNames
+  pub queries : List (List ℕ)
+
+-- of `session`: what `ask` has, with the name of the script in place of queries
 pub record SessionNames : Type 0 where
   pub form : Form
   pub nodes : ℕ
@@ -65,6 +74,7 @@ pub record DraftNames : Type 0 where
 pub data Asked : Type 0 where
   ask : AskNames → Asked
   session : SessionNames → Asked
+  why : WhyNames → Asked
   trial : TrialNames → Asked
   opens : OpensNames → Asked
   limit : LimitNames → Asked
@@ -82,6 +92,15 @@ form_named name =
     else (if bytes_eq name (codes "chart") then Some forms.Chart
     else (if bytes_eq name (codes "svg") then Some forms.Picture
     else None))))
+
+-- the form that `--as` of `why` names
+abbrev pub why_form_named : List ℕ → Option WhyForm
+why_form_named name =
+    if bytes_eq name (codes "text") then Some whys.Text
+    else (if bytes_eq name (codes "table") then Some whys.Table
+    else (if bytes_eq name (codes "json") then Some whys.Json
+    else (if bytes_eq name (codes "svg") then Some whys.Picture
+    else None)))
 
 -- the form that `--as` of `try` and of `opens` names
 abbrev pub sheet_form_named : List ℕ → Option SheetForm
@@ -126,9 +145,8 @@ within number = if nat_le 1 number && nat_le number most_nodes then Some number 
 
 -- ---- what was found of a verb
 
--- what `ask` and `session` have
+-- what `ask`, `session` and `why` have beside a form
 pub record HeadNames : Type 0 where
-  pub form : Form
   pub nodes : ℕ
   pub files : FileNames
 
@@ -139,8 +157,8 @@ abbrev pub files_in : List Row → Option FileNames
 files_in found = option_and_then (λ schema. option_and_then (λ rows. option_map (with_files schema rows)
     (first_of (codes "constraints") found)) (first_of (codes "rows") found)) (first_of (codes "schema") found)
 
-abbrev pub with_head : Form → ℕ → FileNames → HeadNames
-with_head form nodes files = record { form = form; nodes = nodes; files = files }
+abbrev pub with_head : ℕ → FileNames → HeadNames
+with_head nodes files = record { nodes = nodes; files = files }
 
 abbrev pub form_in : List Row → Option Form
 form_in found = option_and_then form_named (first_of (codes "as") found)
@@ -149,21 +167,39 @@ abbrev pub nodes_in : List Row → Option ℕ
 nodes_in found = option_and_then budget_of (first_of (codes "nodes") found)
 
 abbrev pub head_in : List Row → Option HeadNames
-head_in found = option_and_then (λ form. option_and_then (λ nodes. option_map (with_head form nodes)
-    (files_in found)) (nodes_in found)) (form_in found)
+head_in found = option_and_then (λ nodes. option_map (with_head nodes) (files_in found)) (nodes_in found)
 
-abbrev pub asking : HeadNames → List (List ℕ) → Option AskNames
-asking head [] = None
-asking head (query ∷ queries) = Some (record { form = head.form; nodes = head.nodes; files = head.files; queries = query ∷ queries })
+-- at least one query has to stand there
+abbrev pub some_of : List (List ℕ) → Option (List (List ℕ))
+some_of [] = None
+some_of (query ∷ queries) = Some (query ∷ queries)
+
+abbrev pub queries_in : List Row → Option (List (List ℕ))
+queries_in found = option_and_then some_of (all_of (codes "query") found)
+
+abbrev pub with_queries : Form → HeadNames → List (List ℕ) → AskNames
+with_queries form head queries = record { form = form; nodes = head.nodes; files = head.files; queries = queries }
 
 abbrev pub ask_in : List Row → Option AskNames
-ask_in found = option_and_then (λ head. option_and_then (asking head) (all_of (codes "query") found)) (head_in found)
+ask_in found = option_and_then (λ form. option_and_then (λ head. option_map (with_queries form head)
+    (queries_in found)) (head_in found)) (form_in found)
 
-abbrev pub with_script : HeadNames → List ℕ → SessionNames
-with_script head script = record { form = head.form; nodes = head.nodes; files = head.files; script = script }
+abbrev pub with_script : Form → HeadNames → List ℕ → SessionNames
+with_script form head script = record { form = form; nodes = head.nodes; files = head.files; script = script }
 
 abbrev pub session_in : List Row → Option SessionNames
-session_in found = option_and_then (λ head. option_map (with_script head) (first_of (codes "script") found)) (head_in found)
+session_in found = option_and_then (λ form. option_and_then (λ head. option_map (with_script form head)
+    (first_of (codes "script") found)) (head_in found)) (form_in found)
+
+abbrev pub why_form_in : List Row → Option WhyForm
+why_form_in found = option_and_then why_form_named (first_of (codes "as") found)
+
+abbrev pub with_reasons : WhyForm → HeadNames → List (List ℕ) → WhyNames
+with_reasons form head queries = record { form = form; nodes = head.nodes; files = head.files; queries = queries }
+
+abbrev pub why_in : List Row → Option WhyNames
+why_in found = option_and_then (λ form. option_and_then (λ head. option_map (with_reasons form head)
+    (queries_in found)) (head_in found)) (why_form_in found)
 
 abbrev pub sheet_form_in : List Row → Option SheetForm
 sheet_form_in found = option_and_then sheet_form_named (first_of (codes "as") found)
@@ -213,12 +249,13 @@ abbrev pub asked_in : List ℕ → List Row → Option Asked
 asked_in name found =
     if bytes_eq name (codes "ask") then option_map ask (ask_in found)
     else (if bytes_eq name (codes "session") then option_map session (session_in found)
+    else (if bytes_eq name (codes "why") then option_map why (why_in found)
     else (if bytes_eq name (codes "try") then option_map trial (trial_in found)
     else (if bytes_eq name (codes "opens") then option_map opens (opens_in found)
     else (if bytes_eq name (codes "limit") then option_map limit (limit_in found)
     else (if bytes_eq name (codes "sql") then option_map sql (sql_in found)
     else (if bytes_eq name (codes "schema") then option_map draft (draft_in found)
-    else None))))))
+    else None)))))))
 
 abbrev pub asked_by : Option (Text × List Row) → Option Asked
 asked_by = option_and_then (λ (verb : Text × List Row). asked_in verb.0 verb.1)

@@ -6,7 +6,7 @@ ghost use Rattle.pc_desk_words.specs.Calls.{HasBudget, IsRefusal, Reads, Tells};
 ghost use Rattle.pc_desk_words.specs.Program.{desk_app};
 ghost use Rattle.pc_desk_words.specs.Words.{is_request};
 
-use crate::form::{Form, SheetForm};
+use crate::form::{Form, SheetForm, WhyForm};
 use crate::found::call_in;
 use crate::parser::{desk, strict_desk};
 use crate::texts;
@@ -39,6 +39,15 @@ pub struct Session<'a> {
     pub nodes: u32,
     pub files: Files<'a>,
     pub script: &'a str,
+}
+
+/// The verb `why`: how explanations are shown, how many nodes each search may have, the files, and the queries.
+#[derive(Debug, Drop)]
+pub struct Why<'a> {
+    pub form: WhyForm,
+    pub nodes: u32,
+    pub files: Files<'a>,
+    pub queries: Vec<&'a str>,
 }
 
 /// The verb `try`: how what is found is shown, by what each number of rows is multiplied, in millionths, and the files.
@@ -82,6 +91,7 @@ pub struct Draft<'a> {
 pub enum Call<'a> {
     Ask(Ask<'a>),
     Session(Session<'a>),
+    Why(Why<'a>),
     Trial(Trial<'a>),
     Opens(Opens<'a>),
     Limit(Limit<'a>),
@@ -93,10 +103,9 @@ pub enum Call<'a> {
     Refused(String),
 }
 
-/// What `ask` and `session` have.
+/// What `ask`, `session` and `why` have beside a form.
 #[derive(Clone, Copy, Debug)]
 pub(crate) struct Head<'a> {
-    pub form: Form,
     pub nodes: u32,
     pub files: Files<'a>,
 }

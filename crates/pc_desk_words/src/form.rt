@@ -1,5 +1,5 @@
 ghost use Rattle.std.specs.Prelude.{◌≡◌};
-ghost use Rattle.pc_desk_words.specs.Words.{form_named, sheet_form_named};
+ghost use Rattle.pc_desk_words.specs.Words.{form_named, sheet_form_named, why_form_named};
 
 /// How answers are shown.
 #[derive(Clone, Copy, Debug, PartialEq, Eq)]
@@ -8,6 +8,15 @@ pub enum Form {
     Table,
     Json,
     Chart,
+    Picture,
+}
+
+/// How explanations are shown.
+#[derive(Clone, Copy, Debug, PartialEq, Eq)]
+pub enum WhyForm {
+    Text,
+    Table,
+    Json,
     Picture,
 }
 
@@ -30,6 +39,21 @@ impl Form {
             "json" => Some(Form::Json),
             "chart" => Some(Form::Chart),
             "svg" => Some(Form::Picture),
+            _ => None,
+        }
+    }
+}
+
+impl WhyForm {
+    /// The form that `--as` of `why` names.
+    pub(crate) fn named(name: &str) -> Option<WhyForm>
+        ensures { result ≡ why_form_named name.now }
+    {
+        match name {
+            "text" => Some(WhyForm::Text),
+            "table" => Some(WhyForm::Table),
+            "json" => Some(WhyForm::Json),
+            "svg" => Some(WhyForm::Picture),
             _ => None,
         }
     }

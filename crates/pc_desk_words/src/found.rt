@@ -2,11 +2,11 @@
 ghost use Rattle.std.specs.Prelude.{◌≡◌, ◌≤◌, [], codes, map, length, IfOk, IfSome, option_map, unwrap_or};
 ghost use Rattle.clap.specs.Words.{found_of, rows_of, subcommand_rows_of};
 ghost use Rattle.clap.specs.Walk.{all_of, first_of};
-ghost use Rattle.pc_desk_words.specs.Calls.{ask_names, draft_names, file_names, head_names, limit_names, opens_names, session_names, sql_names, trial_names, HasBudget, HoldsIf};
-ghost use Rattle.pc_desk_words.specs.Words.{ask_in, asked_by, asked_in, asking, budget_of, draft_in, files_in, form_in, head_in, limit_in, nodes_in, opens_in, rowless_files_in, scale_in, scale_of, scale_within, session_in, sheet_form_in, sql_in, trial_in, within, IsBudget, IsScale};
+ghost use Rattle.pc_desk_words.specs.Calls.{ask_names, draft_names, file_names, head_names, limit_names, opens_names, session_names, sql_names, trial_names, why_names, HasBudget, HoldsIf};
+ghost use Rattle.pc_desk_words.specs.Words.{ask_in, asked_by, asked_in, budget_of, draft_in, files_in, form_in, head_in, limit_in, nodes_in, opens_in, queries_in, rowless_files_in, scale_in, scale_of, scale_within, session_in, sheet_form_in, some_of, sql_in, trial_in, why_form_in, why_in, within, IsBudget, IsScale};
 
-use crate::call::{Ask, Call, Draft, Files, Head, Limit, Opens, Session, Sql, Trial};
-use crate::form::{Form, SheetForm};
+use crate::call::{Ask, Call, Draft, Files, Head, Limit, Opens, Session, Sql, Trial, Why};
+use crate::form::{Form, SheetForm, WhyForm};
 use clap::ArgMatches;
 use pc_num::{Memory, read_scaled};
 use std::alloc::Global;
@@ -44,6 +44,7 @@ fn call_of<'a>(
     match name {
         "ask" => Ok(ask_in(alloc, found)?.map(Call::Ask)),
         "session" => Ok(session_in(found).map(Call::Session)),
+        "why" => Ok(why_in(alloc, found)?.map(Call::Why)),
         "try" => Ok(trial_in(found).map(Call::Trial)),
         "opens" => Ok(opens_in(found).map(Call::Opens)),
         "limit" => Ok(limit_in(found).map(Call::Limit)),
@@ -57,40 +58,74 @@ fn ask_in<'a>(alloc: Global, found: &ArgMatches<'a>) -> Result<Option<Ask<'a>>, 
     ensures reads { IfOk result (λ call. option_map ask_names call ≡ ask_in (rows_of (found_of found.now))) }
     ensures numbers { IfOk result (λ call. IfSome call (λ ask. IsBudget ask.nodes × (1 ≤ length ask.queries.items))) }
 {
+    let Some(form) = form_in(found) else {
+        return Ok(None);
+    };
     let Some(head) = head_in(found) else {
         return Ok(None);
     };
-    let Some(queries) = texts_in(found, "query") else {
+    let Some(queries) = queries_in(alloc, found)? else {
         return Ok(None);
     };
-    asking(alloc, head, queries)
+    Ok(Some(Ask {
+        form,
+        nodes: head.nodes,
+        files: head.files,
+        queries,
+    }))
+}
+
+fn why_in<'a>(alloc: Global, found: &ArgMatches<'a>) -> Result<Option<Why<'a>>, Memory>
+    ensures reads { IfOk result (λ call. option_map why_names call ≡ why_in (rows_of (found_of found.now))) }
+    ensures numbers { IfOk result (λ call. IfSome call (λ why. IsBudget why.nodes × (1 ≤ length why.queries.items))) }
+{
+    let Some(form) = why_form_in(found) else {
+        return Ok(None);
+    };
+    let Some(head) = head_in(found) else {
+        return Ok(None);
+    };
+    let Some(queries) = queries_in(alloc, found)? else {
+        return Ok(None);
+    };
+    Ok(Some(Why {
+        form,
+        nodes: head.nodes,
+        files: head.files,
+        queries,
+    }))
+}
+
+fn queries_in<'a>(alloc: Global, found: &ArgMatches<'a>) -> Result<Option<Vec<&'a str>>, Memory>
+    ensures reads { IfOk result (λ texts. option_map (λ all. map (λ text. text.now) all.items) texts ≡ queries_in (rows_of (found_of found.now))) }
+    ensures some { IfOk result (λ texts. IfSome texts (λ all. 1 ≤ length all.items)) }
+{
+    match texts_in(found, "query") {
+        Some(queries) => some_of(alloc, queries),
+        None => Ok(None),
+    }
 }
 
 /// At least one query has to stand there.
-fn asking<'a>(alloc: Global, head: Head<'a>, queries: &[&'a str]) -> Result<Option<Ask<'a>>, Memory>
-    requires { IsBudget head.nodes }
-    ensures reads { IfOk result (λ call. option_map ask_names call ≡ asking (head_names head.entry) (map (λ text. text.now) queries.now)) }
-    ensures numbers { IfOk result (λ call. IfSome call (λ ask. IsBudget ask.nodes × (1 ≤ length ask.queries.items))) }
+fn some_of<'a>(alloc: Global, queries: &[&'a str]) -> Result<Option<Vec<&'a str>>, Memory>
+    ensures reads { IfOk result (λ texts. option_map (λ all. map (λ text. text.now) all.items) texts ≡ some_of (map (λ text. text.now) queries.now)) }
+    ensures some { IfOk result (λ texts. IfSome texts (λ all. 1 ≤ length all.items)) }
 {
     if queries.is_empty() {
         return Ok(None);
     }
-    Ok(Some(Ask {
-        form: head.form,
-        nodes: head.nodes,
-        files: head.files,
-        queries: queries.to_vec(alloc)?,
-    }))
+    Ok(Some(queries.to_vec(alloc)?))
 }
 
 fn session_in<'a>(found: &ArgMatches<'a>) -> Option<Session<'a>>
     ensures reads { option_map session_names result ≡ session_in (rows_of (found_of found.now)) }
     ensures numbers { IfSome result (λ session. IsBudget session.nodes) }
 {
+    let form = form_in(found)?;
     let head = head_in(found)?;
     let script = text_in(found, "script")?;
     Some(Session {
-        form: head.form,
+        form,
         nodes: head.nodes,
         files: head.files,
         script,
@@ -154,10 +189,9 @@ fn head_in<'a>(found: &ArgMatches<'a>) -> Option<Head<'a>>
     ensures reads { option_map head_names result ≡ head_in (rows_of (found_of found.now)) }
     ensures numbers { IfSome result (λ head. IsBudget head.nodes) }
 {
-    let form = form_in(found)?;
     let nodes = nodes_in(found)?;
     let files = files_in(found)?;
-    Some(Head { form, nodes, files })
+    Some(Head { nodes, files })
 }
 
 fn files_in<'a>(found: &ArgMatches<'a>) -> Option<Files<'a>>
@@ -189,6 +223,12 @@ fn form_in(found: &ArgMatches<'_>) -> Option<Form>
     ensures { result ≡ form_in (rows_of (found_of found.now)) }
 {
     Form::named(text_in(found, "as")?)
+}
+
+fn why_form_in(found: &ArgMatches<'_>) -> Option<WhyForm>
+    ensures { result ≡ why_form_in (rows_of (found_of found.now)) }
+{
+    WhyForm::named(text_in(found, "as")?)
 }
 
 fn sheet_form_in(found: &ArgMatches<'_>) -> Option<SheetForm>

@@ -2,7 +2,7 @@ ghost use Rattle.std.specs.Prelude.{◌≡◌, ◌∷◌, [], false, true, pos, 
 ghost use Rattle.clap.specs.Words.{app_of, rule_of};
 ghost use Rattle.clap.specs.declared.builder.command.Command.TheViews.{out-Command};
 ghost use Rattle.clap.specs.declared.builder.value_parser.ValueParser.TheVariants.{Signed};
-ghost use Rattle.pc_desk_words.specs.Program.{ask_verb, column_rule, desk_app, desk_shape, desk_with, file_rule, form_rule, limit_verb, most_nodes, nodes_rule, opens_verb, query_rule, scale_rule, schema_verb, session_verb, sql_verb, try_verb, with_both, with_words};
+ghost use Rattle.pc_desk_words.specs.Program.{ask_verb, column_rule, desk_app, desk_shape, desk_with, file_rule, form_rule, limit_verb, most_nodes, nodes_rule, opens_verb, query_rule, scale_rule, schema_verb, session_verb, sql_verb, try_verb, why_verb, with_both, with_words};
 
 use crate::texts;
 use clap::builder::ValueParser;
@@ -11,6 +11,9 @@ use std::alloc::{AllocError, Global};
 
 const FORMS: &[&str] = &["text", "table", "json", "chart", "svg"];
 
+/// The forms of `why`.
+const WHY_FORMS: &[&str] = &["text", "table", "json", "svg"];
+
 /// The forms of `try` and `opens`.
 const SHEET_FORMS: &[&str] = &["text", "table", "json"];
 
@@ -18,7 +21,12 @@ const SHEET_FORMS: &[&str] = &["text", "table", "json"];
 pub(crate) fn desk<'a>(alloc: Global) -> Result<Command<'a>, AllocError>
     ensures { IfOk result (λ command. app_of command ≡ desk_app) }
 {
-    desk_with(alloc, ValueParser::String, ValueParser::String)
+    desk_with(
+        alloc,
+        ValueParser::String,
+        ValueParser::String,
+        ValueParser::String,
+    )
 }
 
 /// The program that takes the forms that there are, and tells a near one of any other.
@@ -26,6 +34,7 @@ pub(crate) fn strict_desk<'a>(alloc: Global) -> Result<Command<'a>, AllocError> 
     desk_with(
         alloc,
         ValueParser::Names(FORMS),
+        ValueParser::Names(WHY_FORMS),
         ValueParser::Names(SHEET_FORMS),
     )
 }
@@ -33,11 +42,12 @@ pub(crate) fn strict_desk<'a>(alloc: Global) -> Result<Command<'a>, AllocError> 
 fn desk_with<'a>(
     alloc: Global,
     forms: ValueParser<'a>,
+    whys: ValueParser<'a>,
     sheets: ValueParser<'a>,
 ) -> Result<Command<'a>, AllocError>
-    ensures { IfOk result (λ command. app_of command ≡ desk_with forms.entry sheets.entry) }
+    ensures { IfOk result (λ command. app_of command ≡ desk_with forms.entry whys.entry sheets.entry) }
 {
-    holding_desk(alloc, forms, sheets)?
+    holding_desk(alloc, forms, whys, sheets)?
         .subcommand(limit(alloc)?)?
         .subcommand(draft(alloc)?)?
         .subcommand(sql(alloc)?)
@@ -47,22 +57,28 @@ fn desk_with<'a>(
 fn holding_desk<'a>(
     alloc: Global,
     forms: ValueParser<'a>,
+    whys: ValueParser<'a>,
     sheets: ValueParser<'a>,
 ) -> Result<Command<'a>, AllocError>
-    ensures { IfOk result (λ command. app_of command ≡ record { top = desk_shape; subs = ask_verb forms.entry ∷ session_verb forms.entry ∷ try_verb sheets.entry ∷ opens_verb sheets.entry ∷ [] }) }
+    ensures { IfOk result (λ command. app_of command ≡ record { top = desk_shape; subs = ask_verb forms.entry ∷ session_verb forms.entry ∷ why_verb whys.entry ∷ try_verb sheets.entry ∷ opens_verb sheets.entry ∷ [] }) }
 {
-    answering_desk(alloc, forms)?
+    answering_desk(alloc, forms, whys)?
         .subcommand(trial(alloc, sheets)?)?
         .subcommand(opens(alloc, sheets)?)
 }
 
 /// With the verbs that answer questions.
-fn answering_desk<'a>(alloc: Global, forms: ValueParser<'a>) -> Result<Command<'a>, AllocError>
-    ensures { IfOk result (λ command. app_of command ≡ record { top = desk_shape; subs = ask_verb forms.entry ∷ session_verb forms.entry ∷ [] }) }
+fn answering_desk<'a>(
+    alloc: Global,
+    forms: ValueParser<'a>,
+    whys: ValueParser<'a>,
+) -> Result<Command<'a>, AllocError>
+    ensures { IfOk result (λ command. app_of command ≡ record { top = desk_shape; subs = ask_verb forms.entry ∷ session_verb forms.entry ∷ why_verb whys.entry ∷ [] }) }
 {
     bare_desk(alloc)?
         .subcommand(ask(alloc, forms)?)?
-        .subcommand(session(alloc, forms)?)
+        .subcommand(session(alloc, forms)?)?
+        .subcommand(why(alloc, whys)?)
 }
 
 fn bare_desk<'a>(alloc: Global) -> Result<Command<'a>, AllocError>
@@ -87,7 +103,12 @@ fn ask<'a>(alloc: Global, forms: ValueParser<'a>) -> Result<Command<'a>, AllocEr
     let command = Command::new(alloc, "ask")
         .about(texts::ASK_ABOUT)
         .after_help(texts::ASK_AFTER);
-    with_words(alloc, command, forms, queries(alloc))
+    with_words(
+        alloc,
+        command,
+        form(alloc, forms, texts::AS),
+        queries(alloc),
+    )
 }
 
 fn session<'a>(alloc: Global, forms: ValueParser<'a>) -> Result<Command<'a>, AllocError>
@@ -98,7 +119,22 @@ fn session<'a>(alloc: Global, forms: ValueParser<'a>) -> Result<Command<'a>, All
         .about(texts::SESSION_ABOUT)
         .after_help(texts::SESSION_AFTER);
     let script = file(alloc, "script", "SCRIPT", texts::SCRIPT);
-    with_words(alloc, command, forms, script)
+    with_words(alloc, command, form(alloc, forms, texts::AS), script)
+}
+
+fn why<'a>(alloc: Global, forms: ValueParser<'a>) -> Result<Command<'a>, AllocError>
+    ensures app { IfOk result (λ command. app_of command ≡ record { top = why_verb forms.entry; subs = [] }) }
+    ensures local { IfOk result (λ command. (out-Command command).has_globals ≡ false) }
+{
+    let command = Command::new(alloc, "why")
+        .about(texts::WHY_ABOUT)
+        .after_help(texts::WHY_AFTER);
+    with_words(
+        alloc,
+        command,
+        form(alloc, forms, texts::WHY_AS),
+        queries(alloc),
+    )
 }
 
 fn trial<'a>(alloc: Global, forms: ValueParser<'a>) -> Result<Command<'a>, AllocError>
@@ -158,18 +194,18 @@ fn draft<'a>(alloc: Global) -> Result<Command<'a>, AllocError>
     with_both(command, rows(alloc, texts::SCHEMA_ROWS), columns(alloc))
 }
 
-/// The options and files of `ask` and `session`, and what stands last.
+/// The options and files of `ask`, `session` and `why`, and what stands last.
 fn with_words<'a>(
     alloc: Global,
     command: Command<'a>,
-    forms: ValueParser<'a>,
+    form: Arg<'a>,
     last: Arg<'a>,
 ) -> Result<Command<'a>, AllocError>
-    requires { ((out-Command command).has_globals ≡ false) × (last.global ≡ false) }
-    ensures app { IfOk result (λ r. app_of r ≡ with_words (app_of command.entry) forms.entry (rule_of last.entry)) }
+    requires { ((out-Command command).has_globals ≡ false) × (form.global ≡ false) × (last.global ≡ false) }
+    ensures app { IfOk result (λ r. app_of r ≡ with_words (app_of command.entry) (rule_of form.entry) (rule_of last.entry)) }
     ensures local { IfOk result (λ r. (out-Command r).has_globals ≡ false) }
 {
-    let command = with_both(command, form(alloc, forms, texts::AS), nodes(alloc))?;
+    let command = with_both(command, form, nodes(alloc))?;
     let command = with_both(command, schema(alloc), rows(alloc, texts::ROWS))?;
     with_both(command, constraints(alloc), last)
 }

@@ -73,6 +73,24 @@ macro_rules! after_answers {
     };
 }
 
+/// Below `why`.
+macro_rules! after_reasons {
+    ($example:literal) => {
+        after!(
+            "  table  CSV, a record for each part of an end
+  json   JSON, an object for each part of an end
+  svg    a picture: of counts and sums, the parts as pieces of a bar
+",
+            "  0  all ends are made of the parts that are shown
+  1  an end is only known from outside, or a line is undecided
+  2  the constraints are impossible
+",
+            "words, a file or a query",
+            $example
+        )
+    };
+}
+
 /// Below `try` and `opens`.
 macro_rules! after_findings {
     ($statuses:literal, $example:literal) => {
@@ -100,6 +118,13 @@ pub(crate) const SESSION_ABOUT: &str =
 pub(crate) const SESSION_AFTER: &str = after_answers!(
     "words, a file or a line",
     "session --as json sales.schema sales.csv lost.pc edits.script"
+);
+
+pub(crate) const WHY_ABOUT: &str =
+    "Tell what each end of an answer is made of, and what keeps it from lying further out";
+
+pub(crate) const WHY_AFTER: &str = after_reasons!(
+    "why sales.schema sales.csv lost.pc 'sum(price) where day in 1..3'"
 );
 
 pub(crate) const TRY_ABOUT: &str =
@@ -176,6 +201,8 @@ pub(crate) const SCRIPT: &str = "a script of edits and questions, a line each";
 pub(crate) const AS: &str = "how answers are shown: text, table, json, chart or svg";
 
 pub(crate) const NODES: &str = "how many nodes each search may have, 1 to 100000";
+
+pub(crate) const WHY_AS: &str = "how explanations are shown: text, table, json or svg";
 
 pub(crate) const SHEET_AS: &str = "how what is found is shown: text, table or json";
 
