@@ -1,4 +1,4 @@
-# Completions of pc, pc_desk and pc_view for bash: source this file.
+# Completions of pc and pc_desk for bash: source this file.
 _pc() {
   local word=${COMP_WORDS[COMP_CWORD]} command=${COMP_WORDS[1]} previous=${COMP_WORDS[COMP_CWORD - 1]}
   COMPREPLY=()
@@ -17,9 +17,11 @@ _pc_desk() {
   local word=${COMP_WORDS[COMP_CWORD]} verb=${COMP_WORDS[1]} previous=${COMP_WORDS[COMP_CWORD - 1]}
   COMPREPLY=()
   if [ "$COMP_CWORD" -eq 1 ]; then
-    mapfile -t COMPREPLY < <(compgen -W "ask session try opens limit schema sql help --help --version" -- "$word")
+    mapfile -t COMPREPLY < <(compgen -W "ask session why try opens limit schema sql help --help --version" -- "$word")
   elif [ "$verb" = help ]; then
-    mapfile -t COMPREPLY < <(compgen -W "ask session try opens limit schema sql" -- "$word")
+    mapfile -t COMPREPLY < <(compgen -W "ask session why try opens limit schema sql" -- "$word")
+  elif [[ $previous == --as && $verb == why ]]; then
+    mapfile -t COMPREPLY < <(compgen -W "text table json svg" -- "$word")
   elif [[ $previous == --as && $verb =~ ^(try|opens)$ ]]; then
     mapfile -t COMPREPLY < <(compgen -W "text table json" -- "$word")
   elif [ "$previous" = --as ]; then
@@ -46,16 +48,5 @@ _pc_desk() {
     mapfile -t COMPREPLY < <(compgen -f -- "$word")
   fi
 }
-_pc_view() {
-  local word=${COMP_WORDS[COMP_CWORD]}
-  COMPREPLY=()
-  if [ "$COMP_CWORD" -eq 1 ]; then
-    mapfile -t COMPREPLY < <(compgen -W "why" -- "$word")
-  elif [[ ${COMP_WORDS[1]} == why && $COMP_CWORD -le 3 ]]; then
-    compopt -o filenames
-    mapfile -t COMPREPLY < <(compgen -f -- "$word")
-  fi
-}
 complete -F _pc pc ./pc
 complete -F _pc_desk pc_desk ./pc_desk
-complete -F _pc_view pc_view ./pc_view

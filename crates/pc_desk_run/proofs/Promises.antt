@@ -9,9 +9,10 @@ use Rattle.pc_desk_run.specs.declared.ended.Ended.{Ended}
 use Rattle.pc_desk_run.specs.declared.ended.Ended.TheVariants as ends
 use Rattle.pc_desk_run.specs.declared.reply.Reply.{Reply}
 use Rattle.pc_desk_run.specs.declared.reply.Reply.TheVariants as replies
-use Rattle.pc_desk_run.specs.Endings.{is_impossible, is_open}
+use Rattle.pc_desk_why.specs.declared.explained.Explained.{Explained}
+use Rattle.pc_desk_run.specs.Endings.{has_impossible, is_impossible, is_open}
 use Rattle.pc_desk_run.specs.Meaning.{AsksFor, Call, Delivers, HasAnswered, HasRefused, IsNoted, KeepsPromise}
-use Rattle.pc_desk_run.specs.Outcome.{Input, asks, drafts, follows, limits, lists, tests, tries}
+use Rattle.pc_desk_run.specs.Outcome.{Input, asks, drafts, explains, follows, limits, lists, tests, tries}
 use Rattle.pc_desk_run.specs.Replies.{IsNoCall, IsSaid, RefusesAsked, RepliesTo, RepliesToNone, Responds}
 
 module _ (call : Call) where
@@ -29,6 +30,8 @@ module _ (call : Call) where
   said_keeps : (input : Input) (ended : Ended) (text note : List ℕ) → IsSaid input ended text note → HasAnswered call ended → KeepsPromise call ended
   said_keeps (asks form nodes asking) ended text note said has = keeps_by (list_any is_impossible said.0) (list_any is_open said.0) ended said.4.0 has
   said_keeps (follows form nodes scripted) ended text note said has = keeps_by (list_any is_impossible said.0) (list_any is_open said.0) ended said.2.0 has
+  said_keeps (explains form nodes asking) ended text note said has =
+      keeps_by (has_impossible said.0) (list_any (λ (told : Explained). told.open) said.0) ended said.6.0 has
   said_keeps (tries form scale observed) ended text note said has = trial_keeps (is_kept (trial_of scale observed.constraints observed.rows)) ended said.0 has
   said_keeps (lists form listing) ended text note said has = keeps_by false false ended said.2.0 has
   said_keeps (limits limited) ended text note said has = keeps_by false false ended said.2.0 has

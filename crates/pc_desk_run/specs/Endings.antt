@@ -14,6 +14,9 @@ use Rattle.pc_desk_run.specs.declared.ended.Ended.TheVariants as ends
 use Rattle.pc_desk_schema.specs.Draft.{is_whole}
 use Rattle.pc_desk_schema.specs.declared.draft.Draft.{Draft}
 use Rattle.pc_desk_try.specs.declared.tried.Trial.{Trial}
+use Rattle.pc_desk_why.specs.declared.explained.Explained.{Explained}
+use Rattle.pc_desk_why.specs.declared.explained.Found.{Found}
+use Rattle.pc_desk_why.specs.declared.explained.Found.TheVariants as founds
 use Rattle.pc_desk_try.specs.Trials.{is_kept}
 
 -- the number with which the program ends
@@ -62,6 +65,19 @@ is_open entry = says_undecided entry.relation || (lack_undecided entry.lack || h
 
 abbrev pub ended_of : List Entry → Ended
 ended_of entries = if list_any is_impossible entries then ends.Impossible else (if list_any is_open entries then ends.Open else ends.Settled)
+
+abbrev pub finds_impossible : Found → Bool
+finds_impossible (founds.Ends low high) = false
+finds_impossible founds.NoValue = false
+finds_impossible founds.Impossible = true
+
+-- of what is explained, some answer says that no lost rows are possible
+abbrev pub has_impossible : List Explained → Bool
+has_impossible all = list_any (λ (told : Explained). finds_impossible told.found) all
+
+abbrev pub ended_of_reasons : List Explained → Ended
+ended_of_reasons all =
+    if has_impossible all then ends.Impossible else (if list_any (λ (told : Explained). told.open) all then ends.Open else ends.Settled)
 
 -- constraints that a table keeps are settled; where it breaks one something is to be looked at
 abbrev pub ended_of_trial : Trial → Ended

@@ -17,9 +17,9 @@ use Rattle.pc_files.specs.Outcome.{Found, listed_files, listing_in, observed_in}
 use Rattle.pc_files.specs.Reads.{IsLimited, IsScripted, IsShowable, IsUsable, ReadsLimited, ReadsScripted}
 use Rattle.pc_desk_answers.specs.Questions.{IsQuestion}
 use Rattle.pc_desk_schema.specs.declared.draft.Draft.{Draft}
-use Rattle.pc_desk_words.specs.Words.{AskNames, Asked, DraftNames, FileNames, IsBudget, IsScale, LimitNames, SessionNames, TrialNames, ask, draft, limit, opens, session, sql, trial}
+use Rattle.pc_desk_words.specs.Words.{Asked, DraftNames, FileNames, IsBudget, IsScale, LimitNames, SessionNames, TrialNames, ask, draft, limit, opens, session, sql, trial, why}
 use Rattle.pc_desk_run.specs.declared.input.Asking.{Asking}
-use Rattle.pc_desk_run.specs.Outcome.{Input, asking_in, asks, data_files, drafted_for, drafts, follows, limits, lists, tests, tries}
+use Rattle.pc_desk_run.specs.Outcome.{Input, asking_in, asks, data_files, drafted_for, drafts, explains, follows, limits, lists, tests, tries}
 use Rattle.pc_desk_run.specs.Texts.{Named, named_in}
 
 -- what answers need of what was read
@@ -30,6 +30,7 @@ pub record IsAsking (asking : Asking) : Type 0 where
 abbrev pub IsSoundInput : Input → Type 0
 IsSoundInput (asks form nodes asking) = IsAsking asking × IsBudget nodes
 IsSoundInput (follows form nodes scripted) = IsScripted scripted × IsBudget nodes
+IsSoundInput (explains form nodes asking) = IsAsking asking × IsBudget nodes
 IsSoundInput (tries form scale observed) = IsUsable observed × IsScale scale
 IsSoundInput (lists form listing) = IsShowable listing
 IsSoundInput (limits limited) = IsLimited limited
@@ -40,6 +41,7 @@ IsSoundInput (drafts drafted) = 1 ≤ length drafted.schema.columns → IsWellFo
 abbrev pub IsInputOf : Asked → Input → Type 0
 IsInputOf (ask names) (asks form nodes asking) = (form ≡ names.form) × (nodes ≡ names.nodes)
 IsInputOf (session names) (follows form nodes scripted) = (form ≡ names.form) × (nodes ≡ names.nodes)
+IsInputOf (why names) (explains form nodes asking) = (form ≡ names.form) × (nodes ≡ names.nodes)
 IsInputOf (trial names) (tries form scale observed) = (form ≡ names.form) × (scale ≡ names.scale)
 IsInputOf (opens names) (lists form listing) = form ≡ names.form
 IsInputOf (limit names) (limits limited) = ⊤
@@ -48,8 +50,8 @@ IsInputOf (draft names) (drafts drafted) = ⊤
 IsInputOf asked input = ⊥
 
 -- what reading the files of a call answers
-abbrev pub ReadsAsking : Reading → AskNames → Result Asking Stop → Type 0
-ReadsAsking reading names result = IsRead reading (data_files names.files) (asking_in names.queries) result
+abbrev pub ReadsAsking : Reading → Named → Result Asking Stop → Type 0
+ReadsAsking reading named result = IsRead reading (data_files named.files) (asking_in named.queries) result
 
 abbrev pub ReadsSession : Reading → SessionNames → Result Scripted Stop → Type 0
 ReadsSession reading names result = ReadsScripted reading names.files.schema names.files.rows names.files.constraints names.script result

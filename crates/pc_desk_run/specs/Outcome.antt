@@ -7,9 +7,10 @@ use Rattle.pc_base.specs.Files.{Files}
 use Rattle.pc_desk_answers.specs.Questions.{questions_of}
 use Rattle.pc_desk_schema.specs.Draft.{drafted_of}
 use Rattle.pc_desk_schema.specs.declared.draft.Draft.{Draft}
-use Rattle.pc_desk_words.specs.Words.{AskNames, Asked, DraftNames, FileNames, OpensNames, SessionNames, SqlNames, TrialNames, ask, draft, limit, opens, session, sql, trial}
+use Rattle.pc_desk_words.specs.Words.{AskNames, Asked, DraftNames, FileNames, OpensNames, SessionNames, SqlNames, TrialNames, WhyNames, ask, draft, limit, opens, session, sql, trial, why}
 use Rattle.pc_desk_words.specs.declared.form.Form.{Form}
 use Rattle.pc_desk_words.specs.declared.form.SheetForm.{SheetForm}
+use Rattle.pc_desk_words.specs.declared.form.WhyForm.{WhyForm}
 use Rattle.pc_files.specs.declared.reading.Limited.{Limited}
 use Rattle.pc_files.specs.declared.reading.Listing.{Listing}
 use Rattle.pc_files.specs.declared.reading.Observed.{Observed}
@@ -17,12 +18,13 @@ use Rattle.pc_files.specs.declared.reading.Scripted.{Scripted}
 use Rattle.pc_files.specs.Outcome.{Found, NamedFile, Obstacle, limit_files, limited_in, listed_files, listing_in, mapped, observed_files, observed_in, or_refused, outcome_of, script_files, scripted_in, value_under}
 use Rattle.pc_desk_run.specs.declared.input.Asking.{Asking}
 
--- What is asked, or a script that is followed, by searches of at most so many nodes each; constraints that are held against the
+-- What is asked, a script that is followed, or answers that are explained, by searches of at most so many nodes each; constraints that are held against the
 -- rows, whose numbers are multiplied by so many millionths; constraints of which is asked what they open. Each with the form in
 -- which it is shown. Or limits behind constraints; constraints that a table of this name is tested by; or a draft of a schema.
 pub data Input : Type 0 where
   asks : Form → ℕ → Asking → Input
   follows : Form → ℕ → Scripted → Input
+  explains : WhyForm → ℕ → Asking → Input
   tries : SheetForm → ℕ → Observed → Input
   lists : SheetForm → Listing → Input
   limits : Limited → Input
@@ -35,6 +37,7 @@ data_files names = observed_files names.schema names.rows names.constraints
 -- the files of a call, in the order in which they are read
 abbrev pub files_of : Asked → List NamedFile
 files_of (ask names) = data_files names.files
+files_of (why names) = data_files names.files
 files_of (trial names) = data_files names.files
 files_of (opens names) = listed_files names.files.schema names.files.constraints
 files_of (session names) = script_files names.files.schema names.files.rows names.files.constraints names.script
@@ -56,6 +59,9 @@ asks_in names found = mapped (asks names.form names.nodes) (asking_in names.quer
 abbrev pub follows_in : SessionNames → Found → Result Input Obstacle
 follows_in names found = Ok (follows names.form names.nodes (scripted_in found))
 
+abbrev pub explains_in : WhyNames → Found → Result Input Obstacle
+explains_in names found = mapped (explains names.form names.nodes) (asking_in names.queries found)
+
 abbrev pub tries_in : TrialNames → Found → Result Input Obstacle
 tries_in names found = Ok (tries names.form names.scale (observed_in found))
 
@@ -76,6 +82,7 @@ drafted_for names bytes = drafted_of bytes names.columns
 abbrev pub comes_to : Asked → Files → Result Input Obstacle
 comes_to (ask names) shelf = outcome_of (files_of (ask names)) (asks_in names) shelf
 comes_to (session names) shelf = outcome_of (files_of (session names)) (follows_in names) shelf
+comes_to (why names) shelf = outcome_of (files_of (why names)) (explains_in names) shelf
 comes_to (trial names) shelf = outcome_of (files_of (trial names)) (tries_in names) shelf
 comes_to (opens names) shelf = outcome_of (files_of (opens names)) (lists_in names) shelf
 comes_to (limit names) shelf = outcome_of (files_of (limit names)) limits_in shelf

@@ -1,5 +1,5 @@
 -- What is replied to words, by what the files hold.
-use Rattle.std.specs.Prelude.{◌≡◌, ◌⊎◌, ℕ, List, [], ◌++◌, drop, length, take, Some, None, Ok, Err}
+use Rattle.std.specs.Prelude.{◌≡◌, ◌⊎◌, ℕ, Bool, true, false, List, [], ◌++◌, drop, length, take, Some, None, Ok, Err}
 use Rattle.pc_model.specs.declared.constraint.Constraint.{Constraint}
 use Rattle.pc_model.specs.declared.fault.Fault.{Fault}
 use Rattle.pc_model.specs.declared.fault.FileKind.{FileKind}
@@ -10,6 +10,7 @@ use Rattle.pc_files.specs.Loading.{EndsAt, IsUnread, LoadsAll, Reading}
 use Rattle.pc_files.specs.Outcome.{refused}
 use Rattle.pc_files.specs.declared.reading.Limited.{Limited}
 use Rattle.pc_files.specs.declared.reading.Listing.{Listing}
+use Rattle.pc_files.specs.declared.reading.Observed.{Observed}
 use Rattle.pc_lang.specs.Canonical.{constraints_text}
 use Rattle.pc_schema.specs.Plain.{plain_text}
 use Rattle.pc_files.specs.Reads.{start_of}
@@ -19,7 +20,12 @@ use Rattle.pc_desk_limit.specs.declared.limiting.Limiting.TheVariants.{Outside, 
 use Rattle.pc_desk_limit.specs.Limiting.{IsClosed, IsLimiting}
 use Rattle.pc_desk_schema.specs.Texts.{remark_lines}
 use Rattle.pc_desk_sql.specs.Spelled.{sql_text}
+use Rattle.pc_desk_short.specs.Clashes.{IsClash, clash_lines}
+use Rattle.pc_desk_short.specs.declared.clash.Clash.{Clash}
+use Rattle.pc_desk_short.specs.declared.clash.ClashLine.{ClashLine}
 use Rattle.pc_desk_table.specs.declared.entry.Entry.{Entry}
+use Rattle.pc_desk_why.specs.Explained.{AreExplained}
+use Rattle.pc_desk_why.specs.declared.explained.Explained.{Explained}
 use Rattle.pc_desk_words.specs.declared.form.Form.{Form}
 use Rattle.pc_desk_words.specs.Words.{Asked, MayHelp, MayRefuse, asked_of}
 use Rattle.pc_desk_run.specs.declared.ended.Ended.{Ended}
@@ -33,10 +39,11 @@ use Rattle.pc_desk_try.specs.Openings.{AreOpenings}
 use Rattle.pc_desk_try.specs.Shown.{sheet_of}
 use Rattle.pc_desk_try.specs.Trials.{trial_of}
 use Rattle.pc_desk_words.specs.declared.form.SheetForm.{SheetForm}
-use Rattle.pc_desk_run.specs.Endings.{ended_of, ended_of_draft, ended_of_trial}
+use Rattle.pc_desk_words.specs.declared.form.WhyForm.{WhyForm}
+use Rattle.pc_desk_run.specs.Endings.{ended_of, ended_of_draft, ended_of_reasons, ended_of_trial, has_impossible}
 use Rattle.pc_desk_run.specs.Inputs.{Explains, IsInputOf, IsSoundInput}
-use Rattle.pc_desk_run.specs.Outcome.{ComesTo, Input, asks, drafts, files_of, follows, limits, lists, tests, tries}
-use Rattle.pc_desk_run.specs.Texts.{AreRefusedLines, IsNoteBeside, Named, named_in, no_column_lines, note_on, outside_lines, sheet_text, text_of, too_many_lines, unread_line}
+use Rattle.pc_desk_run.specs.Outcome.{ComesTo, Input, asks, drafts, explains, files_of, follows, limits, lists, tests, tries}
+use Rattle.pc_desk_run.specs.Texts.{AreRefusedLines, IsNoteBeside, Named, named_in, no_column_lines, note_on, outside_lines, sheet_text, text_of, too_many_lines, unread_line, why_text}
 
 -- what a text is of, with a status and a note beside it
 abbrev pub Saying : Type 1
@@ -45,6 +52,18 @@ Saying = Ended → List ℕ → List ℕ → Type 0
 -- the text of entries in a form, which have this status, and this note
 abbrev pub IsShown : Form → List Entry → List ℕ → Saying
 IsShown form entries note ended text said = (ended ≡ ended_of entries) × (text ≡ text_of form entries) × (said ≡ note)
+
+-- the lines on constraints of which an answer says that they are impossible; of others there are none
+abbrev pub AreClashLines : Observed → ℕ → Bool → List ClashLine → Type 0
+AreClashLines observed nodes false lines = lines ≡ []
+AreClashLines observed nodes true lines =
+    (clash : Clash) × IsClash observed.schema observed.constraints nodes clash
+    × (lines ≡ clash_lines observed.schema observed.constraints clash)
+
+-- .. of explanations
+abbrev pub AreReasonsShown : WhyForm → List Constraint → List ClashLine → List Explained → List ℕ → Saying
+AreReasonsShown form constraints lines all note ended text said =
+    (ended ≡ ended_of_reasons all) × (text ≡ why_text form constraints lines all) × (said ≡ note)
 
 -- .. of a trial
 abbrev pub IsTrialShown : SheetForm → Trial → List ℕ → Saying
@@ -68,7 +87,8 @@ limits_of limited = drop limited.opening limited.all
 
 -- What is said of an input. Entries show answers to what is asked: each is right, by searches of at most so many nodes, and stands
 -- beside the answer to the same where nothing is lost; the note names constraints that open rows beside others that they cross. Of a
--- script, which may add constraints, each has the number of its line in the file. A trial is that of the constraints over the rows; and each row that can be lost is in one of the classes that are shown. A
+-- script, which may add constraints, each has the number of its line in the file. What is explained is so of the answers that are owed,
+-- and of constraints that are impossible a clash of them is told. A trial is that of the constraints over the rows; and each row that can be lost is in one of the classes that are shown. A
 -- list that is written allows what its constraints allow as far as it meets the limits; a statement is that for the constraints, and
 -- a draft that of the file, with what is said of columns beside it.
 abbrev pub IsSaid : Input → Saying
@@ -77,6 +97,11 @@ IsSaid (asks form nodes asking) ended text note =
     × (said : List ℕ) × IsNoteBeside asking.observed.schema asking.observed.constraints said × IsShown form entries said ended text note
 IsSaid (follows form nodes scripted) ended text note =
     (entries : List Entry) × ArePosed (posed_by scripted.observed.schema nodes (start_of scripted) scripted.script) entries × IsShown form entries [] ended text note
+IsSaid (explains form nodes asking) ended text note =
+    (all : List Explained) × AreExplained (ground_of asking.observed nodes) (asked asking.observed.schema asking.questions) all
+    × (lines : List ClashLine) × AreClashLines asking.observed nodes (has_impossible all) lines
+    × (said : List ℕ) × IsNoteBeside asking.observed.schema asking.observed.constraints said
+    × AreReasonsShown form asking.observed.constraints lines all said ended text note
 IsSaid (tries form scale observed) ended text note =
     IsTrialShown form (trial_of scale observed.constraints observed.rows) (note_on observed.constraints) ended text note
 IsSaid (lists form listing) ended text note =

@@ -11,6 +11,7 @@ use Rattle.pc_files.specs.declared.kept.Kept.{Kept}
 use Rattle.pc_files.specs.Texts.{line_break, malformed_line}
 use Rattle.pc_desk_fault.specs.Explained.{IsExplained}
 use Rattle.pc_desk_draw.specs.Charts.{chart_text}
+use Rattle.pc_desk_draw.specs.Stacked.{bars_text}
 use Rattle.pc_desk_draw.specs.Pictures.{picture_text}
 use Rattle.pc_desk_table.specs.declared.entry.Entry.{Entry}
 use Rattle.pc_desk_table.specs.Json.{json_text}
@@ -21,11 +22,17 @@ use Rattle.pc_desk_table.specs.Table.{table_text}
 use Rattle.pc_desk_try.specs.Beside.{AreBeside}
 use Rattle.pc_desk_try.specs.Written.{written_name}
 use Rattle.pc_desk_words.specs.Calls.{file_names}
-use Rattle.pc_desk_words.specs.Words.{Asked, FileNames, ask, draft, limit, opens, session, sql, trial, with_files}
+use Rattle.pc_desk_words.specs.Words.{Asked, FileNames, ask, draft, limit, opens, session, sql, trial, why, with_files}
 use Rattle.pc_desk_words.specs.declared.form.Form.{Form}
 use Rattle.pc_desk_words.specs.declared.form.Form.TheVariants as forms
 use Rattle.pc_desk_words.specs.declared.form.SheetForm.{SheetForm}
 use Rattle.pc_desk_words.specs.declared.form.SheetForm.TheVariants as sheet_forms
+use Rattle.pc_desk_words.specs.declared.form.WhyForm.{WhyForm}
+use Rattle.pc_desk_words.specs.declared.form.WhyForm.TheVariants as why_forms
+use Rattle.pc_desk_short.specs.declared.clash.ClashLine.{ClashLine}
+use Rattle.pc_desk_why.specs.declared.explained.Explained.{Explained}
+use Rattle.pc_desk_why.specs.Bars.{why_bars}
+use Rattle.pc_desk_why.specs.Shown.{why_sheet}
 use Rattle.pc_desk_run.specs.declared.line.Sources.{Sources}
 
 -- what is shown, in a form
@@ -40,6 +47,13 @@ abbrev pub sheet_text : SheetForm → Sheet → List ℕ
 sheet_text sheet_forms.Text sheet = sheet_lines sheet
 sheet_text sheet_forms.Table sheet = sheet_table sheet
 sheet_text sheet_forms.Json sheet = sheet_json sheet
+
+-- explanations, with the lines on constraints that are impossible
+abbrev pub why_text : WhyForm → List Constraint → List ClashLine → List Explained → List ℕ
+why_text why_forms.Text constraints lines all = sheet_lines (why_sheet constraints lines all)
+why_text why_forms.Table constraints lines all = sheet_table (why_sheet constraints lines all)
+why_text why_forms.Json constraints lines all = sheet_json (why_sheet constraints lines all)
+why_text why_forms.Picture constraints lines all = bars_text (why_bars constraints lines all)
 
 -- ---- why nothing is shown
 
@@ -56,6 +70,7 @@ named_files files = record { files = files; script = []; limits = []; queries = 
 abbrev pub named_in : Asked → Named
 named_in (ask names) = record (named_files names.files) { queries = names.queries }
 named_in (session names) = record (named_files names.files) { script = names.script }
+named_in (why names) = record (named_files names.files) { queries = names.queries }
 named_in (trial names) = named_files names.files
 named_in (opens names) = named_files names.files
 named_in (limit names) = record (named_files names.files) { limits = names.limits }

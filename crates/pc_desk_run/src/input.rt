@@ -2,16 +2,17 @@ ghost use Rattle.std.specs.Prelude.{◌≡◌, ◌≤◌, IfOk, length};
 ghost use Rattle.pc_model.specs.WellFormed.{IsWellFormed};
 ghost use Rattle.pc_files.specs.Keeping.{KeptFrom, none_kept};
 ghost use Rattle.pc_files.specs.Loading.{reading_of};
-ghost use Rattle.pc_desk_words.specs.Calls.{ask_names, draft_names, file_names, limit_names, session_names, trial_names};
+ghost use Rattle.pc_desk_words.specs.Calls.{draft_names, file_names, limit_names, session_names, trial_names};
 ghost use Rattle.pc_desk_words.specs.Words as words;
 ghost use Rattle.pc_files.specs.Reads.{IsLimited, IsScripted, IsShowable, IsUsable};
-ghost use Rattle.pc_desk_run.specs.Texts.{named_files};
+ghost use Rattle.pc_desk_run.specs.Texts.{named_files, named_of};
 ghost use Rattle.pc_desk_run.specs.Inputs.{IsAsking, KeepsAsked, KeepsDraftUntil, ReadsAsking, ReadsDraft, ReadsFiles, ReadsLimits, ReadsSession, ReadsTrial, names_in};
 
+use crate::line::Sources;
 use pc_base::Shelf;
 use pc_desk_answers::{Question, read_questions};
 use pc_desk_schema::{Draft as Drafted, draft_schema};
-use pc_desk_words::{Ask, Draft, Files, Limit, Session, Trial};
+use pc_desk_words::{Draft, Files, Limit, Session, Trial};
 use pc_files::{
     Kept, Limited, Listing, Observed, Scripted, Stop, load_bytes, read_limited_keeping,
     read_listing_keeping, read_observed_keeping, read_scripted_keeping,
@@ -27,18 +28,18 @@ pub(crate) struct Asking {
     pub questions: Seq<Question>,
 }
 
-/// Reads the files of `ask`, and then its queries.
+/// Reads the files of `ask` or of `why`, and then its queries.
 pub(crate) fn read_asking<F: Shelf>(
     alloc: Global,
     files: &mut F,
-    ask: &Ask,
+    sources: &Sources,
     kept: &mut Kept,
 ) -> Result<Asking, Stop>
-    ensures read { ReadsAsking (reading_of F.told F.leads files.old files.new) (ask_names ask.now) result }
+    ensures read { ReadsAsking (reading_of F.told F.leads files.old files.new) (named_of sources.now) result }
     ensures sound { IfOk result IsAsking }
-    ensures kept { KeepsAsked (F.told files.old).files (words.ask (ask_names ask.now)) kept.new result }
+    ensures kept { KeptFrom (F.told files.old).files (names_in (named_of sources.now)) kept.new result }
 {
-    let names = ask.files;
+    let names = sources.files;
     let observed = read_observed_keeping(
         alloc,
         files,
@@ -47,7 +48,7 @@ pub(crate) fn read_asking<F: Shelf>(
         names.constraints,
         kept,
     )?;
-    let questions = read_questions(alloc, &observed.schema, ask.queries.as_slice())?;
+    let questions = read_questions(alloc, &observed.schema, sources.queries)?;
     Ok(Asking {
         observed,
         questions,

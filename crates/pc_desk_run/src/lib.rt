@@ -6,6 +6,7 @@ mod form;
 mod input;
 mod line;
 mod note;
+mod reasons;
 mod reply;
 mod run;
 mod session;

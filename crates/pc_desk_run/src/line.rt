@@ -1,10 +1,10 @@
 ghost use Rattle.std.specs.Prelude.{◌≡◌, ◌-◌, [], IfOk, get_or, map, string_bytes};
-ghost use Rattle.pc_desk_words.specs.Calls.{ask_names, draft_names, file_names, limit_names, session_names, trial_names};
+ghost use Rattle.pc_desk_words.specs.Calls.{ask_names, draft_names, file_names, limit_names, session_names, trial_names, why_names};
 ghost use Rattle.pc_desk_words.specs.Words as words;
 ghost use Rattle.pc_desk_run.specs.Texts.{AreRefusedLines, is_query, name_of, named_files, named_in, named_of, part_name, place_text, unread_line};
 
 use pc_desk_fault::{About, explained};
-use pc_desk_words::{Ask, Draft, Files, Limit, Session, Trial};
+use pc_desk_words::{Ask, Draft, Files, Limit, Session, Trial, Why};
 use pc_files::{Kept, malformed_line};
 use pc_list::Seq;
 use pc_model::{Fault, FileKind};
@@ -24,11 +24,24 @@ pub(crate) struct Sources<'a> {
 pub(crate) fn sources_of_ask<'a>(ask: &'a Ask<'a>) -> Sources<'a>
     ensures { named_of result ≡ named_in (words.ask (ask_names ask.now)) }
 {
+    sources_of_queries(ask.files, ask.queries.as_slice())
+}
+
+/// What `why` reads.
+pub(crate) fn sources_of_why<'a>(why: &'a Why<'a>) -> Sources<'a>
+    ensures { named_of result ≡ named_in (words.why (why_names why.now)) }
+{
+    sources_of_queries(why.files, why.queries.as_slice())
+}
+
+fn sources_of_queries<'a>(files: Files<'a>, queries: &'a [&'a str]) -> Sources<'a>
+    ensures { named_of result ≡ record (named_files (file_names files.entry)) { queries = map (λ text. text.now) queries.now } }
+{
     Sources {
-        files: ask.files,
+        files,
         script: "",
         limits: "",
-        queries: ask.queries.as_slice(),
+        queries,
     }
 }
 

@@ -19,6 +19,7 @@ use crate::line::{
 };
 use crate::note::{note_beside, note_on};
 use crate::session::follow_script;
+use crate::reasons::reply_to_why;
 use crate::settled::{ended_of, ended_of_trial};
 use crate::written::{reply_to_draft, reply_to_limit, reply_to_sql};
 use pc_base::Shelf;
@@ -57,6 +58,7 @@ pub(crate) fn respond<F: Shelf>(
     match call {
         Call::Ask(ask) => reply_to_ask(alloc, files, &ask),
         Call::Session(session) => reply_to_session(alloc, files, &session),
+        Call::Why(why) => reply_to_why(alloc, files, &why),
         Call::Trial(trial) => reply_to_trial(alloc, files, &trial),
         Call::Opens(opens) => reply_to_opens(alloc, files, &opens),
         Call::Limit(limit) => reply_to_limit(alloc, files, &limit),
@@ -92,10 +94,11 @@ fn reply_to_ask<F: Shelf>(alloc: Global, files: &mut F, ask: &Ask) -> Result<Rep
     requires { IsBudget ask.now.nodes }
     ensures { IfOk result (RepliesTo (reading_of F.told F.leads files.old files.new) (words.ask (ask_names ask.now))) }
 {
+    let sources = sources_of_ask(ask);
     let mut kept = Kept::new(alloc);
-    match read_asking(alloc, files, ask, &mut kept) {
+    match read_asking(alloc, files, &sources, &mut kept) {
         Ok(asking) => answered(alloc, &asking, ask.form, ask.nodes),
-        Err(stop) => stopped(alloc, &sources_of_ask(ask), &kept, stop),
+        Err(stop) => stopped(alloc, &sources, &kept, stop),
     }
 }
 

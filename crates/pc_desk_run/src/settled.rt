@@ -1,23 +1,56 @@
 ghost use Rattle.std.specs.Prelude.{◌≡◌};
 ghost use Rattle.std.specs.List.{list_any};
-ghost use Rattle.pc_desk_run.specs.Endings.{ended_of, ended_of_draft, ended_of_trial, has_outer, is_impossible, is_open, is_outer};
+ghost use Rattle.pc_desk_run.specs.Endings.{ended_of, ended_of_draft, ended_of_reasons, ended_of_trial, finds_impossible, has_impossible, has_outer, is_impossible, is_open, is_outer};
 
 use crate::ended::Ended;
 use pc_desk_schema::Draft;
 use pc_desk_table::{End, Entry, Mark, Range, Said, SaidLack};
 use pc_desk_try::Trial;
+use pc_desk_why::{Explained, Found};
 
 /// How much of what is shown is settled.
 pub(crate) fn ended_of(entries: &[Entry]) -> Ended
     ensures ended { result ≡ ended_of entries.now }
 {
-    if has_impossible(entries) {
+    if has_impossible_entry(entries) {
         return Ended::Impossible;
     }
     if has_open(entries) {
         return Ended::Open;
     }
     Ended::Settled
+}
+
+/// How much of what is explained is settled.
+pub(crate) fn ended_of_reasons(all: &[Explained]) -> Ended
+    ensures ended { result ≡ ended_of_reasons all.now }
+{
+    if has_impossible(all) {
+        return Ended::Impossible;
+    }
+    if has_open_reason(all) {
+        return Ended::Open;
+    }
+    Ended::Settled
+}
+
+/// Whether some answer says that no lost rows are possible.
+pub(crate) fn has_impossible(all: &[Explained]) -> bool
+    ensures { result ≡ has_impossible all.now }
+{
+    all.iter().any(|told| finds_impossible(&told.found))
+}
+
+fn finds_impossible(found: &Found) -> bool
+    ensures { result ≡ finds_impossible found.now }
+{
+    matches!(found, Found::Impossible)
+}
+
+fn has_open_reason(all: &[Explained]) -> bool
+    ensures { result ≡ list_any (λ told. told.open) all.now }
+{
+    all.iter().any(|told| told.open)
 }
 
 /// Whether a table keeps constraints.
@@ -42,7 +75,7 @@ pub(crate) fn ended_of_draft(draft: &Draft) -> Ended
     }
 }
 
-fn has_impossible(entries: &[Entry]) -> bool
+fn has_impossible_entry(entries: &[Entry]) -> bool
     ensures { result ≡ list_any is_impossible entries.now }
 {
     entries.iter().any(|entry| is_impossible(entry))

@@ -5,7 +5,6 @@ use pc_base::{MemShelf, MemSink};
 use pc_desk_run::desk;
 use pc_list::Seq;
 use pc_run::run;
-use pc_view_run::view;
 use std::alloc::Global;
 
 /// A file of a trial.
@@ -29,9 +28,6 @@ pub(crate) struct Ended {
     pub(crate) is_in_order: bool,
 }
 
-/// The name under which `pc_view` loads the standard input.
-const INPUT: &str = "/dev/stdin";
-
 pub(crate) fn bytes_of<'a>(files: &'a [NamedFile], name: &str) -> Result<&'a [u8], Trouble> {
     for file in files {
         if file.name.as_str() == name {
@@ -49,9 +45,6 @@ pub(crate) fn outcome_of(
     instead: Instead<'_>,
 ) -> Result<Ended, Trouble> {
     let mut shelf = shelf_of(alloc, files, instead)?;
-    if let Some(name) = &command.given {
-        shelf.add(INPUT, bytes_in(files, instead, name.as_str())?)?;
-    }
     let [name, words @ ..] = command.words.as_slice() else {
         return Err(NO_PROGRAM);
     };
@@ -94,7 +87,6 @@ fn shelf_of(alloc: Global, files: &[NamedFile], instead: Instead<'_>) -> Result<
 enum Program {
     Pc,
     Desk,
-    View,
 }
 
 impl Program {
@@ -103,8 +95,6 @@ impl Program {
             Ok(Program::Pc)
         } else if name == "pc_desk" {
             Ok(Program::Desk)
-        } else if name == "pc_view" {
-            Ok(Program::View)
         } else {
             Err(NO_PROGRAM)
         }
@@ -122,7 +112,6 @@ impl Program {
         match self {
             Program::Pc => run(alloc, words, shelf, out).code(),
             Program::Desk => desk(alloc, words, shelf, out, notes).code(),
-            Program::View => view(alloc, words, shelf, out).code(),
         }
     }
 
@@ -137,4 +126,4 @@ impl Program {
     }
 }
 
-const NO_PROGRAM: Trouble = Trouble::Line("a run is one of pc, pc_desk or pc_view");
+const NO_PROGRAM: Trouble = Trouble::Line("a run is one of pc and pc_desk");

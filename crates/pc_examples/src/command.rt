@@ -8,18 +8,15 @@ use std::mem;
 pub(crate) struct Command {
     /// The program and its words.
     pub(crate) words: Vec<String>,
-    /// The file that is the standard input.
-    pub(crate) given: Option<String>,
     /// The file that keeps what is written.
     pub(crate) kept: Option<String>,
 }
 
-/// The command of a line, with `< NAME` and `> NAME` at its end or without.
+/// The command of a line, with `> NAME` at its end or without.
 pub(crate) fn read_command(alloc: Global, line: &str) -> Result<Command, Trouble> {
     let mut words = words_of(alloc, line)?;
     let kept = taken_behind(&mut words, ">");
-    let given = taken_behind(&mut words, "<");
-    Ok(Command { words, given, kept })
+    Ok(Command { words, kept })
 }
 
 /// The last word, where the mark stands before it: both are taken away.

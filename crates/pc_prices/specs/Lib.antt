@@ -1,2 +1,0 @@
-pub mod Nudges
-pub mod Prices

@@ -1,4 +1,0 @@
-pub mod Parts
-pub mod Ranks
-pub mod Tallies
-pub mod Texts
