@@ -39,7 +39,7 @@ use Rattle.pc_desk_try.specs.Openings.{AreOpenings}
 use Rattle.pc_desk_try.specs.Shown.{sheet_of}
 use Rattle.pc_desk_try.specs.Trials.{trial_of}
 use Rattle.pc_desk_words.specs.declared.form.SheetForm.{SheetForm}
-use Rattle.pc_desk_words.specs.declared.form.WhyForm.{WhyForm}
+use Rattle.pc_desk_words.specs.declared.form.DrawnForm.{DrawnForm}
 use Rattle.pc_desk_run.specs.Endings.{ended_of, ended_of_draft, ended_of_reasons, ended_of_trial, has_impossible}
 use Rattle.pc_desk_run.specs.Inputs.{Explains, IsInputOf, IsSoundInput}
 use Rattle.pc_desk_run.specs.Outcome.{ComesTo, Input, asks, drafts, explains, files_of, follows, limits, lists, tests, tries}
@@ -61,7 +61,7 @@ AreClashLines observed nodes true lines =
     × (lines ≡ clash_lines observed.schema observed.constraints clash)
 
 -- .. of explanations
-abbrev pub AreReasonsShown : WhyForm → List Constraint → List ClashLine → List Explained → List ℕ → Saying
+abbrev pub AreReasonsShown : DrawnForm → List Constraint → List ClashLine → List Explained → List ℕ → Saying
 AreReasonsShown form constraints lines all note ended text said =
     (ended ≡ ended_of_reasons all) × (text ≡ why_text form constraints lines all) × (said ≡ note)
 
