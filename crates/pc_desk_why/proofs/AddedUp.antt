@@ -1,12 +1,12 @@
 -- The parts that are told of the ends of a query's answer make up their values.
-use Rattle.std.proofs.Common.{◌≡◌, true, Option, Some, List, refl, sym, ap, subst}
+use Rattle.std.proofs.Common.{◌≡◌, true, Option, List, refl, sym, ap, subst}
 use Rattle.std.specs.Prelude.{IfSome}
 use Rattle.pc_model.specs.declared.query.Agg.{Agg}
 use Rattle.pc_model.specs.declared.query.Query.{Query}
 use Rattle.pc_model.specs.declared.row.Run.{Run}
 use Rattle.pc_model.specs.Accepted.{IsQuery}
 use Rattle.pc_model.specs.Aggregate.{Ratio}
-use Rattle.pc_model.specs.Right.{Answer, End, IsAttained, IsRightEnd, Mark, MayStand, Question, exact, outer}
+use Rattle.pc_model.specs.Right.{End, IsAttained, IsRightEnd, Mark, MayStand, Question, exact, outer}
 use Rattle.pc_proof.specs.Table.{ratio_of}
 use Rattle.pc_proof.specs.Unbroken.{plain_answer}
 use Rattle.pc_group.specs.Answers.{question_for}
@@ -19,7 +19,6 @@ use Rattle.pc_desk_parts.specs.declared.part.Part.{Part}
 use Rattle.pc_desk_parts.specs.Sums.{MakeUp, question_of}
 use Rattle.pc_desk_parts.proofs.Ends.{add_up}
 use Rattle.pc_desk_why.specs.declared.explained.Explained.{Explained}
-use Rattle.pc_desk_why.specs.declared.explained.Found.{Found}
 use Rattle.pc_desk_why.specs.declared.explained.Found.TheVariants.{Ends}
 use Rattle.pc_desk_why.specs.declared.explained.MadeEnd.{MadeEnd}
 use Rattle.pc_desk_why.specs.declared.explained.MadeEnd.TheVariants.{NotReached, Parts}

@@ -1,15 +1,11 @@
--- The rows that reach the ends of an answer that is right are possible.
-use Rattle.std.proofs.Common.{◌≡◌, ℕ, ℤ, pos, ◌<ℤ◌, List, Option, Some, None, sym, subst, arith}
+-- The rows that reach the ends of an answer to a quantile that is right are possible.
+use Rattle.std.proofs.Common.{◌≡◌, ℤ, pos, ◌<ℤ◌, List, Option, Some, None, sym, subst, arith}
 use Rattle.std.specs.Prelude.{IfSome}
 use Rattle.std.proofs.lemmas.Int.{ints}
 use Rattle.pc_model.specs.declared.row.Run.{Run}
-use Rattle.pc_model.specs.declared.schema.Schema.{Schema}
-use Rattle.pc_model.specs.Accepted.{IsQuery}
 use Rattle.pc_model.specs.Aggregate.{Ratio}
-use Rattle.pc_model.specs.Right.{Answer, ArePossible, End, IsRight, IsRightEnd, Mark, MayStand, Question, Relation, exact, outer}
+use Rattle.pc_model.specs.Right.{Answer, ArePossible, End, Mark, Question, Relation, exact, outer}
 use Rattle.pc_lang.specs.declared.quantile.Quantile.{Quantile}
-use Rattle.pc_lang.specs.Quantiles.{IsQuantile}
-use Rattle.pc_quantile.specs.Measured.{least_of}
 use Rattle.pc_quantile.specs.Right.{AreRightEnds, IsRight as IsRightQuantile, IsRightEnd as IsRightQuantileEnd, IsRightMark}
 use Rattle.pc_desk_parts.specs.declared.asked.Asked.{Asked as Ask}
 use Rattle.pc_desk_why.specs.Scopes.{AreReachable, IsReachable, MayReach}
@@ -17,21 +13,6 @@ use Rattle.pc_desk_why.specs.Scopes.{AreReachable, IsReachable, MayReach}
 module _ (ask : Ask) (q : Question) (schema : ask.schema.now ≡ q.schema) (constraints : ask.constraints.now ≡ q.constraints) where
   possible_reach : (runs : List Run) → ArePossible q runs → MayReach ask (exact runs)
   possible_reach runs are = (are.each_stands, rw (schema, constraints) are.are_possible)
-
-  -- ---- of a query
-
-  may_reach : (value : Ratio) (mark : Mark) → IsRightEnd q (record { value = value; mark = mark }) → MayReach ask mark
-  may_reach value (exact runs) right = possible_reach runs right.by
-  may_reach value outer right = tt
-
-  ends_reach : (relation : Relation) (ends : Option (End × End)) → IfSome ends (λ both. (pos 0 <ℤ both.0.value.den) × (pos 0 <ℤ both.1.value.den)) →
-      IfSome ends (λ both. IsRightEnd q both.0 × MayStand relation both.0) → IfSome ends (λ both. IsRightEnd q both.1 × MayStand relation both.1) → AreReachable ask ends
-  ends_reach relation None positive low high = tt
-  ends_reach relation (Some both) positive low high =
-      (record { positive = positive.0; rows = may_reach both.0.value both.0.mark low.0 }, record { positive = positive.1; rows = may_reach both.1.value both.1.mark high.0 })
-
-  pub right_reach : (answer : Answer) → IsRight q answer → AreReachable ask answer.ends
-  right_reach answer right = ends_reach answer.relation answer.ends right.positive right.low right.high
 
   -- ---- of a quantile
 
@@ -52,7 +33,3 @@ module _ (ask : Ask) (q : Question) (schema : ask.schema.now ≡ q.schema) (cons
 
     pub quantile_reaches : (answer : Answer) → IsRightQuantile q asked answer → AreReachable ask answer.ends
     quantile_reaches answer right = both_reach answer.relation answer.ends right.ends
-
--- the least number of the rows of a quantile can be asked for
-pub least_is_query : (schema : Schema) (asked : Quantile) → IsQuantile schema asked → IsQuery schema (least_of asked)
-least_is_query schema asked is = record { chosen = is.chosen; measured = is.numeric; grouped = tt }

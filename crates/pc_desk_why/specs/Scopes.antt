@@ -1,5 +1,5 @@
 -- What answers are explained over, and what parts need of what is asked.
-use Rattle.std.specs.Prelude.{⊤, ℕ, pos, ◌<ℤ◌, List, Option, None, IfSome}
+use Rattle.std.specs.Prelude.{⊤, pos, ◌<ℤ◌, List, Option, None, IfSome}
 use Rattle.pc_model.specs.declared.constraint.Constraint.{Constraint}
 use Rattle.pc_model.specs.declared.query.Query.{Query}
 use Rattle.pc_model.specs.declared.schema.Schema.{Schema}
