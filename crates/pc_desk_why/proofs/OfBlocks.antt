@@ -7,6 +7,7 @@ use Rattle.std.proofs.lemmas.List.Elements.{All-nil, All-cons, All-head, All-tai
 use Rattle.std.proofs.lemmas.Slice.Zip.{AllZip-long, all_zipped_more}
 use Rattle.pc_model.specs.declared.query.Folded.{Folded}
 use Rattle.pc_model.specs.declared.query.Query.{Query}
+use Rattle.pc_model.specs.declared.row.Row.{Row}
 use Rattle.pc_model.specs.Folds.{IsFold}
 use Rattle.pc_proof.specs.declared.document.Block.{Block}
 use Rattle.pc_group.specs.Answers.{AnswersWanted}
@@ -101,11 +102,14 @@ module _ (ground : Ground) (query : Query) where
 
   -- ---- one block more
 
-  pub seen_at : (bs : List Block) (folds : List Folded) (i : ℕ) (b : Block) (d : Folded) → AllZip IsSeenOf bs folds → i < length bs → b ≡ get_or bs i b → IsSeenOf b (get_or folds i d)
-  seen_at bs folds i b d each inside is = subst (λ (c : Block). IsSeenOf c (get_or folds i d)) (sym is) (zipped_at IsSeenOf bs folds i b d each inside)
-
   pub explained_more : (bs : List Block) (i : ℕ) (b : Block) (before : List Explained) (told : Explained) → i < length bs → b ≡ get_or bs i b →
       AllZip IsExplainedOf (take i bs) before → IsExplainedOf b told → AllZip IsExplainedOf (take (i + 1) bs) (before ++ told ∷ [])
   explained_more bs i b before told inside is earlier explains =
       let next : take (i + 1) bs ≡ take i bs ++ b ∷ [] = take_more bs i b inside ∙ ap (λ (c : Block). take i bs ++ c ∷ []) (sym is) in
       subst (λ (cs : List Block). AllZip IsExplainedOf cs (before ++ told ∷ [])) (sym next) (all_zipped_more IsExplainedOf (take i bs) before b told earlier explains)
+
+module _ (query : Query) (rows : List Row) where
+  pub seen_at : (bs : List Block) (folds : List Folded) (i : ℕ) (b : Block) (d : Folded) → AllZip (λ (b : Block) (folded : Folded). IsFold query b.name rows folded) bs folds → i < length bs → b ≡ get_or bs i b →
+      IsFold query b.name rows (get_or folds i d)
+  seen_at bs folds i b d each inside is =
+      subst (λ (c : Block). IsFold query c.name rows (get_or folds i d)) (sym is) (zipped_at (λ (b : Block) (folded : Folded). IsFold query b.name rows folded) bs folds i b d each inside)

@@ -1,4 +1,4 @@
-ghost use Rattle.std.specs.Prelude.{◌≡◌, length, map, false, None, option_map, All, IfOk};
+ghost use Rattle.std.specs.Prelude.{◌≡◌, length, map, true, false, None, option_map, All, IfOk};
 ghost use Rattle.std.specs.List.{AllZip};
 ghost use Rattle.pc_model.specs.Accepted.{IsQuery};
 ghost use Rattle.pc_model.specs.Folds.{IsFold};
@@ -70,7 +70,6 @@ fn explain_each<'a>(
     Ok(Seq::from_vec(all))
 }
 
-#[tactic(auto, using(pc_report::proofs::Scales::scales))]
 fn explain_block<'a>(
     alloc: Global,
     scope: &Scope<'a>,
@@ -92,8 +91,25 @@ fn explain_block<'a>(
         name: block.name,
         seen,
     };
+    block_explained(alloc, scope, query, block, &ask)
+}
+
+#[tactic(auto, using(pc_report::proofs::Scales::scales))]
+fn block_explained(
+    alloc: Global,
+    scope: &Scope<'_>,
+    query: &Query,
+    block: &Block,
+    ask: &Asked,
+) -> Result<Explained, Memory>
+    requires ground { IsGround (ground_in scope.now) }
+    requires asked { IsQuery scope.now.schema.now query.now }
+    requires answered { IsAnswered (ground_in scope.now) query.now block.now }
+    requires asks { IsAskOf (ground_in scope.now) query.now block.now.name true ask.now }
+    ensures { IfOk result (ExplainsBlock (ground_in scope.now) (wanted_as query.now block.now.name)) }
+{
     let told = Told::of(&block.answer);
-    let found = found_of(alloc, &ask, &told)?;
+    let found = found_of(alloc, ask, &told)?;
     Ok(Explained {
         query: query_name(alloc, scope.schema, query)?,
         group: group_name(alloc, scope.schema, query.group, block.name)?,

@@ -5,7 +5,7 @@ use Rattle.pc_desk_why.proofs.blocks.explain_each.Goals as goal
 
 pub explain_block-requires-clause-seen : goal.explain_block-requires-clause-seen
 explain_block-requires-clause-seen c =
-    seen_at (ground_in c.args.scope.now) c.args.query.now c.args.blocks.now c.args.folds.now c.loop-place.place c.index-blocks-place.result (record { count = 0; sum = pos 0; least = None; greatest = None })
+    seen_at c.args.query.now c.args.scope.now.rows.now c.args.blocks.now c.args.folds.now c.loop-place.place c.index-blocks-place.result (record { count = 0; sum = pos 0; least = None; greatest = None })
     c.requires.seen c.loop-place-test.true c.index-blocks-place.is
 
 pub loop-place-preserved : goal.loop-place-preserved
