@@ -22,7 +22,7 @@ use Rattle.pc_desk_schema.specs.Texts.{remark_lines}
 use Rattle.pc_desk_sql.specs.Spelled.{sql_text}
 use Rattle.pc_desk_short.specs.Clashes.{IsClash, clash_lines}
 use Rattle.pc_desk_short.specs.declared.clash.Clash.{Clash}
-use Rattle.pc_desk_short.specs.declared.clash.ClashLine.{ClashLine}
+use Rattle.pc_desk_short.specs.declared.clash_line.ClashLine.{ClashLine}
 use Rattle.pc_desk_table.specs.declared.entry.Entry.{Entry}
 use Rattle.pc_desk_why.specs.Explained.{AreExplained}
 use Rattle.pc_desk_why.specs.declared.explained.Explained.{Explained}

@@ -29,7 +29,7 @@ use Rattle.pc_desk_words.specs.declared.form.SheetForm.{SheetForm}
 use Rattle.pc_desk_words.specs.declared.form.SheetForm.TheVariants as sheet_forms
 use Rattle.pc_desk_words.specs.declared.form.DrawnForm.{DrawnForm}
 use Rattle.pc_desk_words.specs.declared.form.DrawnForm.TheVariants as drawn_forms
-use Rattle.pc_desk_short.specs.declared.clash.ClashLine.{ClashLine}
+use Rattle.pc_desk_short.specs.declared.clash_line.ClashLine.{ClashLine}
 use Rattle.pc_desk_why.specs.declared.explained.Explained.{Explained}
 use Rattle.pc_desk_why.specs.Bars.{why_bars}
 use Rattle.pc_desk_why.specs.Shown.{why_sheet}

@@ -1,2 +1,4 @@
+pub mod Explained
+pub mod Scopes
 pub mod Shown
 pub mod Texts
