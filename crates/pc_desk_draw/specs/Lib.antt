@@ -11,6 +11,7 @@ pub mod Pictures
 pub mod Places
 pub mod Questions
 pub mod Rows
+pub mod Segments
 pub mod Shapes
 pub mod Sizes
 pub mod Texts
