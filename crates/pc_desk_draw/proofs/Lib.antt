@@ -1,3 +1,4 @@
+pub mod BarGrowing
 pub mod Escaping
 pub mod Growing
 pub mod Holding

@@ -1,4 +1,5 @@
 pub mod Axes
+pub mod BarSizes
 pub mod Bars
 pub mod Charts
 pub mod Elements

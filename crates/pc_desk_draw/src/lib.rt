@@ -3,6 +3,7 @@
 
 mod axis;
 mod bar;
+mod bar_size;
 mod chart;
 mod elements;
 mod escape;
