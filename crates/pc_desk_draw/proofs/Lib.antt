@@ -1,4 +1,5 @@
 pub mod BarGrowing
+pub mod BarStacking
 pub mod Escaping
 pub mod Growing
 pub mod Holding

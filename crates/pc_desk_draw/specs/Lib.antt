@@ -15,4 +15,5 @@ pub mod Rows
 pub mod Segments
 pub mod Shapes
 pub mod Sizes
+pub mod Stacked
 pub mod Texts

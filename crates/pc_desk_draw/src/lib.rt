@@ -4,6 +4,7 @@
 mod axis;
 mod bar;
 mod bar_size;
+mod bars;
 mod chart;
 mod elements;
 mod escape;
@@ -22,8 +23,10 @@ mod segments;
 mod shapes;
 mod size;
 mod span;
+mod stacked;
 mod texts;
 
+pub use bars::bars_picture;
 pub use chart::chart_of;
 pub use laws::{all_on_axis, places_rise, ticks_are_round};
 pub use picture::picture_of;
