@@ -1,7 +1,9 @@
 pub mod AddedUp
 pub mod Back
+pub mod BarRows
 pub mod Divided
 pub mod OfBlocks
 pub mod OneByOne
 pub mod Places
 pub mod Reaching
+pub mod Running

@@ -1,3 +1,4 @@
+pub mod Bars
 pub mod Explained
 pub mod Scopes
 pub mod Shown

@@ -1,11 +1,12 @@
 //! The bars of explanations.
-ghost use Rattle.std.specs.Prelude.{◌≡◌, ◌≤◌, ◌++◌, ◌^◌, ◌*ℤ◌, ◌-◌, [], ◌∷◌, pos, All, IfOk, IfSome, OnOk, flat_map, map, unsigned_abs};
-ghost use Rattle.pc_desk_parts.specs.Sums.{amount_of};
-ghost use Rattle.pc_desk_why.specs.Bars.{added_text, end_row, end_rows, for_group, found_rows, is_drawn, limit, line_row, millionths, part_row, part_rows, part_words, picture_of, rows_of_parts, rows_word, said_row, segment_between, segments_between, start_of, title_bytes, tone_of, total_after, total_of, total_text, total_with, under_words, value_words, why_bars};
+ghost use Rattle.std.specs.Prelude.{◌≡◌, ◌≤◌, ◌++◌, [], ◌∷◌, decimal, All, IfOk, OnOk, flat_map, map};
+ghost use Rattle.pc_desk_table.specs.Texts.{shown};
+ghost use Rattle.pc_desk_why.specs.Bars.{added_text, end_row, end_rows, for_group, found_rows, line_row, part_words, picture_of, rows_of_parts, rows_word, said_row, title_bytes, total_text, under_words, value_words, why_bars};
 
 use crate::explained::{Explained, Found, MadeEnd};
 use crate::texts::{names_text, number_text, stand_word};
-use pc_desk_draw::{BarPicture, BarRow, Segment, Tone};
+use crate::totals::{segments_between, start_of, tone_of, total_after, total_of};
+use pc_desk_draw::{BarPicture, BarRow, Segment};
 use pc_desk_parts::{Adds, Part};
 use pc_desk_short::ClashLine;
 use pc_desk_table::shown;
@@ -13,9 +14,6 @@ use pc_list::{Seq, Text};
 use pc_model::Constraint;
 use pc_num::Memory;
 use std::alloc::Global;
-
-/// The greatest size of a total that is drawn.
-const LIMIT: u128 = 10_000_000_000_000_000_000_000_000_000_000;
 
 /// The bars of explanations: of each answer a picture, with a row for each end and below it one for each part. The lines are those
 /// on constraints that are impossible.
@@ -206,7 +204,13 @@ fn part_rows(
     let mut total = start_of(told.sums);
     for (place, part) in parts.iter().enumerate() {
         let next = total_after(total, part.adds);
-        let segments = segments_between(alloc, told.places, tone_of(place, &part.under), total, next)?;
+        let segments = segments_between(
+            alloc,
+            told.places,
+            tone_of(place, &part.under),
+            total,
+            next,
+        )?;
         let row = part_row(alloc, constraints, told.places, part, segments)?;
         rows.push(row)?;
         total = next;

@@ -1,6 +1,7 @@
 //! What the ends of answers are made of, and what holds them, as a table of findings.
 #![tactic(auto)]
 
+mod bars;
 mod blocks;
 mod cells;
 mod dividing;
@@ -10,7 +11,9 @@ mod found;
 mod laws;
 mod sheet;
 mod texts;
+mod totals;
 
+pub use bars::why_bars;
 pub use explained::{Explained, Found, MadeEnd};
 pub use explaining::explain;
 pub use laws::{explained_ends_add_up, explanations_are_read_back};

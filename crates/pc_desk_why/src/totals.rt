@@ -1,5 +1,5 @@
 //! The running totals of parts, and the segments between them.
-ghost use Rattle.std.specs.Prelude.{◌≡◌, ◌≤◌, ◌^◌, ◌*ℤ◌, ◌-◌, ◌+ℤ◌, pos, IfOk, IfSome, unsigned_abs};
+ghost use Rattle.std.specs.Prelude.{◌≡◌, ◌≤◌, ◌^◌, ◌-◌, pos, IfOk, IfSome, unsigned_abs};
 ghost use Rattle.pc_desk_parts.specs.Sums.{amount_of};
 ghost use Rattle.pc_desk_why.specs.Bars.{is_drawn, limit, millionths, segments_between, start_of, tone_of, total_after, total_of, total_with};
 
@@ -66,7 +66,7 @@ fn amount_of(adds: Adds) -> i128
 }
 
 /// The total after what all parts add.
-#[tactic(auto, using(crate::proofs::Totals::steps))]
+#[tactic(auto, using(crate::proofs::Running::steps))]
 pub(crate) fn total_of(start: Option<i128>, parts: &[Part]) -> Option<i128>
     requires { IfSome start (λ total. unsigned_abs total ≤ limit) }
     ensures { result ≡ total_of start parts.now }
