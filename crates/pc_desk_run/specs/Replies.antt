@@ -20,7 +20,8 @@ use Rattle.pc_desk_limit.specs.declared.limiting.Limiting.TheVariants.{Outside, 
 use Rattle.pc_desk_limit.specs.Limiting.{IsClosed, IsLimiting}
 use Rattle.pc_desk_schema.specs.Texts.{remark_lines}
 use Rattle.pc_desk_sql.specs.Spelled.{sql_text}
-use Rattle.pc_desk_short.specs.Clashes.{IsClash, clash_lines}
+use Rattle.pc_desk_short.specs.ClashTexts.{clash_lines}
+use Rattle.pc_desk_short.specs.Clashes.{IsClash}
 use Rattle.pc_desk_short.specs.declared.clash.Clash.{Clash}
 use Rattle.pc_desk_short.specs.declared.clash_line.ClashLine.{ClashLine}
 use Rattle.pc_desk_table.specs.declared.entry.Entry.{Entry}

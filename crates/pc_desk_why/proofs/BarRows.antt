@@ -26,7 +26,7 @@ module _ (constraints : List Constraint) (places : ℕ) where
       let row = part_row constraints places i here total (total_after total here.adds) in
       let rest = part_rows constraints places (i + 1) (total_after total here.adds) (drop (i + 1) parts) in
       let step : part_rows constraints places i total (drop i parts) ≡ row ∷ rest =
-          ap (part_rows constraints places i total) (drop_more parts i part inside) ∙ next_row i total here (drop (i + 1) parts) in
+      ap (part_rows constraints places i total) (drop_more parts i part inside) ∙ next_row i total here (drop (i + 1) parts) in
       append_assoc items (row ∷ []) rest ∙ ap (λ (all : List BarRow). items ++ all) (sym step)
 
   pub rows_past : (items : List BarRow) (parts : List Part) (i : ℕ) (total : Option ℤ) → length parts ≤ i → items ++ part_rows constraints places i total (drop i parts) ≡ items

@@ -113,12 +113,15 @@ part_rows constraints places place total (part ∷ parts) =
 abbrev pub rows_of_parts : List Constraint → Explained → List Part → List BarRow
 rows_of_parts constraints told parts = part_rows constraints told.places 0 (start_of told.sums) parts
 
+abbrev pub all_segments : List BarRow → List Segment
+all_segments rows = flat_map (λ (row : BarRow). row.segments) rows
+
 -- of an end: all segments of its parts, one behind the other, and what they come to
 unfoldable pub end_row : Explained → List ℕ → List Part → List BarRow → BarRow
 end_row told end parts rows = record {
   name = end;
   text = total_text (total_of (start_of told.sums) parts) told.places;
-  segments = flat_map (λ (row : BarRow). row.segments) rows;
+  segments = all_segments rows;
 }
 
 abbrev pub said_row : List ℕ → List ℕ → BarRow

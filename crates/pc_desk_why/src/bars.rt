@@ -1,7 +1,7 @@
 //! The bars of explanations.
-ghost use Rattle.std.specs.Prelude.{◌≡◌, ◌≤◌, ◌++◌, [], ◌∷◌, decimal, All, IfOk, OnOk, flat_map, map};
+ghost use Rattle.std.specs.Prelude.{◌≡◌, ◌≤◌, ◌++◌, [], ◌∷◌, decimal, All, IfOk, OnOk, map};
 ghost use Rattle.pc_desk_table.specs.Texts.{shown};
-ghost use Rattle.pc_desk_why.specs.Bars.{added_text, end_row, end_rows, for_group, found_rows, line_row, part_words, picture_of, rows_of_parts, rows_word, said_row, title_bytes, total_text, under_words, value_words, why_bars};
+ghost use Rattle.pc_desk_why.specs.Bars.{added_text, all_segments, end_row, end_rows, for_group, found_rows, line_row, part_words, picture_of, rows_of_parts, rows_word, said_row, title_bytes, total_text, under_words, value_words, why_bars};
 
 use crate::explained::{Explained, Found, MadeEnd};
 use crate::texts::{names_text, number_text, stand_word};
@@ -180,7 +180,7 @@ fn end_row(
 
 #[tactic(auto, using(std::proofs::lemmas::List::flat_map_more))]
 fn all_segments(alloc: Global, rows: &[BarRow]) -> Result<Vec<Segment>, Memory>
-    ensures { IfOk result (λ all. all.items ≡ flat_map (λ row. row.segments) rows.now) }
+    ensures { IfOk result (λ all. all.items ≡ all_segments rows.now) }
 {
     let mut all = Vec::new(alloc);
     for row in rows {

@@ -16,5 +16,5 @@ mod totals;
 pub use bars::why_bars;
 pub use explained::{Explained, Found, MadeEnd};
 pub use explaining::explain;
-pub use laws::{explained_ends_add_up, explanations_are_read_back};
+pub use laws::{explained_ends_add_up, explanations_are_read_back, segments_lead_to_the_end};
 pub use sheet::why_sheet;

@@ -12,11 +12,12 @@ loop-place-preserved c =
     let part = c.index-parts-place.result in
     let row = made_row constraints places at.place part at.total (total_after at.total part.adds) in
     let made : c.in_ok-row.row ≡ part_row constraints places at.place part at.total (total_after at.total part.adds) =
-        c.in_ok-row.ensures ∙ rw (c.in_ok-segments.ensures, c.tone_of.ensures, c.total_after-next.ensures.total) row in
+    c.in_ok-row.ensures ∙ rw (c.in_ok-segments.ensures, c.tone_of.ensures, c.total_after-next.ensures.total) row in
     let pushed : c.push.new.self.items ≡ at.rows.items ++ c.in_ok-row.row ∷ [] = search rules in
-    let next : c.total_after-next.result ≡ total_after at.total part.adds = c.total_after-next.ensures.total in
-    (rw (pushed, made, next, c.index-parts-place.is) (rows_step constraints places at.rows.items c.args.parts.now at.place at.total part c.loop-place-test.true ∙ at.invariant.0),
-    c.total_after-next.ensures.small)
+    let next : c.total_after-next.result ≡ total_after at.total part.adds = c.total_after-next.ensures.total in (
+      rw (pushed, made, next, c.index-parts-place.is) (rows_step constraints places at.rows.items c.args.parts.now at.place at.total part c.loop-place-test.true ∙ at.invariant.0),
+      c.total_after-next.ensures.small,
+    )
 
 pub returns : goal.returns
 returns c =
