@@ -1,5 +1,5 @@
 -- The axis of a picture of bars holds all of its segments.
-use Rattle.std.proofs.Common.{◌≡◌, ℕ, ◌^◌, ◌≤◌, ℤ, ◌≤ℤ◌, unsigned_abs, false, refl, List, [], ◌∷◌, arith, Option, Some, None}
+use Rattle.std.proofs.Common.{◌≡◌, ℕ, ◌^◌, ◌≤◌, ℤ, ◌≤ℤ◌, unsigned_abs, false, refl, subst, List, [], ◌∷◌, arith, Option, Some, None}
 use Rattle.std.specs.List.{All}
 use Rattle.std.specs.Prelude.{IfSome, get_or, nat_lt}
 use Rattle.std.specs.Int.{int_max, int_min}
@@ -7,14 +7,18 @@ use Rattle.std.proofs.lemmas.Bool.Decides.{leb_tells}
 use Rattle.std.proofs.lemmas.Int.{clamps, ints}
 use Rattle.std.proofs.lemmas.List.Elements.{All-cons, All-nil}
 use Rattle.pc_desk_draw.specs.declared.axis.Axis.{Axis}
+use Rattle.pc_desk_draw.specs.declared.segment.BarPicture.{BarPicture}
 use Rattle.pc_desk_draw.specs.declared.segment.BarRow.{BarRow}
 use Rattle.pc_desk_draw.specs.declared.segment.Segment.{Segment}
 use Rattle.pc_desk_draw.specs.declared.span.Span.{Span}
-use Rattle.pc_desk_draw.specs.Axes.{IsDrawn, IsSmall, axis_between, axis_of}
+use Rattle.pc_desk_draw.specs.Axes.{IsDrawn, IsOn, IsSmall, axis_between, axis_of}
+use Rattle.pc_desk_draw.specs.Laws.{HasEndsOn, IsDrawable, IsSegmentOn}
 use Rattle.pc_desk_draw.specs.Numbers.{drawn, greatest, hull}
-use Rattle.pc_desk_draw.specs.Places.{HoldsSpan}
-use Rattle.pc_desk_draw.specs.Segments.{HoldsRow, HoldsSegment, between, rows_span, segment_span, segments_span}
+use Rattle.pc_desk_draw.specs.Places.{HoldsSpan, IsSpanOn}
+use Rattle.pc_desk_draw.specs.Segments.{HoldsRow, HoldsSegment, bars_layout, between, rows_span, segment_span, segments_span}
+use Rattle.pc_desk_draw.specs.Shapes.{last_pixel}
 use Rattle.pc_desk_draw.proofs.Holding.{IsShown, IsShownNumber, Within, axis_holds, drawn_if, drawn_is, hull_is, own, range_on, small_by, through, wider}
+use Rattle.pc_desk_draw.proofs.Placing.{within_last}
 
 -- ---- what is drawn is small and in its order
 
@@ -85,3 +89,29 @@ pub rows_drawn : (rows : List BarRow) → IfSome (rows_span rows) IsDrawn
 rows_drawn rows = drawn_if (rows_span rows) (rows_are rows)
 
 pub ruleset held = (rows_held, rows_small, rows_drawn)
+
+-- ---- the ends of a segment that can be drawn
+
+drawn_small : (number : ℤ) → unsigned_abs number ≤ greatest → drawn (Some number) ≡ Some number
+drawn_small number small = let not_past : nat_lt greatest (unsigned_abs number) ≡ false = grind (arith, leb_tells, small) in rw not_past refl
+
+shown_span : (segment : Segment) → IsDrawable segment → segment_span segment ≡ Some (record { low = int_min segment.from segment.to; high = int_max segment.from segment.to })
+shown_span segment shown = rw (drawn_small segment.from shown.0, drawn_small segment.to shown.1) refl
+
+ends_on : (axis : Axis) (segment : Segment) → IsSpanOn axis (record { low = int_min segment.from segment.to; high = int_max segment.from segment.to }) → IsSegmentOn axis segment
+ends_on axis segment on =
+    let low = on.low in
+    let high = on.high in
+    let from : IsOn axis segment.from = record { low = omega (arith, ints, clamps, low); high = omega (arith, ints, clamps, high) } in
+    let to : IsOn axis segment.to = record { low = omega (arith, ints, clamps, low); high = omega (arith, ints, clamps, high) } in
+    record { from = from; to = to; from_place = within_last axis last_pixel segment.from from; to_place = within_last axis last_pixel segment.to to }
+
+has_ends_on : (bounds : Option Span) (segment : Segment) → IsShown bounds → Within bounds (segment_span segment) → IsDrawable segment → HasEndsOn (axis_between bounds) segment
+has_ends_on None segment is within shown =
+    let no : Within None (Some (record { low = int_min segment.from segment.to; high = int_max segment.from segment.to })) = subst (Within None) (shown_span segment shown) within in no
+has_ends_on (Some bounds) segment is within shown =
+    ends_on (axis_of bounds) segment (subst (HoldsSpan (axis_of bounds)) (shown_span segment shown) (segment_on bounds segment is within))
+
+pub all_segments_on : (picture : BarPicture) → All (λ row. All (λ segment. IsDrawable segment → HasEndsOn (bars_layout picture.rows).axis segment) row.segments) picture.rows
+all_segments_on picture k d inside j e within shown =
+    has_ends_on (rows_span picture.rows) (get_or (get_or picture.rows k d).segments j e) (rows_are picture.rows) (within_rows picture.rows k d inside j e within) shown

@@ -74,13 +74,7 @@ fn legend_lost(alloc: Global, top: u128) -> Result<Vec<u8>, Memory>
     ensures { IfOk result (λ text. text.items ≡ legend_lost top) }
 {
     let mut text = segment(alloc, 228, top + 4, 14, Tone::Lost)?;
-    let words = text_element(
-        alloc,
-        248,
-        top + 15,
-        Style::Grey,
-        b"lost rows".as_slice(),
-    )?;
+    let words = text_element(alloc, 248, top + 15, Style::Grey, b"lost rows".as_slice())?;
     text.extend_from_slice(words.as_slice())?;
     Ok(text)
 }

@@ -28,6 +28,6 @@ mod texts;
 
 pub use bars::bars_picture;
 pub use chart::chart_of;
-pub use laws::{all_on_axis, places_rise, ticks_are_round};
+pub use laws::{all_on_axis, places_rise, segments_are_on_axis, ticks_are_round};
 pub use picture::picture_of;
 pub use segment::{BarPicture, BarRow, Segment, Tone};
