@@ -1,5 +1,5 @@
 -- The axis of a picture of bars holds all of its segments.
-use Rattle.std.proofs.Common.{◌≡◌, ℕ, ◌^◌, ◌≤◌, ℤ, ◌≤ℤ◌, unsigned_abs, false, refl, subst, List, [], ◌∷◌, arith, Option, Some, None}
+use Rattle.std.proofs.Common.{◌≡◌, ◌≤◌, ℤ, unsigned_abs, false, refl, subst, List, [], ◌∷◌, arith, Option, Some, None}
 use Rattle.std.specs.List.{All}
 use Rattle.std.specs.Prelude.{IfSome, get_or, nat_lt}
 use Rattle.std.specs.Int.{int_max, int_min}
@@ -12,7 +12,7 @@ use Rattle.pc_desk_draw.specs.declared.segment.BarRow.{BarRow}
 use Rattle.pc_desk_draw.specs.declared.segment.Segment.{Segment}
 use Rattle.pc_desk_draw.specs.declared.span.Span.{Span}
 use Rattle.pc_desk_draw.specs.Axes.{IsDrawn, IsOn, IsSmall, axis_between, axis_of}
-use Rattle.pc_desk_draw.specs.Laws.{HasEndsOn, IsDrawable, IsSegmentOn}
+use Rattle.pc_desk_draw.specs.Laws.{HasEndsOn, IsDrawable, IsPlaced, IsSegmentOn}
 use Rattle.pc_desk_draw.specs.Numbers.{drawn, greatest, hull}
 use Rattle.pc_desk_draw.specs.Places.{HoldsSpan, IsSpanOn}
 use Rattle.pc_desk_draw.specs.Segments.{HoldsRow, HoldsSegment, bars_layout, between, rows_span, segment_span, segments_span}
@@ -112,6 +112,6 @@ has_ends_on None segment is within shown =
 has_ends_on (Some bounds) segment is within shown =
     ends_on (axis_of bounds) segment (subst (HoldsSpan (axis_of bounds)) (shown_span segment shown) (segment_on bounds segment is within))
 
-pub all_segments_on : (picture : BarPicture) → All (λ row. All (λ segment. IsDrawable segment → HasEndsOn (bars_layout picture.rows).axis segment) row.segments) picture.rows
+pub all_segments_on : (picture : BarPicture) → All (λ row. All (IsPlaced (bars_layout picture.rows).axis) row.segments) picture.rows
 all_segments_on picture k d inside j e within shown =
     has_ends_on (rows_span picture.rows) (get_or (get_or picture.rows k d).segments j e) (rows_are picture.rows) (within_rows picture.rows k d inside j e within) shown

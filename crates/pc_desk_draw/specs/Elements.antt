@@ -50,7 +50,8 @@ tone_text tones.Other = codes "#8be\"/>\n"
 
 unfoldable pub segment_start : ℕ → ℕ → ℕ → List ℕ
 segment_start x y width =
-    concat (codes "<rect x=\"" ∷ decimal x ∷ codes "\" y=\"" ∷ decimal y ∷ codes "\" width=\"" ∷ decimal width ∷ codes "\" height=\"14\" fill=\"" ∷ [])
+    concat (codes "<rect x=\"" ∷ decimal x ∷ codes "\" y=\"" ∷ decimal y ∷ codes "\" width=\"" ∷ decimal width
+    ∷ codes "\" height=\"14\" fill=\"" ∷ [])
 
 -- a segment of a bar
 unfoldable pub segment : ℕ → ℕ → ℕ → Tone → List ℕ

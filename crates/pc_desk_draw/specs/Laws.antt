@@ -51,7 +51,11 @@ abbrev pub HasEndsOn : Option Axis → Segment → Type 0
 HasEndsOn None segment = ⊥
 HasEndsOn (Some axis) segment = IsSegmentOn axis segment
 
+abbrev pub IsPlaced : Option Axis → Segment → Type 0
+IsPlaced axis segment = IsDrawable segment → HasEndsOn axis segment
+
 -- each segment of a picture that can be drawn stands on the axis of the picture
 abbrev pub SegmentsAreOnAxis : Type 0
 SegmentsAreOnAxis =
-    (picture : BarPicture) → All (λ row. All (λ segment. IsDrawable segment → HasEndsOn (bars_layout picture.rows).axis segment) row.segments) picture.rows
+    (picture : BarPicture)
+    → All (λ row. All (IsPlaced (bars_layout picture.rows).axis) row.segments) picture.rows

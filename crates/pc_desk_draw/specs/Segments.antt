@@ -26,6 +26,9 @@ unfoldable pub segments_span : List Segment → Option Span
 segments_span [] = None
 segments_span (segment ∷ rest) = hull (segment_span segment) (segments_span rest)
 
+abbrev pub with_row : Option Span → BarRow → Option Span
+with_row bounds row = hull bounds (segments_span row.segments)
+
 -- from the least number of a picture to the greatest
 unfoldable pub rows_span : List BarRow → Option Span
 rows_span [] = None

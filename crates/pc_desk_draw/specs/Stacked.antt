@@ -29,14 +29,20 @@ span_element axis top left tone (Some span) =
 abbrev pub segment_element : Axis → ℕ → ℕ → Segment → List ℕ
 segment_element axis top left one = span_element axis top left one.tone (segment_span one)
 
+abbrev pub segments_elements : Axis → ℕ → ℕ → List Segment → List ℕ
+segments_elements axis top left segments = flat_map (segment_element axis top left) segments
+
 -- the segments of a row, and the text right of the axis; where there is no axis, the text alone
 abbrev pub bar_elements : ℕ → ℕ → Option Axis → BarRow → List ℕ
 bar_elements top left None row = text_element left (top + 15) styles.Plain row.text
 bar_elements top left (Some axis) row =
-    flat_map (segment_element axis top left) row.segments ++ text_element (left + 496) (top + 15) styles.Plain row.text
+    segments_elements axis top left row.segments
+    ++ text_element (left + 496) (top + 15) styles.Plain row.text
 
 unfoldable pub bar_row : Layout → ℕ → BarRow → List ℕ
-bar_row layout top row = text_element 8 (top + 15) styles.Plain row.name ++ bar_elements top (left_of layout.names) layout.axis row
+bar_row layout top row =
+    text_element 8 (top + 15) styles.Plain row.name
+    ++ bar_elements top (left_of layout.names) layout.axis row
 
 -- rows, one below the other
 unfoldable pub bar_rows : Layout → ℕ → List BarRow → List ℕ
@@ -49,7 +55,9 @@ bars_body layout top rows = axis_above layout top (length rows) ++ bar_rows layo
 
 -- the title, the axis, and a row for each bar
 unfoldable pub bars_part : ℕ → BarPicture → List ℕ
-bars_part top picture = text_element 8 (top + 15) styles.Bold picture.title ++ bars_body (bars_layout picture.rows) top picture.rows
+bars_part top picture =
+    text_element 8 (top + 15) styles.Bold picture.title
+    ++ bars_body (bars_layout picture.rows) top picture.rows
 
 -- the pictures, one below the other
 unfoldable pub bars_from : ℕ → List BarPicture → List ℕ
@@ -57,10 +65,13 @@ bars_from top [] = []
 bars_from top (picture ∷ rest) = bars_part top picture ++ bars_from (top + bars_height picture) rest
 
 unfoldable pub legend_left : ℕ → List ℕ
-legend_left top = segment 16 (top + 4) 14 tones.Left ++ text_element 36 (top + 15) styles.Grey (codes "the rows that are left")
+legend_left top =
+    segment 16 (top + 4) 14 tones.Left
+    ++ text_element 36 (top + 15) styles.Grey (codes "the rows that are left")
 
 unfoldable pub legend_lost : ℕ → List ℕ
-legend_lost top = segment 228 (top + 4) 14 tones.Lost ++ text_element 248 (top + 15) styles.Grey (codes "lost rows")
+legend_lost top =
+    segment 228 (top + 4) 14 tones.Lost ++ text_element 248 (top + 15) styles.Grey (codes "lost rows")
 
 -- what is what, at the bottom
 abbrev pub legend_of_tones : ℕ → List ℕ
@@ -69,8 +80,8 @@ legend_of_tones top = legend_left top ++ legend_lost top
 -- the pictures begin below a margin, and the legend ends above one
 abbrev pub sized_bars : Size → List BarPicture → List ℕ
 sized_bars size pictures =
-    concat (svg_start size.width size.height ∷ background size.width size.height ∷ bars_from 5 pictures
-    ∷ legend_of_tones (size.height - 28) ∷ codes "</svg>\n" ∷ [])
+    concat (svg_start size.width size.height ∷ background size.width size.height
+    ∷ bars_from 5 pictures ∷ legend_of_tones (size.height - 28) ∷ codes "</svg>\n" ∷ [])
 
 unfoldable pub bars_text : List BarPicture → List ℕ
 bars_text pictures = sized_bars (stacked least_size pictures) pictures

@@ -2,7 +2,8 @@ ghost use Rattle.std.specs.Prelude.{◌≡◌, ◌≤◌, ◌^◌, IfOk, IfSome}
 ghost use Rattle.std.specs.List.{All};
 ghost use Rattle.pc_desk_draw.specs.Axes.{IsSmall};
 ghost use Rattle.pc_desk_draw.specs.Segments.{HoldsRow};
-ghost use Rattle.pc_desk_draw.specs.Stacked.{bars_body, bars_from, bars_part, bars_text, legend_left, legend_lost, legend_of_tones, sized_bars};
+ghost use Rattle.pc_desk_draw.specs.Stacked.{bars_body, bars_from, bars_part, bars_text};
+ghost use Rattle.pc_desk_draw.specs.Stacked.{legend_left, legend_lost, legend_of_tones, sized_bars};
 
 use crate::bar_size::{end_of, stacked};
 use crate::elements::{Style, segment, text_element};

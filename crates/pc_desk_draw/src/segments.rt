@@ -1,7 +1,8 @@
 ghost use Rattle.std.specs.Prelude.{◌≡◌, IfSome};
 ghost use Rattle.std.specs.List.{All};
 ghost use Rattle.pc_desk_draw.specs.Axes.{IsSmall};
-ghost use Rattle.pc_desk_draw.specs.Segments.{HoldsRow, bars_layout, between, rows_span, segment_span, segments_span, text_width, widest_name};
+ghost use Rattle.pc_desk_draw.specs.Segments.{HoldsRow, bars_layout, between, rows_span};
+ghost use Rattle.pc_desk_draw.specs.Segments.{segment_span, segments_span, text_width, widest_name, with_row};
 
 use crate::layout::{Layout, axis_between};
 use crate::numbers::drawn;
@@ -46,10 +47,15 @@ fn rows_span(rows: &[BarRow]) -> Option<Span>
 {
     let mut bounds = None;
     for row in rows {
-        let more = segments_span(row.segments.as_slice());
-        bounds = hull(bounds, more);
+        bounds = with_row(bounds, row);
     }
     bounds
+}
+
+fn with_row(bounds: Option<Span>, row: &BarRow) -> Option<Span>
+    ensures { result ≡ with_row bounds row.now }
+{
+    hull(bounds, segments_span(row.segments.as_slice()))
 }
 
 /// How many columns a text takes.

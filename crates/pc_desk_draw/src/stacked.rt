@@ -1,9 +1,10 @@
 ghost use Rattle.std.specs.Prelude.{◌≡◌, ◌≤◌, ◌+◌, ◌^◌, IfOk, IfSome};
-ghost use Rattle.std.specs.List.{All, flat_map};
+ghost use Rattle.std.specs.List.{All};
 ghost use Rattle.pc_desk_draw.specs.Axes.{IsSmall};
 ghost use Rattle.pc_desk_draw.specs.Places.{HoldsSpan};
 ghost use Rattle.pc_desk_draw.specs.Segments.{HoldsRow, HoldsSegment};
-ghost use Rattle.pc_desk_draw.specs.Stacked.{bar_elements, bar_row, bar_rows, segment_element, span_element};
+ghost use Rattle.pc_desk_draw.specs.Stacked.{bar_elements, bar_row, bar_rows};
+ghost use Rattle.pc_desk_draw.specs.Stacked.{segment_element, segments_elements, span_element};
 
 use crate::axis::Axis;
 use crate::elements::{Style, segment, text_element};
@@ -88,7 +89,7 @@ fn segments_elements(
     requires left { corner.1 ≤ 2 ^ 70 }
     requires small { IsSmall axis }
     requires holds { All (HoldsSegment axis) segments.now }
-    ensures { IfOk result (λ text. text.items ≡ flat_map (segment_element axis corner.0 corner.1) segments.now) }
+    ensures { IfOk result (λ text. text.items ≡ segments_elements axis corner.0 corner.1 segments.now) }
 {
     let mut text = Vec::new(alloc);
     for segment in segments {
