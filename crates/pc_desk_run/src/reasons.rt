@@ -51,9 +51,11 @@ fn explained(alloc: Global, asking: &Asking, form: DrawnForm, nodes: u32) -> Res
     let constraints = observed.constraints.as_slice();
     let questions = asking.questions.as_slice();
     let all = explain(alloc, observed, questions, nodes)?;
-    let lines = lines_on(alloc, observed, nodes, has_impossible(all.as_slice()))?;
+    let told = all.as_slice();
+    let impossible = has_impossible(told);
+    let lines = lines_on(alloc, observed, nodes, impossible)?;
     let note = note_beside(alloc, &observed.schema, constraints)?;
-    shown(alloc, form, constraints, lines.as_slice(), all.as_slice(), note)
+    shown(alloc, form, constraints, lines.as_slice(), told, note)
 }
 
 // What is told of constraints that are impossible; of others there is nothing.

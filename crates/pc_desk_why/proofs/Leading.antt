@@ -8,7 +8,6 @@ use Rattle.pc_desk_draw.specs.declared.segment.Segment.{Segment}
 use Rattle.pc_desk_parts.specs.declared.part.Adds.{Adds}
 use Rattle.pc_desk_parts.specs.declared.part.Part.{Part}
 use Rattle.pc_desk_parts.specs.Sums.{amount_of, amounts}
-use Rattle.pc_desk_parts.proofs.AddedRuns.{none_times}
 use Rattle.pc_desk_why.specs.Bars.{Lead, all_segments, is_drawn, millionths, part_row, part_rows, segments_between, tone_of, total_after, total_of, total_with}
 
 -- a total that is kept is the sum
@@ -64,6 +63,9 @@ module _ (constraints : List Constraint) (places : ℕ) where
   leads place total (part ∷ parts) some =
       turned place total part parts
       (on place total part parts (total_with total (amount_of part.adds)) refl (λ after later. leads (place + 1) after parts later) some)
+
+none_times : (n : ℕ) → pos 0 *ℤ pos n ≡ pos 0
+none_times n = ap pos (omega arith)
 
 pub segments_lead : (constraints : List Constraint) (places : ℕ) (parts : List Part) → IsSome (total_of (Some (pos 0)) parts) →
     Lead (pos 0) (all_segments (part_rows constraints places 0 (Some (pos 0)) parts)) (millionths places (amounts parts))

@@ -16,7 +16,7 @@ returns-in-Ok g c =
     let names = why_names c.args.why.now in
     let reading = reading_of g.F.Shelf.told g.F.Shelf.leads c.args.files.now c.read_asking.new.files in
     let input : Input = explains names.form names.nodes c.in-Ok.asking in
-    let read = read_as (explains names.form names.nodes) (files_of (why names)) (asking_in names.queries) reading (Ok c.in-Ok.asking) (rw c.sources_of_why.ensures at c.in-Ok.ensures.read) in
+    let read = read_as (explains names.form names.nodes) (files_of (why names)) (asking_in names.queries) reading (Ok c.in-Ok.asking) (rw c.sources_of_why-sources.ensures at c.in-Ok.ensures.read) in
     let posed : IsPosed reading (why names) input = record { agrees = read.agrees; posed = (refl, refl); sound = (c.in-Ok.ensures.sound, c.requires); loads = read.loads } in
     IfOk-weaker c.explained.result _ _ (λ reply says. says_input reading (why names) input posed reply (says_answers (named_in (why names)) input reply says)) c.explained.ensures.says
 
@@ -26,6 +26,6 @@ returns g c =
     let told = g.F.Shelf.told in
     let reading = reading_of told g.F.Shelf.leads c.args.files.now c.read_asking.new.files in
     let stop = c.in-Err.stop in
-    let read = read_as (explains names.form names.nodes) (files_of (why names)) (asking_in names.queries) reading (Err stop) (rw c.sources_of_why.ensures at c.in-Err.ensures.read) in
-    let told_of = explained (told c.args.files.now).files (names_in (named_in (why names))) c.read_asking.new.kept stop (rw c.sources_of_why.ensures at c.in-Err.ensures.kept) in
-    IfOk-weaker c.stopped.result _ _ (says_stop reading (why names) c.read_asking.new.kept stop read.agrees read.loads told_of) (rw c.sources_of_why.ensures at c.stopped.ensures)
+    let read = read_as (explains names.form names.nodes) (files_of (why names)) (asking_in names.queries) reading (Err stop) (rw c.sources_of_why-sources.ensures at c.in-Err.ensures.read) in
+    let told_of = explained (told c.args.files.now).files (names_in (named_in (why names))) c.read_asking.new.kept stop (rw c.sources_of_why-sources.ensures at c.in-Err.ensures.kept) in
+    IfOk-weaker c.stopped.result _ _ (says_stop reading (why names) c.read_asking.new.kept stop read.agrees read.loads told_of) (rw c.sources_of_why-sources.ensures at c.stopped.ensures)
