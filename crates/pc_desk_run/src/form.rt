@@ -2,12 +2,12 @@ ghost use Rattle.std.specs.Prelude.{◌≡◌, ◌≤◌, All, IfOk};
 ghost use Rattle.pc_desk_run.specs.Texts.{sheet_text, text_of, why_text};
 
 use pc_desk_draw::{bars_picture, chart_of, picture_of};
+use pc_desk_short::ClashLine;
 use pc_desk_table::{
     Entry, Sheet, json_of, lines_of, sheet_json, sheet_lines, sheet_table, table_of,
 };
-use pc_desk_short::ClashLine;
 use pc_desk_why::{Explained, why_bars, why_sheet};
-use pc_desk_words::{Form, SheetForm, DrawnForm};
+use pc_desk_words::{DrawnForm, Form, SheetForm};
 use pc_model::Constraint;
 use pc_num::Memory;
 use std::alloc::Global;

@@ -19,7 +19,7 @@ use crate::settled::{ended_of_reasons, has_impossible};
 use pc_base::Shelf;
 use pc_desk_short::{ClashLine, clash_lines, clash_of};
 use pc_desk_why::{Explained, explain};
-use pc_desk_words::{Why, DrawnForm};
+use pc_desk_words::{DrawnForm, Why};
 use pc_files::{Kept, Observed};
 use pc_list::Seq;
 use pc_model::Constraint;
