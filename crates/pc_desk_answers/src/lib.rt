@@ -3,6 +3,7 @@
 
 mod answers;
 mod blocks;
+mod changes;
 mod entry;
 mod laws;
 mod question;
@@ -13,5 +14,6 @@ mod trees;
 mod value;
 
 pub use answers::{answer_questions, ask_session};
+pub use changes::answer_under_each;
 pub use laws::left_is_the_aggregate;
 pub use question::{Question, read_questions};
