@@ -116,7 +116,8 @@ fn block_entry(
     entry_of(alloc, scope.schema, query, title, &told, &left)
 }
 
-fn query_name(alloc: Global, schema: &Schema, query: &Query) -> Result<Text, Memory>
+/// The text of a query, as it is shown.
+pub fn query_name(alloc: Global, schema: &Schema, query: &Query) -> Result<Text, Memory>
     requires well_formed { IsWellFormed schema.now }
     requires asked { IsQuery schema.now query.now }
     ensures { IfOk result (λ text. text ≡ shown (query_text schema.now query.now)) }
@@ -191,7 +192,7 @@ fn quantile_shown(
 }
 
 /// The query of the least number of the same rows, as which a quantile is shown.
-fn least_of(asked: &Quantile) -> Result<Query, Memory>
+pub fn least_of(asked: &Quantile) -> Result<Query, Memory>
     ensures { IfOk result (λ query. query ≡ least_of asked.now) }
 {
     Ok(Query {
@@ -202,7 +203,8 @@ fn least_of(asked: &Quantile) -> Result<Query, Memory>
     })
 }
 
-fn quantile_name(alloc: Global, schema: &Schema, asked: &Quantile) -> Result<Text, Memory>
+/// The text of the query of a quantile, as it is shown.
+pub fn quantile_name(alloc: Global, schema: &Schema, asked: &Quantile) -> Result<Text, Memory>
     requires well_formed { IsWellFormed schema.now }
     requires asked { IsQuantile schema.now asked.now }
     ensures { IfOk result (λ text. text ≡ shown (quantile_text schema.now asked.now)) }

@@ -107,7 +107,7 @@ fn lack_of(lack: &ToldLack) -> Option<SaidLack>
 }
 
 /// The group column, and the name of it that a block is for.
-pub(crate) fn group_of(
+pub fn group_of(
     alloc: Global,
     schema: &Schema,
     group: Option<u8>,

@@ -17,12 +17,12 @@ use Rattle.pc_desk_draw.specs.Numbers.{block_span, bounds_of, drawn, hull, obser
 use Rattle.pc_desk_draw.specs.Places.{Holds, HoldsNumber, HoldsSpan, IsBlockOn, IsSpanOn}
 
 -- a span that lies within another
-abbrev Within : Option Span → Option Span → Type 0
+abbrev pub Within : Option Span → Option Span → Type 0
 Within bounds None = ⊤
 Within None (Some span) = ⊥
 Within (Some bounds) (Some span) = (bounds.low ≤ℤ span.low) × (span.high ≤ℤ bounds.high)
 
-wider : (one bounds span : Option Span) → Within bounds span → Within (hull one bounds) span
+pub wider : (one bounds span : Option Span) → Within bounds span → Within (hull one bounds) span
 wider one bounds None holds = tt
 wider one None (Some span) holds = absurd holds
 wider None (Some bounds) (Some span) holds = holds
@@ -31,7 +31,7 @@ wider (Some one) (Some bounds) (Some span) holds =
     let high = holds.1 in
     (omega (arith, ints, clamps, low), omega (arith, ints, clamps, high))
 
-own : (one bounds : Option Span) → Within (hull one bounds) one
+pub own : (one bounds : Option Span) → Within (hull one bounds) one
 own None bounds = tt
 own (Some one) None = (omega (arith, ints), omega (arith, ints))
 own (Some one) (Some bounds) = (omega (arith, ints, clamps), omega (arith, ints, clamps))
@@ -42,7 +42,7 @@ second None (Some other) = (omega (arith, ints), omega (arith, ints))
 second (Some one) None = tt
 second (Some one) (Some other) = (omega (arith, ints, clamps), omega (arith, ints, clamps))
 
-through : (outer inner span : Option Span) → Within outer inner → Within inner span → Within outer span
+pub through : (outer inner span : Option Span) → Within outer inner → Within inner span → Within outer span
 through outer inner None wide narrow = tt
 through outer None (Some span) wide narrow = absurd narrow
 through None (Some inner) (Some span) wide narrow = absurd wide
@@ -52,11 +52,11 @@ through (Some outer) (Some inner) (Some span) wide narrow =
 
 -- ---- what is drawn is small and in its order
 
-abbrev IsShown : Option Span → Type 0
+abbrev pub IsShown : Option Span → Type 0
 IsShown None = ⊤
 IsShown (Some span) = IsDrawn span
 
-abbrev IsShownNumber : Option ℤ → Type 0
+abbrev pub IsShownNumber : Option ℤ → Type 0
 IsShownNumber None = ⊤
 IsShownNumber (Some number) = unsigned_abs number ≤ 10 ^ 38
 
@@ -64,7 +64,7 @@ drawn_by : (number : ℤ) (test : Bool) → nat_lt (10 ^ 38) (unsigned_abs numbe
 drawn_by number true is = tt
 drawn_by number false is = grind (arith, leb_tells, is)
 
-drawn_is : (number : Option ℤ) → IsShownNumber (drawn number)
+pub drawn_is : (number : Option ℤ) → IsShownNumber (drawn number)
 drawn_is None = tt
 drawn_is (Some number) = drawn_by number (nat_lt (10 ^ 38) (unsigned_abs number)) refl
 
@@ -93,7 +93,7 @@ point_is : (number : Option ℤ) → IsShownNumber number → IsShown (point num
 point_is None small = tt
 point_is (Some number) small = record { low = small; order = omega (arith, ints); high = small }
 
-hull_is : (one other : Option Span) → IsShown one → IsShown other → IsShown (hull one other)
+pub hull_is : (one other : Option Span) → IsShown one → IsShown other → IsShown (hull one other)
 hull_is None other a b = b
 hull_is (Some one) None a b = a
 hull_is (Some one) (Some other) a b =
@@ -120,7 +120,7 @@ within_bounds (entry ∷ rest) =
 
 -- ---- from the bounds to the axis
 
-range_on : (axis : Axis) (bounds : Span) (span : Option Span) → IsSpanOn axis bounds → IsShown span → Within (Some bounds) span → HoldsSpan axis span
+pub range_on : (axis : Axis) (bounds : Span) (span : Option Span) → IsSpanOn axis bounds → IsShown span → Within (Some bounds) span → HoldsSpan axis span
 range_on axis bounds None on shown within = tt
 range_on axis bounds (Some span) on shown within =
     let a = on.low in let b = on.high in let c = within.0 in let d = within.1 in
@@ -208,14 +208,14 @@ held_by entries (Some bounds) shown within = λ k d inside. block_on (axis_of bo
 pub all_held : (entries : List Entry) → All (Holds (axis_between (bounds_of entries))) entries
 all_held entries = held_by entries (bounds_of entries) (bounds_are entries) (within_bounds entries)
 
-small_by : (bounds : Option Span) → IsShown bounds → IfSome (axis_between bounds) IsSmall
+pub small_by : (bounds : Option Span) → IsShown bounds → IfSome (axis_between bounds) IsSmall
 small_by None shown = tt
 small_by (Some bounds) shown = axis_small bounds shown
 
 pub all_small : (entries : List Entry) → IfSome (axis_between (bounds_of entries)) IsSmall
 all_small entries = small_by (bounds_of entries) (bounds_are entries)
 
-drawn_if : (bounds : Option Span) → IsShown bounds → IfSome bounds IsDrawn
+pub drawn_if : (bounds : Option Span) → IsShown bounds → IfSome bounds IsDrawn
 drawn_if None shown = tt
 drawn_if (Some bounds) shown = shown
 

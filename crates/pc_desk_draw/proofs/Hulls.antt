@@ -13,11 +13,11 @@ min_again a b c = omega (arith, ints, clamps)
 max_again : (a b c : ℤ) → int_max (int_max a b) c ≡ int_max a (int_max b c)
 max_again a b c = omega (arith, ints, clamps)
 
-hull_none : (one : Option Span) → hull one None ≡ one
+pub hull_none : (one : Option Span) → hull one None ≡ one
 hull_none None = refl
 hull_none (Some one) = refl
 
-hull_again : (a b c : Option Span) → hull (hull a b) c ≡ hull a (hull b c)
+pub hull_again : (a b c : Option Span) → hull (hull a b) c ≡ hull a (hull b c)
 hull_again None b c = refl
 hull_again (Some a) None c = refl
 hull_again (Some a) (Some b) None = refl

@@ -1,3 +1,5 @@
+pub mod BarGrowing
+pub mod BarStacking
 pub mod Escaping
 pub mod Growing
 pub mod Holding
@@ -7,7 +9,9 @@ pub mod Placing
 pub mod Rowing
 pub mod Ruling
 pub mod Runs
+pub mod Spanning
 pub mod Stacking
+pub mod Standing
 pub mod Stepping
 pub mod Tables
 pub mod Widths

@@ -4,7 +4,7 @@ use Rattle.std.proofs.lemmas.List.{drop_all}
 use Rattle.pc_desk_table.specs.declared.entry.Entry.{Entry}
 use Rattle.pc_desk_draw.specs.Names.{name_width, widest}
 
-max_again : (width one more : ℕ) → max (max one width) more ≡ max width (max one more)
+pub max_again : (width one more : ℕ) → max (max one width) more ≡ max width (max one more)
 max_again width one more = omega arith
 
 module _ (entries : List Entry) (i width : ℕ) where

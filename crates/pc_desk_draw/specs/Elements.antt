@@ -4,6 +4,8 @@ use Rattle.std.specs.List.{concat}
 use Rattle.pc_desk_draw.specs.Escapes.{escaped}
 use Rattle.pc_desk_draw.specs.declared.elements.Style.{Style}
 use Rattle.pc_desk_draw.specs.declared.elements.Style.TheVariants as styles
+use Rattle.pc_desk_draw.specs.declared.segment.Tone.{Tone}
+use Rattle.pc_desk_draw.specs.declared.segment.Tone.TheVariants as tones
 
 abbrev pub style_text : Style → List ℕ
 style_text styles.Plain = codes ">"
@@ -40,3 +42,17 @@ circle x y = concat (codes "<circle cx=\"" ∷ decimal x ∷ codes "\" cy=\"" �
 -- what the rows that are left come to
 unfoldable pub observed_line : ℕ → ℕ → List ℕ
 observed_line x y = concat (codes "<rect x=\"" ∷ decimal x ∷ codes "\" y=\"" ∷ decimal y ∷ codes "\" width=\"2\" height=\"20\" fill=\"#d30\"/>\n" ∷ [])
+
+abbrev pub tone_text : Tone → List ℕ
+tone_text tones.Left = codes "#999\"/>\n"
+tone_text tones.Lost = codes "#48c\"/>\n"
+tone_text tones.Other = codes "#8be\"/>\n"
+
+unfoldable pub segment_start : ℕ → ℕ → ℕ → List ℕ
+segment_start x y width =
+    concat (codes "<rect x=\"" ∷ decimal x ∷ codes "\" y=\"" ∷ decimal y ∷ codes "\" width=\"" ∷ decimal width
+    ∷ codes "\" height=\"14\" fill=\"" ∷ [])
+
+-- a segment of a bar
+unfoldable pub segment : ℕ → ℕ → ℕ → Tone → List ℕ
+segment x y width tone = concat (segment_start x y width ∷ tone_text tone ∷ [])

@@ -1,12 +1,17 @@
 -- What a reader may conclude from a chart or a picture.
-use Rattle.std.specs.Prelude.{◌≡◌, ℕ, ◌+◌, ◌<◌, ◌≤◌, ℤ, pos, ◌+ℤ◌, ◌*ℤ◌, ◌≤ℤ◌, List}
+use Rattle.std.specs.Prelude.{◌≡◌, ℕ, ◌+◌, ◌<◌, ◌≤◌, ℤ, pos, ◌+ℤ◌, ◌*ℤ◌, ◌≤ℤ◌, unsigned_abs, List, Option, Some, None}
 use Rattle.std.specs.List.{All}
 use Rattle.pc_desk_table.specs.declared.entry.Entry.{Entry}
 use Rattle.pc_desk_draw.specs.declared.axis.Axis.{Axis}
+use Rattle.pc_desk_draw.specs.declared.segment.BarPicture.{BarPicture}
+use Rattle.pc_desk_draw.specs.declared.segment.Segment.{Segment}
 use Rattle.pc_desk_draw.specs.declared.span.Span.{Span}
 use Rattle.pc_desk_draw.specs.Axes.{IsDrawn, IsOn, IsRound, axis_of, tick_number}
 use Rattle.pc_desk_draw.specs.Layouts.{layout_of}
+use Rattle.pc_desk_draw.specs.Numbers.{greatest}
 use Rattle.pc_desk_draw.specs.Places.{Holds, place_of}
+use Rattle.pc_desk_draw.specs.Segments.{bars_layout}
+use Rattle.pc_desk_draw.specs.Shapes.{last_pixel}
 
 -- a greater number has no lesser place
 abbrev pub PlacesRise : Type 0
@@ -29,3 +34,28 @@ pub record IsRuled (axis : Axis) : Type 0 where
 
 abbrev pub TicksAreRound : Type 0
 TicksAreRound = (span : Span) → IsDrawn span → IsRuled (axis_of span)
+
+-- both ends of a segment are small enough to be drawn
+abbrev pub IsDrawable : Segment → Type 0
+IsDrawable segment = (unsigned_abs segment.from ≤ greatest) × (unsigned_abs segment.to ≤ greatest)
+
+-- .. and lie on the axis, with their places within the last one
+pub record IsSegmentOn (axis : Axis) (segment : Segment) : Type 0 where
+  pub from : IsOn axis segment.from
+  pub to : IsOn axis segment.to
+  pub from_place : place_of axis last_pixel segment.from ≤ last_pixel
+  pub to_place : place_of axis last_pixel segment.to ≤ last_pixel
+
+-- a picture with such a segment has an axis
+abbrev pub HasEndsOn : Option Axis → Segment → Type 0
+HasEndsOn None segment = ⊥
+HasEndsOn (Some axis) segment = IsSegmentOn axis segment
+
+abbrev pub IsPlaced : Option Axis → Segment → Type 0
+IsPlaced axis segment = IsDrawable segment → HasEndsOn axis segment
+
+-- each segment of a picture that can be drawn stands on the axis of the picture
+abbrev pub SegmentsAreOnAxis : Type 0
+SegmentsAreOnAxis =
+    (picture : BarPicture)
+    → All (λ row. All (IsPlaced (bars_layout picture.rows).axis) row.segments) picture.rows

@@ -1,4 +1,5 @@
 pub mod Axes
+pub mod BarSizes
 pub mod Bars
 pub mod Charts
 pub mod Elements
@@ -11,6 +12,8 @@ pub mod Pictures
 pub mod Places
 pub mod Questions
 pub mod Rows
+pub mod Segments
 pub mod Shapes
 pub mod Sizes
+pub mod Stacked
 pub mod Texts

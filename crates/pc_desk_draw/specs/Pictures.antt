@@ -1,5 +1,5 @@
 -- The whole picture.
-use Rattle.std.specs.Prelude.{ℕ, ◌+◌, ◌-◌, ◌*◌, List, [], ◌∷◌, ◌++◌, codes, decimal, length}
+use Rattle.std.specs.Prelude.{ℕ, ◌+◌, ◌-◌, List, [], ◌∷◌, ◌++◌, codes, decimal, length}
 use Rattle.std.specs.List.{concat}
 use Rattle.pc_desk_table.specs.declared.entry.Entry.{Entry}
 use Rattle.pc_desk_draw.specs.declared.elements.Style.TheVariants as styles
@@ -8,13 +8,12 @@ use Rattle.pc_desk_draw.specs.declared.size.Size.{Size}
 use Rattle.pc_desk_draw.specs.Elements.{circle, observed_line, stroke, text_element}
 use Rattle.pc_desk_draw.specs.Layouts.{layout_of}
 use Rattle.pc_desk_draw.specs.Questions.{pictures_of, title_of}
-use Rattle.pc_desk_draw.specs.Shapes.{axis_elements, rows_from}
-use Rattle.pc_desk_draw.specs.Sizes.{grown_by, height_of, least_size, left_of}
+use Rattle.pc_desk_draw.specs.Shapes.{axis_above, rows_from}
+use Rattle.pc_desk_draw.specs.Sizes.{grown_by, height_of, least_size}
 
 -- the lines at the ticks, and the rows before them
 abbrev pub body_text : Layout → ℕ → List Entry → List ℕ
-body_text layout top entries =
-    axis_elements layout.axis (top + 22) (left_of layout.names) (22 * length entries + 4) ++ rows_from layout (top + 44) entries
+body_text layout top entries = axis_above layout top (length entries) ++ rows_from layout (top + 44) entries
 
 -- the question, the axis, and a row for each block
 unfoldable pub part_elements : ℕ → List Entry → List ℕ

@@ -75,3 +75,7 @@ ticks_elements axis top left height (suc ticks) = ticks_elements axis top left h
 abbrev pub axis_elements : Option Axis → ℕ → ℕ → ℕ → List ℕ
 axis_elements None top left height = []
 axis_elements (Some axis) top left height = ticks_elements axis top left height (axis.steps + 1)
+
+-- .. in a picture with so many rows whose top is here
+abbrev pub axis_above : Layout → ℕ → ℕ → List ℕ
+axis_above layout top rows = axis_elements layout.axis (top + 22) (left_of layout.names) (22 * rows + 4)

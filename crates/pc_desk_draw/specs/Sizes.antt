@@ -24,20 +24,26 @@ abbrev pub labels_width : Option Axis → ℕ
 labels_width None = 0
 labels_width (Some axis) = 8 * label_end axis (axis.steps + 1)
 
--- room for the names, the axis with its labels, and values
-abbrev pub body_width : Layout → List Entry → ℕ
-body_width layout entries = left_of layout.names + max (504 + 8 * longest entries) (labels_width layout.axis)
+-- room for a title, and for the names, the axis with its labels, and values of so many columns
+abbrev pub room : Layout → ℕ → ℕ → ℕ
+room layout title columns = max (16 + 8 * title) (left_of layout.names + max (504 + 8 * columns) (labels_width layout.axis))
 
--- .. and for the question
 unfoldable pub width_of : List Entry → ℕ
-width_of entries = max (16 + 8 * title_width entries) (body_width (layout_of entries) entries)
+width_of entries = room (layout_of entries) (title_width entries) (longest entries)
 
--- the question, the labels, the rows and an empty one
+-- the title, the labels, so many rows and an empty one
+abbrev pub rows_height : ℕ → ℕ
+rows_height rows = 22 * (rows + 3)
+
 abbrev pub height_of : List Entry → ℕ
-height_of entries = 22 * (length entries + 3)
+height_of entries = rows_height (length entries)
+
+-- a size with room for a picture below
+abbrev pub widened : Size → ℕ → ℕ → Size
+widened size width height = record { width = max size.width width; height = size.height + height }
 
 abbrev pub grown : Size → List Entry → Size
-grown size entries = record { width = max size.width (width_of entries); height = size.height + height_of entries }
+grown size entries = widened size (width_of entries) (height_of entries)
 
 -- a size with room for further pictures below
 unfoldable pub grown_by : Size → List (List Entry) → Size

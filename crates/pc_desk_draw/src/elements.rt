@@ -1,7 +1,8 @@
 ghost use Rattle.std.specs.Prelude.{◌≡◌, IfOk};
-ghost use Rattle.pc_desk_draw.specs.Elements.{bar, circle, grid_line, observed_line, stroke, style_text, text_element, text_start};
+ghost use Rattle.pc_desk_draw.specs.Elements.{bar, circle, grid_line, observed_line, segment, segment_start, stroke, style_text, text_element, text_start, tone_text};
 
 use crate::escape::{put, put_escaped};
+use crate::segment::Tone;
 use pc_num::Memory;
 use std::alloc::Global;
 
@@ -102,4 +103,40 @@ pub(crate) fn observed_line(alloc: Global, x: u128, y: u128) -> Result<Vec<u8>, 
         "<rect x=\"{x}\" y=\"{y}\" width=\"2\" height=\"20\" fill=\"#d30\"/>\n"
     )?;
     Ok(text.into_bytes())
+}
+
+/// A segment of a bar.
+#[tactic(auto, unfolding(crate::specs::Elements::segment))]
+pub(crate) fn segment(
+    alloc: Global,
+    x: u128,
+    y: u128,
+    width: u128,
+    tone: Tone,
+) -> Result<Vec<u8>, Memory>
+    ensures { IfOk result (λ text. text.items ≡ segment x y width tone) }
+{
+    let mut text = segment_start(alloc, x, y, width)?;
+    put(&mut text, tone_text(tone))?;
+    Ok(text)
+}
+
+#[tactic(auto, unfolding(crate::specs::Elements::segment_start))]
+fn segment_start(alloc: Global, x: u128, y: u128, width: u128) -> Result<Vec<u8>, Memory>
+    ensures { IfOk result (λ text. text.items ≡ segment_start x y width) }
+{
+    let text = format!(in alloc;
+        "<rect x=\"{x}\" y=\"{y}\" width=\"{width}\" height=\"14\" fill=\""
+    )?;
+    Ok(text.into_bytes())
+}
+
+fn tone_text<'x>(tone: Tone) -> &'x [u8]
+    ensures { result.now ≡ tone_text tone }
+{
+    match tone {
+        Tone::Left => b"#999\"/>\n".as_slice(),
+        Tone::Lost => b"#48c\"/>\n".as_slice(),
+        Tone::Other => b"#8be\"/>\n".as_slice(),
+    }
 }

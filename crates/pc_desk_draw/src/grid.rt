@@ -3,19 +3,36 @@ ghost use Rattle.pc_desk_draw.specs.Axes.{IsSmall};
 ghost use Rattle.pc_desk_draw.specs.Bars.{last_place, tick_text};
 ghost use Rattle.pc_desk_draw.specs.Elements.{grid_line};
 ghost use Rattle.pc_desk_draw.specs.Places.{tick_place};
-ghost use Rattle.pc_desk_draw.specs.Shapes.{axis_elements, label_shown, last_pixel, ticks_elements};
+ghost use Rattle.pc_desk_draw.specs.Shapes.{axis_above, axis_elements, label_shown, last_pixel, ticks_elements};
 
 use crate::axis::Axis;
 use crate::bar::LAST_PLACE;
 use crate::elements::{Style, grid_line, text_element};
+use crate::layout::Layout;
 use crate::place::tick_place;
 use crate::scale::{end_put, tick_text};
 use crate::shapes::LAST_PIXEL;
+use crate::size::left_of;
 use pc_num::Memory;
 use std::alloc::Global;
 
-/// The axis of a picture: a line down all rows at each tick, and labels above them.
-pub(crate) fn axis_elements(
+/// The axis of a picture with so many rows whose top is here.
+pub(crate) fn axis_above(
+    alloc: Global,
+    layout: Layout,
+    top: u128,
+    rows: usize,
+) -> Result<Vec<u8>, Memory>
+    requires top { top ≤ 2 ^ 80 }
+    requires small { IfSome layout.axis IsSmall }
+    ensures { IfOk result (λ text. text.items ≡ axis_above layout top rows) }
+{
+    let height = 22 * rows as u128 + 4;
+    axis_elements(alloc, layout.axis, top + 22, left_of(layout.names), height)
+}
+
+// A line down all rows at each tick, and labels above them.
+fn axis_elements(
     alloc: Global,
     axis: Option<Axis>,
     top: u128,

@@ -30,8 +30,9 @@ pub(crate) fn layout_of(entries: &[Entry]) -> Layout
     }
 }
 
+/// The axis of a picture that has numbers.
 #[tactic(auto, using(crate::proofs::Holding::axis_small))]
-fn axis_between(span: Option<Span>) -> Option<Axis>
+pub(crate) fn axis_between(span: Option<Span>) -> Option<Axis>
     requires { IfSome span IsDrawn }
     ensures value { result ≡ axis_between span }
     ensures small { IfSome result IsSmall }

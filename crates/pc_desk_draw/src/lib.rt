@@ -3,6 +3,8 @@
 
 mod axis;
 mod bar;
+mod bar_size;
+mod bars;
 mod chart;
 mod elements;
 mod escape;
@@ -16,11 +18,16 @@ mod place;
 mod question;
 mod rows;
 mod scale;
+mod segment;
+mod segments;
 mod shapes;
 mod size;
 mod span;
+mod stacked;
 mod texts;
 
+pub use bars::bars_picture;
 pub use chart::chart_of;
-pub use laws::{all_on_axis, places_rise, ticks_are_round};
+pub use laws::{all_on_axis, places_rise, segments_are_on_axis, ticks_are_round};
 pub use picture::picture_of;
+pub use segment::{BarPicture, BarRow, Segment, Tone};

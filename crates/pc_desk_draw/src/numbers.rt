@@ -7,7 +7,8 @@ use pc_desk_table::{Entry, Range, Value};
 // The greatest size, in millionths, of a number that is drawn.
 const GREATEST: u128 = 100_000_000_000_000_000_000_000_000_000_000_000_000;
 
-fn drawn(number: Option<i128>) -> Option<i128>
+/// A number, if it can be drawn.
+pub(crate) fn drawn(number: Option<i128>) -> Option<i128>
     ensures { result ≡ drawn number }
 {
     let number = number?;

@@ -6,11 +6,11 @@ ghost use Rattle.pc_desk_draw.specs.Places.{Holds};
 ghost use Rattle.pc_desk_draw.specs.Questions.{pictures_of};
 
 use crate::elements::{Style, circle, observed_line, stroke, text_element};
-use crate::grid::axis_elements;
+use crate::grid::axis_above;
 use crate::layout::{Layout, layout_of};
 use crate::question::{first_picture, title_of};
 use crate::shapes::rows_from;
-use crate::size::{Size, height_of, left_of, size_of};
+use crate::size::{Size, height_of, size_of};
 use pc_desk_table::Entry;
 use pc_num::Memory;
 use std::alloc::Global;
@@ -39,8 +39,9 @@ fn sized_text(alloc: Global, size: Size, entries: &[Entry]) -> Result<Vec<u8>, M
     Ok(text)
 }
 
+/// The start of a picture of this size.
 #[tactic(auto, unfolding(crate::specs::Pictures::svg_start))]
-fn svg_start(alloc: Global, width: u128, height: u128) -> Result<Vec<u8>, Memory>
+pub(crate) fn svg_start(alloc: Global, width: u128, height: u128) -> Result<Vec<u8>, Memory>
     ensures { IfOk result (λ text. text.items ≡ svg_start width height) }
 {
     let text = format!(in alloc;
@@ -49,8 +50,9 @@ fn svg_start(alloc: Global, width: u128, height: u128) -> Result<Vec<u8>, Memory
     Ok(text.into_bytes())
 }
 
+/// What stands behind all else.
 #[tactic(auto, unfolding(crate::specs::Pictures::background))]
-fn background(alloc: Global, width: u128, height: u128) -> Result<Vec<u8>, Memory>
+pub(crate) fn background(alloc: Global, width: u128, height: u128) -> Result<Vec<u8>, Memory>
     ensures { IfOk result (λ text. text.items ≡ background width height) }
 {
     let text = format!(in alloc; "<rect width=\"{width}\" height=\"{height}\" fill=\"white\"/>\n")?;
@@ -146,8 +148,7 @@ fn body_text(alloc: Global, layout: Layout, top: u128, entries: &[Entry]) -> Res
     requires holds { All (Holds layout.axis) entries.now }
     ensures { IfOk result (λ text. text.items ≡ body_text layout top entries.now) }
 {
-    let height = 22 * entries.len() as u128 + 4;
-    let mut text = axis_elements(alloc, layout.axis, top + 22, left_of(layout.names), height)?;
+    let mut text = axis_above(alloc, layout, top, entries.len())?;
     let rows = rows_from(alloc, layout, top + 44, entries)?;
     text.extend_from_slice(rows.as_slice())?;
     Ok(text)

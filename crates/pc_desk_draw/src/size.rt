@@ -2,7 +2,7 @@ ghost use Rattle.std.specs.Prelude.{◌≡◌, ◌≤◌, ◌+◌, ◌*◌, ◌^
 ghost use Rattle.pc_desk_draw.specs.Axes.{IsSmall};
 ghost use Rattle.pc_desk_draw.specs.Bars.{label_end};
 ghost use Rattle.pc_desk_draw.specs.Questions.{pictures_of};
-ghost use Rattle.pc_desk_draw.specs.Sizes.{body_width, grown, grown_by, height_of, labels_width, least_size, left_of, longest, width_of};
+ghost use Rattle.pc_desk_draw.specs.Sizes.{grown, grown_by, height_of, labels_width, least_size, left_of, longest, room, rows_height, width_of};
 
 use crate::axis::Axis;
 use crate::bar::LAST_PLACE;
@@ -56,26 +56,41 @@ pub(crate) fn height_of(entries: &[Entry]) -> u128
     ensures value { result ≡ height_of entries.now }
     ensures small { result ≤ 2 ^ 70 }
 {
-    22 * (entries.len() as u128 + 3)
+    rows_height(entries.len())
+}
+
+/// The height of a picture with so many rows.
+pub(crate) fn rows_height(rows: usize) -> u128
+    ensures value { result ≡ rows_height rows }
+    ensures small { result ≤ 2 ^ 70 }
+{
+    22 * (rows as u128 + 3)
 }
 
 #[tactic(auto, unfolding(crate::specs::Sizes::width_of))]
 fn width_of(alloc: Global, entries: &[Entry]) -> Result<u128, Memory>
     ensures { IfOk result (λ width. width ≡ width_of entries.now) }
 {
-    let title = 16 + 8 * title_width(alloc, entries)?;
-    let body = body_width(alloc, layout_of(entries), entries)?;
-    Ok(title.max(body))
+    let title = title_width(alloc, entries)?;
+    let columns = longest(alloc, entries)?;
+    room(alloc, layout_of(entries), title, columns)
 }
 
-// Room for the names, the axis with its labels, and values.
-fn body_width(alloc: Global, layout: Layout, entries: &[Entry]) -> Result<u128, Memory>
-    requires { IfSome layout.axis IsSmall }
-    ensures { IfOk result (λ width. width ≡ body_width layout entries.now) }
+/// Room for a title, and for the names, the axis with its labels, and values of so many columns.
+pub(crate) fn room(
+    alloc: Global,
+    layout: Layout,
+    title: u128,
+    columns: usize,
+) -> Result<u128, Memory>
+    requires title { title ≤ 2 ^ 65 }
+    requires small { IfSome layout.axis IsSmall }
+    ensures { IfOk result (λ width. width ≡ room layout title columns) }
 {
-    let values = 504 + pixels(longest(alloc, entries)?);
     let labels = labels_width(alloc, layout.axis)?;
-    Ok(left_of(layout.names) + values.max(labels))
+    let values = 504 + pixels(columns);
+    let body = left_of(layout.names) + values.max(labels);
+    Ok((16 + 8 * title).max(body))
 }
 
 // How far the labels of an axis reach.

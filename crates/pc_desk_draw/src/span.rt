@@ -45,13 +45,15 @@ pub(crate) fn hull(one: Option<Span>, other: Option<Span>) -> Option<Span>
     }
 }
 
-fn lesser(one: i128, other: i128) -> i128
+/// The lesser of two numbers.
+pub(crate) fn lesser(one: i128, other: i128) -> i128
     ensures { result ≡ int_min one other }
 {
     one.min(other)
 }
 
-fn greater(one: i128, other: i128) -> i128
+/// The greater of two numbers.
+pub(crate) fn greater(one: i128, other: i128) -> i128
     ensures { result ≡ int_max one other }
 {
     one.max(other)

@@ -15,8 +15,8 @@ use Rattle.pc_desk_parts.specs.declared.part.Hold.TheVariants as holds
 use Rattle.pc_desk_parts.specs.declared.pulls.Pull.{Pull}
 use Rattle.pc_desk_parts.specs.declared.pulls.Pull.TheVariants.{More, Fewer, Neither}
 use Rattle.pc_desk_parts.specs.Ends.{pull_of}
-use Rattle.pc_desk_parts.specs.Held.{block_at, block_hold, blocks_of, held_of, is_full, limit_at, limit_hold, limits_of, next_of, of_each, schema_hold}
-use Rattle.pc_desk_parts.specs.Told.{BarsValue, Holds, IsAtLimit, SpeaksOfOne}
+use Rattle.pc_desk_parts.specs.Held.{beyond_hold, block_at, block_by, block_hold, blocks_of, column_of, held_of, narrows, is_full, limit_at, limit_hold, limits_of, next_of, of_each, schema_hold}
+use Rattle.pc_desk_parts.specs.Told.{Bars, BarsValue, Holds, IsAtLimit, SpeaksOfOne}
 use Rattle.pc_desk_parts.proofs.EachHolds.{given_at, given_by_one, in_none, in_one, one_in}
 
 -- ---- tests and options
@@ -49,6 +49,9 @@ module _ (ask : Asked) (reached : Reached) (row : Row) where
 
   abbrev lost : List Row
   lost = rows_of reached.runs.now
+
+  abbrev column : ℕ
+  column = column_of ask
 
   abbrev pull : Pull
   pull = pull_of ask reached row
@@ -83,23 +86,39 @@ module _ (ask : Asked) (reached : Reached) (row : Row) where
 
   -- ---- the next row
 
-  block_holds : (next : Row) → next_of ask reached row ≡ Some next → (place : ℕ) (c : Constraint) → slice_get constraints place ≡ Some c → (here there inside : Bool) → is_under constraints c row ≡ here
+  block_holds : (next : Row) → next_of ask reached row ≡ Some next → in_domain ask.schema.now next ≡ true → (place : ℕ) (c : Constraint) → slice_get constraints place ≡ Some c → (here there inside : Bool) → is_under constraints c row ≡ here
       → is_under constraints c next ≡ there → has c.values next ≡ inside → (x : Hold) → Contains (block_hold here there inside place) x → Holds ask reached row x
   unfolding Holds
-  block_holds next is place c at true true true here there inside x found = absurd (in_none x found)
-  block_holds next is place c at true true false here there inside x found =
+  block_holds next is allowed place c at true true true here there inside x found = absurd (in_none x found)
+  block_holds next is allowed place c at true true false here there inside x found =
       subst (Holds ask reached row) (in_one (holds.Values place) x found)
-      (some_from (λ next. IsSomeAnd (slice_get constraints place) (BarsValue constraints row next)) (next_of ask reached row) next is
-      (some_from (BarsValue constraints row next) (slice_get constraints place) c at (record { speaks = here; speaks_next = there; barred = inside })))
-  block_holds next is place c at true false inside here there barred x found =
+      (some_from (λ next. IsSomeAnd (slice_get constraints place) (BarsValue ask row next)) (next_of ask reached row) next is
+      (some_from (BarsValue ask row next) (slice_get constraints place) c at (record { speaks = here; bars = subst (Bars ask next c) (sym allowed) (there, inside) })))
+  block_holds next is allowed place c at true false inside here there barred x found =
       subst (Holds ask reached row) (in_one (holds.When place) x found)
-      (some_from (λ next. IsSomeAnd (slice_get constraints place) (SpeaksOfOne constraints row next)) (next_of ask reached row) next is
-      (some_from (SpeaksOfOne constraints row next) (slice_get constraints place) c at (record { differs = there ∙ ap not (sym here) })))
-  block_holds next is place c at false true inside here there barred x found =
+      (some_from (λ next. IsSomeAnd (slice_get constraints place) (SpeaksOfOne ask row next)) (next_of ask reached row) next is
+      (some_from (SpeaksOfOne ask row next) (slice_get constraints place) c at (record { allowed = allowed; differs = there ∙ ap not (sym here) })))
+  block_holds next is allowed place c at false true inside here there barred x found =
       subst (Holds ask reached row) (in_one (holds.When place) x found)
-      (some_from (λ next. IsSomeAnd (slice_get constraints place) (SpeaksOfOne constraints row next)) (next_of ask reached row) next is
-      (some_from (SpeaksOfOne constraints row next) (slice_get constraints place) c at (record { differs = there ∙ ap not (sym here) })))
-  block_holds next is place c at false false inside here there barred x found = absurd (in_none x found)
+      (some_from (λ next. IsSomeAnd (slice_get constraints place) (SpeaksOfOne ask row next)) (next_of ask reached row) next is
+      (some_from (SpeaksOfOne ask row next) (slice_get constraints place) c at (record { allowed = allowed; differs = there ∙ ap not (sym here) })))
+  block_holds next is allowed place c at false false inside here there barred x found = absurd (in_none x found)
+
+  beyond_holds : (next : Row) → next_of ask reached row ≡ Some next → in_domain ask.schema.now next ≡ false → (place : ℕ) (c : Constraint) → slice_get constraints place ≡ Some c
+      → (x : Hold) → Contains (beyond_hold (is_under constraints c row && narrows ask.schema.now column c.values) place) x → Holds ask reached row x
+  unfolding Holds
+  beyond_holds next is denied place c at x found =
+      let test = under_test (is_under constraints c row && narrows ask.schema.now column c.values) (holds.Values place) x found in
+      let parts = and_parts (is_under constraints c row) (narrows ask.schema.now column c.values) test.0 in
+      subst (Holds ask reached row) test.1
+      (some_from (λ next. IsSomeAnd (slice_get constraints place) (BarsValue ask row next)) (next_of ask reached row) next is
+      (some_from (BarsValue ask row next) (slice_get constraints place) c at (record { speaks = parts.0; bars = subst (Bars ask next c) (sym denied) parts.1 })))
+
+  block_by_holds : (next : Row) → next_of ask reached row ≡ Some next → (allowed : Bool) → in_domain ask.schema.now next ≡ allowed → (place : ℕ) (c : Constraint) → slice_get constraints place ≡ Some c
+      → (x : Hold) → Contains (block_by ask.schema.now column constraints row next allowed place c) x → Holds ask reached row x
+  block_by_holds next is true allowed place c at x found =
+      block_holds next is allowed place c at (is_under constraints c row) (is_under constraints c next) (has c.values next) refl refl refl x found
+  block_by_holds next is false denied place c at x found = beyond_holds next is denied place c at x found
 
   schema_holds : (next : Row) → next_of ask reached row ≡ Some next → (allowed : Bool) → in_domain ask.schema.now next ≡ allowed → (x : Hold) → Contains (schema_hold allowed) x → Holds ask reached row x
   unfolding Holds
@@ -107,38 +126,45 @@ module _ (ask : Asked) (reached : Reached) (row : Row) where
   schema_holds next is false allowed x found =
       subst (Holds ask reached row) (in_one holds.Schema x found) (some_from (λ next. in_domain ask.schema.now next ≡ false) (next_of ask reached row) next is allowed)
 
-  blocks_hold : (next : Option Row) → next_of ask reached row ≡ next → (x : Hold) → Contains (blocks_of ask.schema.now constraints row next) x → Holds ask reached row x
+  blocks_hold : (next : Option Row) → next_of ask reached row ≡ next → (x : Hold) → Contains (blocks_of ask.schema.now column constraints row next) x → Holds ask reached row x
   blocks_hold None is x found = absurd (in_none x found)
-  blocks_hold (Some next) is x found = by_case (Contains-append_cases (of_each (block_at constraints row next) constraints) (schema_hold (in_domain ask.schema.now next)) x found)
+  blocks_hold (Some next) is x found = by_case (Contains-append_cases (of_each (block_at ask.schema.now column constraints row next) constraints) (schema_hold (in_domain ask.schema.now next)) x found)
     where
-      by_case : (Contains (of_each (block_at constraints row next) constraints) x ⊎ Contains (schema_hold (in_domain ask.schema.now next)) x) → Holds ask reached row x
+      by_case : (Contains (of_each (block_at ask.schema.now column constraints row next) constraints) x ⊎ Contains (schema_hold (in_domain ask.schema.now next)) x) → Holds ask reached row x
       by_case (inl block) =
-          let one = given_by_one x (block_at constraints row next) constraints block in
-          block_holds next is one.place one.c one.there (is_under constraints one.c row) (is_under constraints one.c next) (has one.c.values next) refl refl refl x one.gives
+          let one = given_by_one x (block_at ask.schema.now column constraints row next) constraints block in
+          block_by_holds next is (in_domain ask.schema.now next) refl one.place one.c one.there x one.gives
       by_case (inr schema) = schema_holds next is (in_domain ask.schema.now next) refl x schema
 
   block_told : (place : ℕ) (x : Hold) (P : Row → Constraint → Type 0)
-      → ((next : Row) (c : Constraint) → P next c → Contains (block_at constraints row next place c) x)
-      → IsSomeAnd (next_of ask reached row) (λ next. IsSomeAnd (slice_get constraints place) (P next)) → Contains (blocks_of ask.schema.now constraints row (next_of ask reached row)) x
+      → ((next : Row) (c : Constraint) → P next c → Contains (block_at ask.schema.now column constraints row next place c) x)
+      → IsSomeAnd (next_of ask reached row) (λ next. IsSomeAnd (slice_get constraints place) (P next)) → Contains (blocks_of ask.schema.now column constraints row (next_of ask reached row)) x
   block_told place x P gives there =
       let next = found_in (λ next. IsSomeAnd (slice_get constraints place) (P next)) (next_of ask reached row) there in
       let at = found_in (P next.item) (slice_get constraints place) next.holds in
-      subst (λ (o : Option Row). Contains (blocks_of ask.schema.now constraints row o) x) (sym next.is)
-      (Contains-append_left (of_each (block_at constraints row next.item) constraints) (schema_hold (in_domain ask.schema.now next.item)) x
-      (given_at x (block_at constraints row next.item) constraints place at.item at.is (gives next.item at.item at.holds)))
+      subst (λ (o : Option Row). Contains (blocks_of ask.schema.now column constraints row o) x) (sym next.is)
+      (Contains-append_left (of_each (block_at ask.schema.now column constraints row next.item) constraints) (schema_hold (in_domain ask.schema.now next.item)) x
+      (given_at x (block_at ask.schema.now column constraints row next.item) constraints place at.item at.is (gives next.item at.item at.holds)))
 
-  schema_told : IsSomeAnd (next_of ask reached row) (λ next. in_domain ask.schema.now next ≡ false) → Contains (blocks_of ask.schema.now constraints row (next_of ask reached row)) holds.Schema
+  schema_told : IsSomeAnd (next_of ask reached row) (λ next. in_domain ask.schema.now next ≡ false) → Contains (blocks_of ask.schema.now column constraints row (next_of ask reached row)) holds.Schema
   schema_told there =
       let next = found_in (λ next. in_domain ask.schema.now next ≡ false) (next_of ask reached row) there in
-      subst (λ (o : Option Row). Contains (blocks_of ask.schema.now constraints row o) holds.Schema) (sym next.is)
-      (Contains-append_right (of_each (block_at constraints row next.item) constraints) (schema_hold (in_domain ask.schema.now next.item)) holds.Schema
+      subst (λ (o : Option Row). Contains (blocks_of ask.schema.now column constraints row o) holds.Schema) (sym next.is)
+      (Contains-append_right (of_each (block_at ask.schema.now column constraints row next.item) constraints) (schema_hold (in_domain ask.schema.now next.item)) holds.Schema
       (subst (λ (b : Bool). Contains (schema_hold b) holds.Schema) (sym next.holds) (one_in holds.Schema holds.Schema refl)))
 
-  values_told : (place : ℕ) (next : Row) (c : Constraint) → BarsValue constraints row next c → Contains (block_at constraints row next place c) (holds.Values place)
-  values_told place next c bars = rw (bars.speaks, bars.speaks_next, bars.barred) (one_in (holds.Values place) (holds.Values place) refl)
+  values_told : (place : ℕ) (next : Row) (c : Constraint) → BarsValue ask row next c → Contains (block_at ask.schema.now column constraints row next place c) (holds.Values place)
+  values_told place next c bars = by_domain (in_domain ask.schema.now next) bars.bars
+    where
+      by_domain : (allowed : Bool) → Bars ask next c allowed → Contains (block_by ask.schema.now column constraints row next allowed place c) (holds.Values place)
+      by_domain true both = rw (bars.speaks, both.0, both.1) (one_in (holds.Values place) (holds.Values place) refl)
+      by_domain false narrowed =
+          by_test (is_under constraints c row && narrows ask.schema.now column c.values) (holds.Values place) (and_from (is_under constraints c row) (narrows ask.schema.now column c.values) bars.speaks narrowed)
 
-  when_told : (place : ℕ) (next : Row) (c : Constraint) → SpeaksOfOne constraints row next c → Contains (block_at constraints row next place c) (holds.When place)
-  when_told place next c other = subst (λ (b : Bool). Contains (block_hold (is_under constraints c row) b (has c.values next) place) (holds.When place)) (sym other.differs) (either (is_under constraints c row))
+  when_told : (place : ℕ) (next : Row) (c : Constraint) → SpeaksOfOne ask row next c → Contains (block_at ask.schema.now column constraints row next place c) (holds.When place)
+  when_told place next c other =
+      subst (λ (allowed : Bool). Contains (block_by ask.schema.now column constraints row next allowed place c) (holds.When place)) (sym other.allowed)
+      (subst (λ (b : Bool). Contains (block_hold (is_under constraints c row) b (has c.values next) place) (holds.When place)) (sym other.differs) (either (is_under constraints c row)))
     where
       either : (b : Bool) → Contains (block_hold b (not b) (has c.values next) place) (holds.When place)
       either true = one_in (holds.When place) (holds.When place) refl
@@ -150,7 +176,7 @@ module _ (ask : Asked) (reached : Reached) (row : Row) where
   limits = limits_of constraints lost pull row
 
   abbrev blocks : List Hold
-  blocks = blocks_of ask.schema.now constraints row (next_of ask reached row)
+  blocks = blocks_of ask.schema.now column constraints row (next_of ask reached row)
 
   all_hold : (x : Hold) → Contains (held_of ask reached row) x → Holds ask reached row x
   all_hold x found = by_case (Contains-append_cases limits blocks x found)
@@ -163,10 +189,10 @@ module _ (ask : Asked) (reached : Reached) (row : Row) where
   unfolding Holds
   all_told (holds.Most place) is = Contains-append_left limits blocks (holds.Most place) (limit_told More place (λ c. c.most) (λ c. refl) is.0 is.1)
   all_told (holds.Least place) is = Contains-append_left limits blocks (holds.Least place) (limit_told Fewer place (λ c. c.least) (λ c. refl) is.0 is.1)
-  all_told (holds.Values place) is = Contains-append_right limits blocks (holds.Values place) (block_told place (holds.Values place) (BarsValue constraints row) (values_told place) is)
+  all_told (holds.Values place) is = Contains-append_right limits blocks (holds.Values place) (block_told place (holds.Values place) (BarsValue ask row) (values_told place) is)
   all_told (holds.When place) is =
       Contains-append_right limits blocks (holds.When place)
-      (block_told place (holds.When place) (SpeaksOfOne constraints row) (when_told place) is)
+      (block_told place (holds.When place) (SpeaksOfOne ask row) (when_told place) is)
   all_told holds.Schema is = Contains-append_right limits blocks holds.Schema (schema_told is)
 
   pub holds_told : (x : Hold) → Contains (held_of ask reached row) x ↔ Holds ask reached row x

@@ -1,8 +1,14 @@
 -- What keeps lost rows from giving more.
-use Rattle.std.specs.Prelude.{ℕ, ℤ, pos, ◌+ℤ◌, ◌-ℤ◌, ◌==◌, ◌&&◌, if◌then◌else◌, Bool, true, false, List, [], ◌∷◌, ◌++◌, Option, Some, None, flat_map, slice_set}
+use Rattle.std.specs.Prelude.{ℕ, ℤ, pos, ◌+ℤ◌, ◌-ℤ◌, ◌==◌, ◌&&◌, ◌||◌, if◌then◌else◌, Bool, true, false, List, [], ◌∷◌, ◌++◌, Option, Some, None, flat_map, int_lt, slice_get, slice_set, unwrap_or}
 use Rattle.std.specs.List.{enumerate_from}
 use Rattle.pc_model.specs.declared.constraint.Constraint.{Constraint}
 use Rattle.pc_model.specs.declared.row.Row.{Row}
+use Rattle.pc_model.specs.declared.region.Region.{Region}
+use Rattle.pc_model.specs.declared.region.Side.{Side as ColumnSide}
+use Rattle.pc_model.specs.declared.region.Side.TheVariants as sides
+use Rattle.pc_model.specs.declared.schema.Column.{Column}
+use Rattle.pc_model.specs.declared.schema.Kind.{Kind}
+use Rattle.pc_model.specs.declared.schema.Kind.TheVariants.{Int, Dec, Cat}
 use Rattle.pc_model.specs.declared.schema.Schema.{Schema}
 use Rattle.pc_model.specs.Aggregate.{number_at}
 use Rattle.pc_model.specs.Membership.{has, in_domain, is_under}
@@ -83,20 +89,52 @@ block_hold true false inside place = holds.When place ∷ []
 block_hold false true inside place = holds.When place ∷ []
 block_hold false false inside place = []
 
-abbrev pub block_at : List Constraint → Row → Row → ℕ → Constraint → List Hold
-block_at constraints row next place c =
+-- values that rule out some number which the column has
+abbrev pub is_narrower : ℤ → ℤ → ColumnSide → Bool
+is_narrower low high (sides.Span from to) = int_lt low from || int_lt to high
+is_narrower low high (sides.Names bits) = false
+
+abbrev pub narrows_kind : Kind → ColumnSide → Bool
+narrows_kind (Int low high) side = is_narrower low high side
+narrows_kind (Dec scale low high) side = is_narrower low high side
+narrows_kind (Cat names) side = false
+
+abbrev pub narrows_by : Option Column → Option ColumnSide → Bool
+narrows_by None side = false
+narrows_by (Some column) None = false
+narrows_by (Some column) (Some side) = narrows_kind column.kind side
+
+unfoldable pub narrows : Schema → ℕ → Region → Bool
+narrows schema column values = narrows_by (slice_get schema.columns column) (slice_get values.sides column)
+
+-- Of a row that the schema does not allow, a constraint that speaks of the first row and narrows the column; what predicates and
+-- other values say there is what the schema says.
+abbrev pub beyond_hold : Bool → ℕ → List Hold
+beyond_hold narrowed place = if narrowed then holds.Values place ∷ [] else []
+
+abbrev pub block_by : Schema → ℕ → List Constraint → Row → Row → Bool → ℕ → Constraint → List Hold
+block_by schema column constraints row next true place c =
     block_hold (is_under constraints c row) (is_under constraints c next) (has c.values next) place
+block_by schema column constraints row next false place c =
+    beyond_hold (is_under constraints c row && narrows schema column c.values) place
+
+abbrev pub block_at : Schema → ℕ → List Constraint → Row → Row → ℕ → Constraint → List Hold
+block_at schema column constraints row next = block_by schema column constraints row next (in_domain schema next)
 
 abbrev pub schema_hold : Bool → List Hold
 schema_hold allowed = if allowed then [] else holds.Schema ∷ []
 
-abbrev pub blocks_of : Schema → List Constraint → Row → Option Row → List Hold
-blocks_of schema constraints row None = []
-blocks_of schema constraints row (Some next) =
-    of_each (block_at constraints row next) constraints ++ schema_hold (in_domain schema next)
+abbrev pub blocks_of : Schema → ℕ → List Constraint → Row → Option Row → List Hold
+blocks_of schema column constraints row None = []
+blocks_of schema column constraints row (Some next) =
+    of_each (block_at schema column constraints row next) constraints ++ schema_hold (in_domain schema next)
+
+-- the column of the next number
+abbrev pub column_of : Asked → ℕ
+column_of ask = unwrap_or ask.query.now.column 0
 
 -- what keeps rows like this one from giving more: limits, and then what stands before the next value
 abbrev pub held_of : Asked → Reached → Row → List Hold
 held_of ask reached row =
     limits_of ask.constraints.now (rows_of reached.runs.now) (pull_of ask reached row) row
-    ++ blocks_of ask.schema.now ask.constraints.now row (next_of ask reached row)
+    ++ blocks_of ask.schema.now (column_of ask) ask.constraints.now row (next_of ask reached row)

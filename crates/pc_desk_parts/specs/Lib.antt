@@ -6,5 +6,6 @@ pub mod Made
 pub mod Moved
 pub mod Parts
 pub mod Stands
+pub mod Steps
 pub mod Sums
 pub mod Told

@@ -6,8 +6,9 @@ ghost use Rattle.pc_model.specs.declared.constraint.Constraint.{Constraint};
 ghost use Rattle.pc_model.specs.Possible.{count_of};
 ghost use Rattle.pc_model.specs.Runs.{rows_of};
 ghost use Rattle.pc_model.specs.WellFormed.{IsSmall};
+ghost use Rattle.pc_desk_parts.specs.Steps.{IsStep, step_block, step_blocks};
 ghost use Rattle.pc_desk_parts.specs.Counts.{MayStep, counts_of};
-ghost use Rattle.pc_desk_parts.specs.Held.{block_at, block_hold, blocks_of, has_next, held_of, is_full, limit_at, limit_hold, limits_of, next_at, next_in, next_number, next_of, of_each, place_if_under, places_under, schema_hold};
+ghost use Rattle.pc_desk_parts.specs.Held.{beyond_hold, block_hold, column_of, has_next, is_narrower, narrows, narrows_kind, held_of, is_full, limit_at, limit_hold, limits_of, next_at, next_in, next_number, next_of, of_each, place_if_under, places_under, schema_hold};
 
 use crate::asked::{Asked, Reached, Side};
 use crate::part::Hold;
@@ -15,7 +16,7 @@ use crate::pulls::{Pull, Way, pull_of, stand_of, way_for};
 use crate::rows::number_at;
 use crate::stands::{Stand, is_at};
 use pc_list::Seq;
-use pc_model::{Constraint, Row, Schema};
+use pc_model::{Constraint, Kind, Region, Row, Schema, Side as ColumnSide};
 use pc_num::Memory;
 use std::alloc::Global;
 
@@ -53,7 +54,7 @@ pub(crate) fn held_of(
     let pull = pull_of(ask, reached, row);
     let limits = limits_of(alloc, ask.constraints, counts, pull, row)?;
     match next_of(ask, reached, row)? {
-        Some(next) => with_blocks(limits, ask.schema, ask.constraints, row, &next),
+        Some(next) => with_blocks(limits, &step_to(ask, row, &next)),
         None => Ok(limits),
     }
 }
@@ -166,50 +167,120 @@ fn next_number(side: Side, number: i64) -> i64
     }
 }
 
-/// These, and what stands before the next row.
-fn with_blocks(
-    held: Seq<Hold>,
-    schema: &Schema,
-    constraints: &[Constraint],
-    row: &Row,
-    next: &Row,
-) -> Result<Seq<Hold>, Memory>
-    ensures { IfOk result (λ new. new ≡ held ++ blocks_of schema.now constraints.now row.now (Some next.now)) }
+/// A row, and one with the next number in a column, which the schema allows or not.
+#[derive(Clone, Copy)]
+struct Step<'a, 'b, 'c> {
+    schema: &'a Schema,
+    constraints: &'a [Constraint],
+    row: &'b Row,
+    next: &'c Row,
+    column: usize,
+    allowed: bool,
+}
+
+fn step_to<'a, 'b, 'c>(ask: &Asked<'a>, row: &'b Row, next: &'c Row) -> Step<'a, 'b, 'c>
+    ensures { IsStep ask.now row.now next.now result }
 {
-    let held = with_each_block(held, constraints, row, next)?;
-    with_schema(held, schema.allows_row(next))
+    Step {
+        schema: ask.schema,
+        constraints: ask.constraints,
+        row,
+        next,
+        column: column_of(ask),
+        allowed: ask.schema.allows_row(next),
+    }
+}
+
+fn column_of(ask: &Asked) -> usize
+    ensures { result ≡ column_of ask.now }
+{
+    match ask.query.column {
+        Some(column) => usize::from(column),
+        None => 0,
+    }
+}
+
+/// These, and what stands before the next row.
+fn with_blocks(held: Seq<Hold>, step: &Step) -> Result<Seq<Hold>, Memory>
+    ensures { IfOk result (λ new. new ≡ held ++ step_blocks step.now) }
+{
+    let held = with_each_block(held, step)?;
+    with_schema(held, step.allowed)
 }
 
 #[tactic(auto, using(crate::proofs::Each::steps))]
-fn with_each_block(
-    held: Seq<Hold>,
-    constraints: &[Constraint],
-    row: &Row,
-    next: &Row,
-) -> Result<Seq<Hold>, Memory>
-    ensures { IfOk result (λ new. new ≡ held ++ of_each (block_at constraints.now row.now next.now) constraints.now) }
+fn with_each_block(held: Seq<Hold>, step: &Step) -> Result<Seq<Hold>, Memory>
+    ensures { IfOk result (λ new. new ≡ held ++ of_each (step_block step.now) step.now.constraints.now) }
 {
     let mut held = held;
+    let constraints = step.constraints;
     for (place, constraint) in constraints.iter().enumerate() {
-        held = with_block(held, constraints, constraint, row, next, place)?;
+        held = with_block(held, step, constraint, place)?;
     }
     Ok(held)
 }
 
 fn with_block(
     held: Seq<Hold>,
-    constraints: &[Constraint],
+    step: &Step,
     constraint: &Constraint,
-    row: &Row,
-    next: &Row,
     place: usize,
 ) -> Result<Seq<Hold>, Memory>
-    ensures { IfOk result (λ new. new ≡ held ++ block_at constraints.now row.now next.now place constraint.now) }
+    ensures { IfOk result (λ new. new ≡ held ++ step_block step.now place constraint.now) }
 {
-    let here = constraint.speaks_of(constraints, row);
-    let there = constraint.speaks_of(constraints, next);
-    let inside = constraint.values.has(next);
-    with_block_hold(held, here, there, inside, place)
+    let here = constraint.speaks_of(step.constraints, step.row);
+    if step.allowed {
+        let there = constraint.speaks_of(step.constraints, step.next);
+        let inside = constraint.values.has(step.next);
+        return with_block_hold(held, here, there, inside, place);
+    }
+    let narrowed = narrows(step.schema, step.column, &constraint.values);
+    with_beyond_hold(held, here && narrowed, place)
+}
+
+fn with_beyond_hold(held: Seq<Hold>, narrowed: bool, place: usize) -> Result<Seq<Hold>, Memory>
+    ensures { IfOk result (λ new. new ≡ held ++ beyond_hold narrowed place) }
+{
+    let mut held = held;
+    if narrowed {
+        held.push(Hold::Values(place))?;
+    }
+    Ok(held)
+}
+
+// Whether values rule out some number that the column has.
+#[tactic(auto, unfolding(crate::specs::Held::narrows))]
+fn narrows(schema: &Schema, column: usize, values: &Region) -> bool
+    ensures { result ≡ narrows schema.now column values.now }
+{
+    let columns = schema.columns.as_slice();
+    let sides = values.sides.as_slice();
+    match (columns.get(column), sides.get(column)) {
+        (Some(column), Some(side)) => narrows_kind(&column.kind, *side),
+        _ => false,
+    }
+}
+
+fn narrows_kind(kind: &Kind, side: ColumnSide) -> bool
+    ensures { result ≡ narrows_kind kind.now side }
+{
+    match kind {
+        Kind::Int { low, high } => is_narrower(*low, *high, side),
+        Kind::Dec { low, high, .. } => is_narrower(*low, *high, side),
+        Kind::Cat { .. } => false,
+    }
+}
+
+fn is_narrower(low: i64, high: i64, side: ColumnSide) -> bool
+    ensures { result ≡ is_narrower low high side }
+{
+    match side {
+        ColumnSide::Span {
+            low: from,
+            high: to,
+        } => low < from || to < high,
+        ColumnSide::Names { .. } => false,
+    }
 }
 
 fn with_block_hold(

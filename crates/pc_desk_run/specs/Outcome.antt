@@ -10,7 +10,7 @@ use Rattle.pc_desk_schema.specs.declared.draft.Draft.{Draft}
 use Rattle.pc_desk_words.specs.Words.{AskNames, Asked, DraftNames, FileNames, OpensNames, SessionNames, SqlNames, TrialNames, WhyNames, ask, draft, limit, opens, session, sql, trial, why}
 use Rattle.pc_desk_words.specs.declared.form.Form.{Form}
 use Rattle.pc_desk_words.specs.declared.form.SheetForm.{SheetForm}
-use Rattle.pc_desk_words.specs.declared.form.WhyForm.{WhyForm}
+use Rattle.pc_desk_words.specs.declared.form.DrawnForm.{DrawnForm}
 use Rattle.pc_files.specs.declared.reading.Limited.{Limited}
 use Rattle.pc_files.specs.declared.reading.Listing.{Listing}
 use Rattle.pc_files.specs.declared.reading.Observed.{Observed}
@@ -24,7 +24,7 @@ use Rattle.pc_desk_run.specs.declared.input.Asking.{Asking}
 pub data Input : Type 0 where
   asks : Form → ℕ → Asking → Input
   follows : Form → ℕ → Scripted → Input
-  explains : WhyForm → ℕ → Asking → Input
+  explains : DrawnForm → ℕ → Asking → Input
   tries : SheetForm → ℕ → Observed → Input
   lists : SheetForm → Listing → Input
   limits : Limited → Input

@@ -20,9 +20,10 @@ use Rattle.pc_desk_limit.specs.declared.limiting.Limiting.TheVariants.{Outside, 
 use Rattle.pc_desk_limit.specs.Limiting.{IsClosed, IsLimiting}
 use Rattle.pc_desk_schema.specs.Texts.{remark_lines}
 use Rattle.pc_desk_sql.specs.Spelled.{sql_text}
-use Rattle.pc_desk_short.specs.Clashes.{IsClash, clash_lines}
+use Rattle.pc_desk_short.specs.ClashTexts.{clash_lines}
+use Rattle.pc_desk_short.specs.Clashes.{IsClash}
 use Rattle.pc_desk_short.specs.declared.clash.Clash.{Clash}
-use Rattle.pc_desk_short.specs.declared.clash.ClashLine.{ClashLine}
+use Rattle.pc_desk_short.specs.declared.clash_line.ClashLine.{ClashLine}
 use Rattle.pc_desk_table.specs.declared.entry.Entry.{Entry}
 use Rattle.pc_desk_why.specs.Explained.{AreExplained}
 use Rattle.pc_desk_why.specs.declared.explained.Explained.{Explained}
@@ -39,7 +40,7 @@ use Rattle.pc_desk_try.specs.Openings.{AreOpenings}
 use Rattle.pc_desk_try.specs.Shown.{sheet_of}
 use Rattle.pc_desk_try.specs.Trials.{trial_of}
 use Rattle.pc_desk_words.specs.declared.form.SheetForm.{SheetForm}
-use Rattle.pc_desk_words.specs.declared.form.WhyForm.{WhyForm}
+use Rattle.pc_desk_words.specs.declared.form.DrawnForm.{DrawnForm}
 use Rattle.pc_desk_run.specs.Endings.{ended_of, ended_of_draft, ended_of_reasons, ended_of_trial, has_impossible}
 use Rattle.pc_desk_run.specs.Inputs.{Explains, IsInputOf, IsSoundInput}
 use Rattle.pc_desk_run.specs.Outcome.{ComesTo, Input, asks, drafts, explains, files_of, follows, limits, lists, tests, tries}
@@ -61,7 +62,7 @@ AreClashLines observed nodes true lines =
     × (lines ≡ clash_lines observed.schema observed.constraints clash)
 
 -- .. of explanations
-abbrev pub AreReasonsShown : WhyForm → List Constraint → List ClashLine → List Explained → List ℕ → Saying
+abbrev pub AreReasonsShown : DrawnForm → List Constraint → List ClashLine → List Explained → List ℕ → Saying
 AreReasonsShown form constraints lines all note ended text said =
     (ended ≡ ended_of_reasons all) × (text ≡ why_text form constraints lines all) × (said ≡ note)
 

@@ -27,9 +27,9 @@ use Rattle.pc_desk_words.specs.declared.form.Form.{Form}
 use Rattle.pc_desk_words.specs.declared.form.Form.TheVariants as forms
 use Rattle.pc_desk_words.specs.declared.form.SheetForm.{SheetForm}
 use Rattle.pc_desk_words.specs.declared.form.SheetForm.TheVariants as sheet_forms
-use Rattle.pc_desk_words.specs.declared.form.WhyForm.{WhyForm}
-use Rattle.pc_desk_words.specs.declared.form.WhyForm.TheVariants as why_forms
-use Rattle.pc_desk_short.specs.declared.clash.ClashLine.{ClashLine}
+use Rattle.pc_desk_words.specs.declared.form.DrawnForm.{DrawnForm}
+use Rattle.pc_desk_words.specs.declared.form.DrawnForm.TheVariants as drawn_forms
+use Rattle.pc_desk_short.specs.declared.clash_line.ClashLine.{ClashLine}
 use Rattle.pc_desk_why.specs.declared.explained.Explained.{Explained}
 use Rattle.pc_desk_why.specs.Bars.{why_bars}
 use Rattle.pc_desk_why.specs.Shown.{why_sheet}
@@ -49,11 +49,11 @@ sheet_text sheet_forms.Table sheet = sheet_table sheet
 sheet_text sheet_forms.Json sheet = sheet_json sheet
 
 -- explanations, with the lines on constraints that are impossible
-abbrev pub why_text : WhyForm → List Constraint → List ClashLine → List Explained → List ℕ
-why_text why_forms.Text constraints lines all = sheet_lines (why_sheet constraints lines all)
-why_text why_forms.Table constraints lines all = sheet_table (why_sheet constraints lines all)
-why_text why_forms.Json constraints lines all = sheet_json (why_sheet constraints lines all)
-why_text why_forms.Picture constraints lines all = bars_text (why_bars constraints lines all)
+abbrev pub why_text : DrawnForm → List Constraint → List ClashLine → List Explained → List ℕ
+why_text drawn_forms.Text constraints lines all = sheet_lines (why_sheet constraints lines all)
+why_text drawn_forms.Table constraints lines all = sheet_table (why_sheet constraints lines all)
+why_text drawn_forms.Json constraints lines all = sheet_json (why_sheet constraints lines all)
+why_text drawn_forms.Picture constraints lines all = bars_text (why_bars constraints lines all)
 
 -- ---- why nothing is shown
 

@@ -2,12 +2,12 @@ ghost use Rattle.std.specs.Prelude.{◌≡◌, ◌≤◌, All, IfOk};
 ghost use Rattle.pc_desk_run.specs.Texts.{sheet_text, text_of, why_text};
 
 use pc_desk_draw::{bars_picture, chart_of, picture_of};
+use pc_desk_short::ClashLine;
 use pc_desk_table::{
     Entry, Sheet, json_of, lines_of, sheet_json, sheet_lines, sheet_table, table_of,
 };
-use pc_desk_short::ClashLine;
 use pc_desk_why::{Explained, why_bars, why_sheet};
-use pc_desk_words::{Form, SheetForm, WhyForm};
+use pc_desk_words::{DrawnForm, Form, SheetForm};
 use pc_model::Constraint;
 use pc_num::Memory;
 use std::alloc::Global;
@@ -39,7 +39,7 @@ pub(crate) fn sheet_text(alloc: Global, form: SheetForm, sheet: &Sheet) -> Resul
 /// The text of explanations in a form, with the lines on constraints that are impossible.
 pub(crate) fn why_text(
     alloc: Global,
-    form: WhyForm,
+    form: DrawnForm,
     constraints: &[Constraint],
     lines: &[ClashLine],
     all: &[Explained],
@@ -48,10 +48,10 @@ pub(crate) fn why_text(
     ensures { IfOk result (λ text. text.items ≡ why_text form constraints.now lines.now all.now) }
 {
     match form {
-        WhyForm::Text => sheet_lines(alloc, &why_sheet(alloc, constraints, lines, all)?),
-        WhyForm::Table => sheet_table(alloc, &why_sheet(alloc, constraints, lines, all)?),
-        WhyForm::Json => sheet_json(alloc, &why_sheet(alloc, constraints, lines, all)?),
-        WhyForm::Picture => {
+        DrawnForm::Text => sheet_lines(alloc, &why_sheet(alloc, constraints, lines, all)?),
+        DrawnForm::Table => sheet_table(alloc, &why_sheet(alloc, constraints, lines, all)?),
+        DrawnForm::Json => sheet_json(alloc, &why_sheet(alloc, constraints, lines, all)?),
+        DrawnForm::Picture => {
             let bars = why_bars(alloc, constraints, lines, all)?;
             bars_picture(alloc, bars.as_slice())
         }

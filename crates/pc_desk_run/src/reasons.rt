@@ -19,7 +19,7 @@ use crate::settled::{ended_of_reasons, has_impossible};
 use pc_base::Shelf;
 use pc_desk_short::{ClashLine, clash_lines, clash_of};
 use pc_desk_why::{Explained, explain};
-use pc_desk_words::{Why, WhyForm};
+use pc_desk_words::{DrawnForm, Why};
 use pc_files::{Kept, Observed};
 use pc_list::Seq;
 use pc_model::Constraint;
@@ -42,7 +42,7 @@ pub(crate) fn reply_to_why<F: Shelf>(
     }
 }
 
-fn explained(alloc: Global, asking: &Asking, form: WhyForm, nodes: u32) -> Result<Reply, Memory>
+fn explained(alloc: Global, asking: &Asking, form: DrawnForm, nodes: u32) -> Result<Reply, Memory>
     requires asking { IsAsking asking.now }
     requires budget { IsBudget nodes }
     ensures says { IfOk result (Says (IsSaid (explains form nodes asking.now))) }
@@ -51,9 +51,11 @@ fn explained(alloc: Global, asking: &Asking, form: WhyForm, nodes: u32) -> Resul
     let constraints = observed.constraints.as_slice();
     let questions = asking.questions.as_slice();
     let all = explain(alloc, observed, questions, nodes)?;
-    let lines = lines_on(alloc, observed, nodes, has_impossible(all.as_slice()))?;
+    let told = all.as_slice();
+    let impossible = has_impossible(told);
+    let lines = lines_on(alloc, observed, nodes, impossible)?;
     let note = note_beside(alloc, &observed.schema, constraints)?;
-    shown(alloc, form, constraints, lines.as_slice(), all.as_slice(), note)
+    shown(alloc, form, constraints, lines.as_slice(), told, note)
 }
 
 // What is told of constraints that are impossible; of others there is nothing.
@@ -78,7 +80,7 @@ fn lines_on(
 
 fn shown(
     alloc: Global,
-    form: WhyForm,
+    form: DrawnForm,
     constraints: &[Constraint],
     lines: &[ClashLine],
     all: &[Explained],

@@ -18,8 +18,8 @@ use crate::line::{
     unread_line,
 };
 use crate::note::{note_beside, note_on};
-use crate::session::follow_script;
 use crate::reasons::reply_to_why;
+use crate::session::follow_script;
 use crate::settled::{ended_of, ended_of_trial};
 use crate::written::{reply_to_draft, reply_to_limit, reply_to_sql};
 use pc_base::Shelf;

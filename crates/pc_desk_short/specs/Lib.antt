@@ -1,2 +1,4 @@
+pub mod ClashTexts
+pub mod Clashes
 pub mod ShortTexts
 pub mod Shortage

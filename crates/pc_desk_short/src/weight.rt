@@ -51,7 +51,7 @@ fn is_served(weights: &[i128], mask: u32) -> bool
 }
 
 /// What the weights of a class's constraints come to.
-fn class_weight(mask: u32, weights: &[i128]) -> i128
+pub(crate) fn class_weight(mask: u32, weights: &[i128]) -> i128
     requires few { length weights.now ≤ constraint_limit }
     requires small { list_all is_small weights.now ≡ true }
     ensures { result ≡ class_weight mask weights.now }

@@ -4,6 +4,7 @@ use Rattle.std.specs.List.{flat_map}
 use Rattle.std.proofs.lemmas.List.Elements.{All-append, All-cons, All-nil}
 use Rattle.pc_model.specs.declared.constraint.Constraint.{Constraint}
 use Rattle.pc_desk_parts.specs.declared.part.Part.{Part}
+use Rattle.pc_desk_short.specs.declared.clash_line.ClashLine.{ClashLine}
 use Rattle.pc_desk_table.specs.declared.sheet.Cell.{Cell}
 use Rattle.pc_desk_table.specs.Reading.{IsReadAs, sheet_rows}
 use Rattle.pc_desk_table.specs.Sheets.{sheet_table}
@@ -13,7 +14,7 @@ use Rattle.pc_desk_why.specs.declared.explained.Found.{Found}
 use Rattle.pc_desk_why.specs.declared.explained.Found.TheVariants.{Ends, Impossible, NoValue}
 use Rattle.pc_desk_why.specs.declared.explained.MadeEnd.{MadeEnd}
 use Rattle.pc_desk_why.specs.declared.explained.MadeEnd.TheVariants.{NotReached, Parts}
-use Rattle.pc_desk_why.specs.Shown.{end_rows, found_rows, part_cells, said_cells, told_rows, why_sheet}
+use Rattle.pc_desk_why.specs.Shown.{clash_cells, end_rows, found_rows, part_cells, said_cells, told_rows, why_sheet}
 use Rattle.std.proofs.Common.{codes}
 
 abbrev HasCells : List Cell → Type 0
@@ -31,18 +32,22 @@ module _ (constraints : List Constraint) (told : Explained) where
   end_filled end (Parts parts) = parts_filled end parts
   end_filled end NotReached = one_filled (said_cells told end (codes "not reached")) (omega arith)
 
-  found_filled : (found : Found) → All HasCells (found_rows constraints told found)
-  found_filled (Ends low high) =
+  clash_filled : (lines : List ClashLine) → All HasCells (map (clash_cells told) lines)
+  clash_filled [] = All-nil HasCells
+  clash_filled (line ∷ lines) = All-cons HasCells (clash_cells told line) (map (clash_cells told) lines) (omega arith) (clash_filled lines)
+
+  found_filled : (lines : List ClashLine) (found : Found) → All HasCells (found_rows constraints lines told found)
+  found_filled lines (Ends low high) =
       All-append HasCells (end_rows constraints told (codes "low") low) (end_rows constraints told (codes "high") high)
       (end_filled (codes "low") low) (end_filled (codes "high") high)
-  found_filled NoValue = one_filled (said_cells told [] (codes "no value")) (omega arith)
-  found_filled Impossible = one_filled (said_cells told (codes "impossible") (codes "the constraints contradict each other")) (omega arith)
+  found_filled lines NoValue = one_filled (said_cells told [] (codes "no value")) (omega arith)
+  found_filled lines Impossible = clash_filled lines
 
-all_filled : (constraints : List Constraint) (all : List Explained) → All HasCells (flat_map (told_rows constraints) all)
-all_filled constraints [] = All-nil HasCells
-all_filled constraints (told ∷ all) =
-    All-append HasCells (told_rows constraints told) (flat_map (told_rows constraints) all) (found_filled constraints told told.found) (all_filled constraints all)
+module _ (constraints : List Constraint) (lines : List ClashLine) where
+  all_filled : (all : List Explained) → All HasCells (flat_map (told_rows constraints lines) all)
+  all_filled [] = All-nil HasCells
+  all_filled (told ∷ all) =
+      All-append HasCells (told_rows constraints lines told) (flat_map (told_rows constraints lines) all) (found_filled constraints told lines told.found) (all_filled all)
 
-pub explanations_are_read_back : (constraints : List Constraint) (all : List Explained) → IsReadAs (sheet_table (why_sheet constraints all)) (sheet_rows (why_sheet constraints all))
-explanations_are_read_back constraints all =
-    sheets_are_read_back (why_sheet constraints all) (record { titled = omega arith; filled = all_filled constraints all })
+  pub explanations_are_read_back : (all : List Explained) → IsReadAs (sheet_table (why_sheet constraints lines all)) (sheet_rows (why_sheet constraints lines all))
+  explanations_are_read_back all = sheets_are_read_back (why_sheet constraints lines all) (record { titled = omega arith; filled = all_filled all })

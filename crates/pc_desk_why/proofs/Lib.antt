@@ -1,1 +1,10 @@
+pub mod AddedUp
 pub mod Back
+pub mod BarRows
+pub mod Divided
+pub mod Leading
+pub mod OfBlocks
+pub mod OneByOne
+pub mod Places
+pub mod Reaching
+pub mod Running

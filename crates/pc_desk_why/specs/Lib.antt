@@ -1,2 +1,5 @@
+pub mod Bars
+pub mod Explained
+pub mod Scopes
 pub mod Shown
 pub mod Texts

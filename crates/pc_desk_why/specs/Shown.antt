@@ -5,6 +5,7 @@ use Rattle.pc_desk_parts.specs.declared.part.Adds.{Adds}
 use Rattle.pc_desk_parts.specs.declared.part.Adds.TheVariants.{Amount, Nothing, Stands}
 use Rattle.pc_desk_parts.specs.declared.part.Hold.{Hold}
 use Rattle.pc_desk_parts.specs.declared.part.Part.{Part}
+use Rattle.pc_desk_short.specs.declared.clash_line.ClashLine.{ClashLine}
 use Rattle.pc_desk_table.specs.declared.sheet.Cell.{Cell}
 use Rattle.pc_desk_table.specs.declared.sheet.Cell.TheVariants.{Count, Empty, Word}
 use Rattle.pc_desk_table.specs.declared.sheet.Sheet.{Sheet}
@@ -66,18 +67,24 @@ abbrev pub said_cells : Explained → List ℕ → List ℕ → List Cell
 said_cells told end said =
     Word told.query ∷ group_cell told.group ∷ word_or_empty end ∷ Empty ∷ Empty ∷ Empty ∷ Empty ∷ Word said ∷ []
 
+-- a line on why the constraints are impossible
+abbrev pub clash_cells : Explained → ClashLine → List Cell
+clash_cells told line =
+    Word told.query ∷ group_cell told.group ∷ Word (codes "impossible") ∷ Empty ∷ Empty ∷ Empty ∷ word_or_empty line.under ∷ Word line.held ∷ []
+
 abbrev pub end_rows : List Constraint → Explained → List ℕ → MadeEnd → List (List Cell)
 end_rows constraints told end (Parts parts) = map (part_cells constraints told end) parts
 end_rows constraints told end NotReached = said_cells told end (codes "not reached") ∷ []
 
-abbrev pub found_rows : List Constraint → Explained → Found → List (List Cell)
-found_rows constraints told (Ends low high) = end_rows constraints told (codes "low") low ++ end_rows constraints told (codes "high") high
-found_rows constraints told NoValue = said_cells told [] (codes "no value") ∷ []
-found_rows constraints told Impossible = said_cells told (codes "impossible") (codes "the constraints contradict each other") ∷ []
+-- of an answer that is impossible one for each of the lines on why
+abbrev pub found_rows : List Constraint → List ClashLine → Explained → Found → List (List Cell)
+found_rows constraints lines told (Ends low high) = end_rows constraints told (codes "low") low ++ end_rows constraints told (codes "high") high
+found_rows constraints lines told NoValue = said_cells told [] (codes "no value") ∷ []
+found_rows constraints lines told Impossible = map (clash_cells told) lines
 
-abbrev pub told_rows : List Constraint → Explained → List (List Cell)
-told_rows constraints told = found_rows constraints told told.found
+abbrev pub told_rows : List Constraint → List ClashLine → Explained → List (List Cell)
+told_rows constraints lines told = found_rows constraints lines told told.found
 
 -- for each end a row for every part, or one that says why it has none
-abbrev pub why_sheet : List Constraint → List Explained → Sheet
-why_sheet constraints all = record { titles = why_titles; rows = flat_map (told_rows constraints) all }
+abbrev pub why_sheet : List Constraint → List ClashLine → List Explained → Sheet
+why_sheet constraints lines all = record { titles = why_titles; rows = flat_map (told_rows constraints lines) all }

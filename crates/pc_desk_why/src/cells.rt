@@ -1,10 +1,11 @@
 //! What is shown of a part, and of what is said in the place of parts.
 ghost use Rattle.std.specs.Prelude.{◌≡◌, ◌≤◌, IfOk, option_map};
-ghost use Rattle.pc_desk_why.specs.Shown.{added_cell, group_cell, held_cell, part_cells, said_cells, under_cell, value_cell, word_or_empty};
+ghost use Rattle.pc_desk_why.specs.Shown.{added_cell, clash_cells, group_cell, held_cell, part_cells, said_cells, under_cell, value_cell, word_or_empty};
 
 use crate::explained::Explained;
 use crate::texts::{holds_text, names_text, number_text, stand_word};
 use pc_desk_parts::{Adds, Hold, Part};
+use pc_desk_short::ClashLine;
 use pc_desk_table::Cell;
 use pc_list::{Seq, Text};
 use pc_model::Constraint;
@@ -56,6 +57,30 @@ pub(crate) fn said_cells(
         Cell::Empty,
         Cell::Empty,
         Cell::Word(said),
+    ]?;
+    Ok(Seq::from_vec(all))
+}
+
+/// A line on why the constraints are impossible.
+pub(crate) fn clash_cells(
+    alloc: Global,
+    told: &Explained,
+    line: &ClashLine,
+) -> Result<Seq<Cell>, Memory>
+    ensures { IfOk result (λ cells. cells ≡ clash_cells told.now line.now) }
+{
+    let query = Text::from_text(alloc, told.query.as_str())?;
+    let end = Text::from_text(alloc, "impossible")?;
+    let held = Text::from_text(alloc, line.held.as_str())?;
+    let all = vec![in alloc;
+        Cell::Word(query),
+        group_cell(alloc, &told.group)?,
+        Cell::Word(end),
+        Cell::Empty,
+        Cell::Empty,
+        Cell::Empty,
+        word_or_empty(alloc, line.under.as_str())?,
+        Cell::Word(held),
     ]?;
     Ok(Seq::from_vec(all))
 }

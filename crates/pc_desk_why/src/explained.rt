@@ -17,12 +17,14 @@ pub enum Found {
 }
 
 /// What is explained of a block of a query, or of a quantile: the query in the language, the name of its group, how many decimals
-/// its numbers have, whether something of its answer is not settled, and what is found.
+/// its numbers have, whether something of its answer is not settled, whether its ends are what their parts add, as those of a
+/// count and a sum, and what is found.
 #[derive(Debug, Drop)]
 pub struct Explained {
     pub query: Text,
     pub group: Option<Text>,
     pub places: u8,
     pub open: bool,
+    pub sums: bool,
     pub found: Found,
 }

@@ -1,26 +1,29 @@
 ghost use Rattle.std.specs.Prelude.{◌≡◌, ◌≤◌, [], ◌∷◌, All, IfOk, flat_map, map};
-ghost use Rattle.pc_desk_why.specs.Shown.{end_rows, part_cells, said_cells, told_rows, why_sheet, why_titles};
+ghost use Rattle.pc_desk_why.specs.Shown.{clash_cells, end_rows, part_cells, said_cells, told_rows, why_sheet, why_titles};
 
-use crate::cells::{part_cells, said_cells};
+use crate::cells::{clash_cells, part_cells, said_cells};
 use crate::explained::{Explained, Found, MadeEnd};
 use pc_desk_parts::Part;
+use pc_desk_short::ClashLine;
 use pc_desk_table::{Cell, Sheet, Title};
 use pc_list::{Seq, Text};
 use pc_model::Constraint;
 use pc_num::Memory;
 use std::alloc::Global;
 
-/// What is shown of explanations: for each end a row for every part that makes it up, or one that says why it has none.
+/// What is shown of explanations: for each end a row for every part that makes it up, or one that says why it has none; where the
+/// constraints are impossible a row for each line on why.
 pub fn why_sheet(
     alloc: Global,
     constraints: &[Constraint],
+    clash_lines: &[ClashLine],
     all: &[Explained],
 ) -> Result<Sheet, Memory>
     requires places { All (λ told. told.places ≤ 6) all.now }
-    ensures shown { IfOk result (λ sheet. sheet ≡ why_sheet constraints.now all.now) }
+    ensures shown { IfOk result (λ sheet. sheet ≡ why_sheet constraints.now clash_lines.now all.now) }
 {
     let titles = why_titles(alloc)?;
-    let rows = all_rows(alloc, constraints, all)?;
+    let rows = all_rows(alloc, constraints, clash_lines, all)?;
     Ok(Sheet {
         titles,
         rows: Seq::from_vec(rows),
@@ -54,14 +57,15 @@ fn title(alloc: Global, name: &str, right: bool) -> Result<Title, Memory>
 fn all_rows(
     alloc: Global,
     constraints: &[Constraint],
+    clash_lines: &[ClashLine],
     all: &[Explained],
 ) -> Result<Vec<Seq<Cell>>, Memory>
     requires places { All (λ told. told.places ≤ 6) all.now }
-    ensures { IfOk result (λ rows. rows.items ≡ flat_map (told_rows constraints.now) all.now) }
+    ensures { IfOk result (λ rows. rows.items ≡ flat_map (told_rows constraints.now clash_lines.now) all.now) }
 {
     let mut rows = Vec::new(alloc);
     for told in all {
-        let mut more = told_rows(alloc, constraints, told)?;
+        let mut more = told_rows(alloc, constraints, clash_lines, told)?;
         rows.append(&mut more)?;
     }
     Ok(rows)
@@ -70,10 +74,11 @@ fn all_rows(
 fn told_rows(
     alloc: Global,
     constraints: &[Constraint],
+    clash_lines: &[ClashLine],
     told: &Explained,
 ) -> Result<Vec<Seq<Cell>>, Memory>
     requires places { told.now.places ≤ 6 }
-    ensures { IfOk result (λ rows. rows.items ≡ told_rows constraints.now told.now) }
+    ensures { IfOk result (λ rows. rows.items ≡ told_rows constraints.now clash_lines.now told.now) }
 {
     match &told.found {
         Found::Ends(low, high) => {
@@ -83,13 +88,24 @@ fn told_rows(
             Ok(rows)
         }
         Found::NoValue => one_row(alloc, told, "", "no value"),
-        Found::Impossible => one_row(
-            alloc,
-            told,
-            "impossible",
-            "the constraints contradict each other",
-        ),
+        Found::Impossible => clash_rows(alloc, told, clash_lines),
     }
+}
+
+#[tactic(auto, using(std::proofs::lemmas::List::map_more))]
+fn clash_rows(
+    alloc: Global,
+    told: &Explained,
+    clash_lines: &[ClashLine],
+) -> Result<Vec<Seq<Cell>>, Memory>
+    ensures { IfOk result (λ rows. rows.items ≡ map (clash_cells told.now) clash_lines.now) }
+{
+    let mut rows = Vec::new(alloc);
+    for line in clash_lines {
+        let cells = clash_cells(alloc, told, line)?;
+        rows.push(cells)?;
+    }
+    Ok(rows)
 }
 
 fn end_rows(

@@ -15,7 +15,7 @@ use Rattle.pc_desk_words.specs.Program.{desk_app, desk_shape}
 use Rattle.pc_desk_words.specs.Words.{ask, asked_by, asked_of, asked_without, budget_of, draft, limit, opens, scale_of, session, sql, trial, usual_nodes, usual_scale, why, with_files}
 use Rattle.pc_desk_words.specs.declared.form.Form.TheVariants as forms
 use Rattle.pc_desk_words.specs.declared.form.SheetForm.TheVariants as sheets
-use Rattle.pc_desk_words.specs.declared.form.WhyForm.TheVariants as whys
+use Rattle.pc_desk_words.specs.declared.form.DrawnForm.TheVariants as drawn
 use Rattle.pc_desk_words.proofs.PlainWords.{ArePlain, AreFit, Reaches, plain_reaches, plainly, reaches_end}
 
 abbrev shape_at : Text → Shape
@@ -226,7 +226,7 @@ module _ (schema rows constraints : Text) where
     ask_read = queries_read (codes "ask") ask_shape ask_is_verb (ask_takes query)
 
     pub why_read : asked_of (codes "why" ∷ words)
-        ≡ Some (why (record { form = whys.Text; nodes = usual_nodes; files = with_files schema rows constraints; queries = query ∷ queries }))
+        ≡ Some (why (record { form = drawn.Text; nodes = usual_nodes; files = with_files schema rows constraints; queries = query ∷ queries }))
     unfolding budget_of
     why_read = queries_read (codes "why") why_shape why_is_verb (why_takes query)
 

@@ -122,11 +122,11 @@ desk_shape = record (new_shape (codes "pc_desk")) {
 
 -- by what the forms of `ask` and `session` may be, those of `why`, and those of `try` and `opens`
 abbrev pub desk_with : ValueParser → ValueParser → ValueParser → App
-desk_with forms whys sheets = record {
+desk_with forms drawn sheets = record {
   top = desk_shape;
-  subs = ask_verb forms ∷ session_verb forms ∷ why_verb whys ∷ try_verb sheets ∷ opens_verb sheets ∷ limit_verb ∷ schema_verb ∷ sql_verb ∷ [];
+  subs = ask_verb forms ∷ session_verb forms ∷ why_verb drawn ∷ try_verb sheets ∷ opens_verb sheets ∷ limit_verb ∷ schema_verb ∷ sql_verb ∷ [];
 }
 
--- any text may stand as a form here: which it names is told by `form_named`, `why_form_named` and `sheet_form_named`
+-- any text may stand as a form here: which it names is told by `form_named`, `drawn_form_named` and `sheet_form_named`
 abbrev pub desk_app : App
 desk_app = desk_with parsers.String parsers.String parsers.String

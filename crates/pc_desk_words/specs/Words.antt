@@ -14,8 +14,8 @@ use Rattle.pc_desk_words.specs.declared.form.Form.{Form}
 use Rattle.pc_desk_words.specs.declared.form.Form.TheVariants as forms
 use Rattle.pc_desk_words.specs.declared.form.SheetForm.{SheetForm}
 use Rattle.pc_desk_words.specs.declared.form.SheetForm.TheVariants as sheets
-use Rattle.pc_desk_words.specs.declared.form.WhyForm.{WhyForm}
-use Rattle.pc_desk_words.specs.declared.form.WhyForm.TheVariants as whys
+use Rattle.pc_desk_words.specs.declared.form.DrawnForm.{DrawnForm}
+use Rattle.pc_desk_words.specs.declared.form.DrawnForm.TheVariants as drawn
 
 -- the names of the three files
 pub record FileNames : Type 0 where
@@ -32,7 +32,7 @@ pub record AskNames : Type 0 where
 
 -- of `why`: how explanations are shown, and the same
 pub record WhyNames : Type 0 where
-  pub form : WhyForm
+  pub form : DrawnForm
   pub nodes : ℕ
   pub files : FileNames
   pub queries : List (List ℕ)
@@ -94,12 +94,12 @@ form_named name =
     else None))))
 
 -- the form that `--as` of `why` names
-abbrev pub why_form_named : List ℕ → Option WhyForm
-why_form_named name =
-    if bytes_eq name (codes "text") then Some whys.Text
-    else (if bytes_eq name (codes "table") then Some whys.Table
-    else (if bytes_eq name (codes "json") then Some whys.Json
-    else (if bytes_eq name (codes "svg") then Some whys.Picture
+abbrev pub drawn_form_named : List ℕ → Option DrawnForm
+drawn_form_named name =
+    if bytes_eq name (codes "text") then Some drawn.Text
+    else (if bytes_eq name (codes "table") then Some drawn.Table
+    else (if bytes_eq name (codes "json") then Some drawn.Json
+    else (if bytes_eq name (codes "svg") then Some drawn.Picture
     else None)))
 
 -- the form that `--as` of `try` and of `opens` names
@@ -191,15 +191,15 @@ abbrev pub session_in : List Row → Option SessionNames
 session_in found = option_and_then (λ form. option_and_then (λ head. option_map (with_script form head)
     (first_of (codes "script") found)) (head_in found)) (form_in found)
 
-abbrev pub why_form_in : List Row → Option WhyForm
-why_form_in found = option_and_then why_form_named (first_of (codes "as") found)
+abbrev pub drawn_form_in : List Row → Option DrawnForm
+drawn_form_in found = option_and_then drawn_form_named (first_of (codes "as") found)
 
-abbrev pub with_reasons : WhyForm → HeadNames → List (List ℕ) → WhyNames
-with_reasons form head queries = record { form = form; nodes = head.nodes; files = head.files; queries = queries }
+abbrev pub with_questions : DrawnForm → HeadNames → List (List ℕ) → WhyNames
+with_questions form head queries = record { form = form; nodes = head.nodes; files = head.files; queries = queries }
 
 abbrev pub why_in : List Row → Option WhyNames
-why_in found = option_and_then (λ form. option_and_then (λ head. option_map (with_reasons form head)
-    (queries_in found)) (head_in found)) (why_form_in found)
+why_in found = option_and_then (λ form. option_and_then (λ head. option_map (with_questions form head)
+    (queries_in found)) (head_in found)) (drawn_form_in found)
 
 abbrev pub sheet_form_in : List Row → Option SheetForm
 sheet_form_in found = option_and_then sheet_form_named (first_of (codes "as") found)

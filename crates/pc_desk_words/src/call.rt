@@ -6,7 +6,7 @@ ghost use Rattle.pc_desk_words.specs.Calls.{HasBudget, IsRefusal, Reads, Tells};
 ghost use Rattle.pc_desk_words.specs.Program.{desk_app};
 ghost use Rattle.pc_desk_words.specs.Words.{is_request};
 
-use crate::form::{Form, SheetForm, WhyForm};
+use crate::form::{DrawnForm, Form, SheetForm};
 use crate::found::call_in;
 use crate::parser::{desk, strict_desk};
 use crate::texts;
@@ -44,7 +44,7 @@ pub struct Session<'a> {
 /// The verb `why`: how explanations are shown, how many nodes each search may have, the files, and the queries.
 #[derive(Debug, Drop)]
 pub struct Why<'a> {
-    pub form: WhyForm,
+    pub form: DrawnForm,
     pub nodes: u32,
     pub files: Files<'a>,
     pub queries: Vec<&'a str>,

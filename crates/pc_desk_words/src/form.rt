@@ -1,5 +1,5 @@
 ghost use Rattle.std.specs.Prelude.{◌≡◌};
-ghost use Rattle.pc_desk_words.specs.Words.{form_named, sheet_form_named, why_form_named};
+ghost use Rattle.pc_desk_words.specs.Words.{form_named, sheet_form_named, drawn_form_named};
 
 /// How answers are shown.
 #[derive(Clone, Copy, Debug, PartialEq, Eq)]
@@ -11,9 +11,9 @@ pub enum Form {
     Picture,
 }
 
-/// How explanations are shown.
+/// How findings are shown that a picture is made of, too.
 #[derive(Clone, Copy, Debug, PartialEq, Eq)]
-pub enum WhyForm {
+pub enum DrawnForm {
     Text,
     Table,
     Json,
@@ -44,16 +44,16 @@ impl Form {
     }
 }
 
-impl WhyForm {
+impl DrawnForm {
     /// The form that `--as` of `why` names.
-    pub(crate) fn named(name: &str) -> Option<WhyForm>
-        ensures { result ≡ why_form_named name.now }
+    pub(crate) fn named(name: &str) -> Option<DrawnForm>
+        ensures { result ≡ drawn_form_named name.now }
     {
         match name {
-            "text" => Some(WhyForm::Text),
-            "table" => Some(WhyForm::Table),
-            "json" => Some(WhyForm::Json),
-            "svg" => Some(WhyForm::Picture),
+            "text" => Some(DrawnForm::Text),
+            "table" => Some(DrawnForm::Table),
+            "json" => Some(DrawnForm::Json),
+            "svg" => Some(DrawnForm::Picture),
             _ => None,
         }
     }

@@ -3,10 +3,10 @@ ghost use Rattle.std.specs.Prelude.{◌≡◌, ◌≤◌, [], codes, map, length
 ghost use Rattle.clap.specs.Words.{found_of, rows_of, subcommand_rows_of};
 ghost use Rattle.clap.specs.Walk.{all_of, first_of};
 ghost use Rattle.pc_desk_words.specs.Calls.{ask_names, draft_names, file_names, head_names, limit_names, opens_names, session_names, sql_names, trial_names, why_names, HasBudget, HoldsIf};
-ghost use Rattle.pc_desk_words.specs.Words.{ask_in, asked_by, asked_in, budget_of, draft_in, files_in, form_in, head_in, limit_in, nodes_in, opens_in, queries_in, rowless_files_in, scale_in, scale_of, scale_within, session_in, sheet_form_in, some_of, sql_in, trial_in, why_form_in, why_in, within, IsBudget, IsScale};
+ghost use Rattle.pc_desk_words.specs.Words.{ask_in, asked_by, asked_in, budget_of, draft_in, files_in, form_in, head_in, limit_in, nodes_in, opens_in, queries_in, rowless_files_in, scale_in, scale_of, scale_within, session_in, sheet_form_in, some_of, sql_in, trial_in, drawn_form_in, why_in, within, IsBudget, IsScale};
 
 use crate::call::{Ask, Call, Draft, Files, Head, Limit, Opens, Session, Sql, Trial, Why};
-use crate::form::{Form, SheetForm, WhyForm};
+use crate::form::{DrawnForm, Form, SheetForm};
 use clap::ArgMatches;
 use pc_num::{Memory, read_scaled};
 use std::alloc::Global;
@@ -79,7 +79,7 @@ fn why_in<'a>(alloc: Global, found: &ArgMatches<'a>) -> Result<Option<Why<'a>>, 
     ensures reads { IfOk result (λ call. option_map why_names call ≡ why_in (rows_of (found_of found.now))) }
     ensures numbers { IfOk result (λ call. IfSome call (λ why. IsBudget why.nodes × (1 ≤ length why.queries.items))) }
 {
-    let Some(form) = why_form_in(found) else {
+    let Some(form) = drawn_form_in(found) else {
         return Ok(None);
     };
     let Some(head) = head_in(found) else {
@@ -225,10 +225,10 @@ fn form_in(found: &ArgMatches<'_>) -> Option<Form>
     Form::named(text_in(found, "as")?)
 }
 
-fn why_form_in(found: &ArgMatches<'_>) -> Option<WhyForm>
-    ensures { result ≡ why_form_in (rows_of (found_of found.now)) }
+fn drawn_form_in(found: &ArgMatches<'_>) -> Option<DrawnForm>
+    ensures { result ≡ drawn_form_in (rows_of (found_of found.now)) }
 {
-    WhyForm::named(text_in(found, "as")?)
+    DrawnForm::named(text_in(found, "as")?)
 }
 
 fn sheet_form_in(found: &ArgMatches<'_>) -> Option<SheetForm>

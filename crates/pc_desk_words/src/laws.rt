@@ -3,7 +3,7 @@ ghost use Rattle.pc_desk_words.specs.Program.{most_columns, most_queries};
 ghost use Rattle.pc_desk_words.specs.Words.{ask, asked_of, draft, is_dashed, limit, opens, session, sql, trial, why, usual_nodes, usual_scale, with_files};
 ghost use Rattle.pc_desk_words.specs.declared.form.Form.TheVariants.{Text};
 ghost use Rattle.pc_desk_words.specs.declared.form.SheetForm.TheVariants as sheets;
-ghost use Rattle.pc_desk_words.specs.declared.form.WhyForm.TheVariants as whys;
+ghost use Rattle.pc_desk_words.specs.declared.form.DrawnForm.TheVariants as drawn;
 
 /// After `ask`, words of which none begins with `-` are the three files and the queries, as they stand: from one to
 /// sixteen, answered as text, with the usual number of nodes.
@@ -18,7 +18,7 @@ pub fn plain_words_are_a_session()
 
 /// After `why`, such words are the three files and the queries, as after `ask`.
 pub fn plain_words_ask_why()
-    ensures { (schema rows constraints query : List ℕ) (queries : List (List ℕ)) → All (λ word. is_dashed word ≡ false) (schema ∷ rows ∷ constraints ∷ query ∷ queries) → length queries < most_queries → asked_of (codes "why" ∷ schema ∷ rows ∷ constraints ∷ query ∷ queries) ≡ Some (why (record { form = whys.Text; nodes = usual_nodes; files = with_files schema rows constraints; queries = query ∷ queries })) }
+    ensures { (schema rows constraints query : List ℕ) (queries : List (List ℕ)) → All (λ word. is_dashed word ≡ false) (schema ∷ rows ∷ constraints ∷ query ∷ queries) → length queries < most_queries → asked_of (codes "why" ∷ schema ∷ rows ∷ constraints ∷ query ∷ queries) ≡ Some (why (record { form = drawn.Text; nodes = usual_nodes; files = with_files schema rows constraints; queries = query ∷ queries })) }
 {}
 
 /// After `try`, three such words are the schema, the constraints and the rows, shown as text, with the factor 1.

@@ -12,7 +12,7 @@ use std::alloc::{AllocError, Global};
 const FORMS: &[&str] = &["text", "table", "json", "chart", "svg"];
 
 /// The forms of `why`.
-const WHY_FORMS: &[&str] = &["text", "table", "json", "svg"];
+const DRAWN_FORMS: &[&str] = &["text", "table", "json", "svg"];
 
 /// The forms of `try` and `opens`.
 const SHEET_FORMS: &[&str] = &["text", "table", "json"];
@@ -34,7 +34,7 @@ pub(crate) fn strict_desk<'a>(alloc: Global) -> Result<Command<'a>, AllocError> 
     desk_with(
         alloc,
         ValueParser::Names(FORMS),
-        ValueParser::Names(WHY_FORMS),
+        ValueParser::Names(DRAWN_FORMS),
         ValueParser::Names(SHEET_FORMS),
     )
 }
@@ -42,12 +42,12 @@ pub(crate) fn strict_desk<'a>(alloc: Global) -> Result<Command<'a>, AllocError> 
 fn desk_with<'a>(
     alloc: Global,
     forms: ValueParser<'a>,
-    whys: ValueParser<'a>,
+    drawn: ValueParser<'a>,
     sheets: ValueParser<'a>,
 ) -> Result<Command<'a>, AllocError>
-    ensures { IfOk result (λ command. app_of command ≡ desk_with forms.entry whys.entry sheets.entry) }
+    ensures { IfOk result (λ command. app_of command ≡ desk_with forms.entry drawn.entry sheets.entry) }
 {
-    holding_desk(alloc, forms, whys, sheets)?
+    holding_desk(alloc, forms, drawn, sheets)?
         .subcommand(limit(alloc)?)?
         .subcommand(draft(alloc)?)?
         .subcommand(sql(alloc)?)
@@ -57,12 +57,12 @@ fn desk_with<'a>(
 fn holding_desk<'a>(
     alloc: Global,
     forms: ValueParser<'a>,
-    whys: ValueParser<'a>,
+    drawn: ValueParser<'a>,
     sheets: ValueParser<'a>,
 ) -> Result<Command<'a>, AllocError>
-    ensures { IfOk result (λ command. app_of command ≡ record { top = desk_shape; subs = ask_verb forms.entry ∷ session_verb forms.entry ∷ why_verb whys.entry ∷ try_verb sheets.entry ∷ opens_verb sheets.entry ∷ [] }) }
+    ensures { IfOk result (λ command. app_of command ≡ record { top = desk_shape; subs = ask_verb forms.entry ∷ session_verb forms.entry ∷ why_verb drawn.entry ∷ try_verb sheets.entry ∷ opens_verb sheets.entry ∷ [] }) }
 {
-    answering_desk(alloc, forms, whys)?
+    answering_desk(alloc, forms, drawn)?
         .subcommand(trial(alloc, sheets)?)?
         .subcommand(opens(alloc, sheets)?)
 }
@@ -71,14 +71,14 @@ fn holding_desk<'a>(
 fn answering_desk<'a>(
     alloc: Global,
     forms: ValueParser<'a>,
-    whys: ValueParser<'a>,
+    drawn: ValueParser<'a>,
 ) -> Result<Command<'a>, AllocError>
-    ensures { IfOk result (λ command. app_of command ≡ record { top = desk_shape; subs = ask_verb forms.entry ∷ session_verb forms.entry ∷ why_verb whys.entry ∷ [] }) }
+    ensures { IfOk result (λ command. app_of command ≡ record { top = desk_shape; subs = ask_verb forms.entry ∷ session_verb forms.entry ∷ why_verb drawn.entry ∷ [] }) }
 {
     bare_desk(alloc)?
         .subcommand(ask(alloc, forms)?)?
         .subcommand(session(alloc, forms)?)?
-        .subcommand(why(alloc, whys)?)
+        .subcommand(why(alloc, drawn)?)
 }
 
 fn bare_desk<'a>(alloc: Global) -> Result<Command<'a>, AllocError>
@@ -132,7 +132,7 @@ fn why<'a>(alloc: Global, forms: ValueParser<'a>) -> Result<Command<'a>, AllocEr
     with_words(
         alloc,
         command,
-        form(alloc, forms, texts::WHY_AS),
+        form(alloc, forms, texts::DRAWN_AS),
         queries(alloc),
     )
 }

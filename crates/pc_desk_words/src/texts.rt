@@ -202,7 +202,7 @@ pub(crate) const AS: &str = "how answers are shown: text, table, json, chart or 
 
 pub(crate) const NODES: &str = "how many nodes each search may have, 1 to 100000";
 
-pub(crate) const WHY_AS: &str = "how explanations are shown: text, table, json or svg";
+pub(crate) const DRAWN_AS: &str = "how it is shown: text, table, json or svg";
 
 pub(crate) const SHEET_AS: &str = "how what is found is shown: text, table or json";
 

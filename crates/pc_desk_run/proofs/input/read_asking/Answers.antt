@@ -40,7 +40,7 @@ returns-clause-read g c =
 pub returns-in_err-observed-clause-kept : goal.returns-in_err-observed-clause-kept
 returns-in_err-observed-clause-kept g c =
     let p = err_from_is_err_and c.from_residual.result c.from_residual.ensures.1 in
-    rw (p.1, p.2) (c.in_err-observed.ensures.kept [] [])
+    rw (p.1, p.2) (c.in_err-observed.ensures.kept c.args.sources.now.script.now c.args.sources.now.limits.now)
 
 pub returns-in_err-questions-clause-kept : goal.returns-in_err-questions-clause-kept
 returns-in_err-questions-clause-kept g c =
@@ -48,7 +48,7 @@ returns-in_err-questions-clause-kept g c =
     let names = named_of c.args.sources.now in
     let schema = c.in_ok-observed.observed.schema in
     rw (p.1, p.2) (query_stops (g.F.Shelf.told c.args.files.now).files (names_in names) c.read_observed_keeping.new.kept
-    (questions_of schema names.queries) (questions_of_words schema 1 names.queries) c.in_err-questions.field-0.0 c.in_err-questions.ensures.gives (c.in_ok-observed.ensures.kept [] []))
+    (questions_of schema names.queries) (questions_of_words schema 1 names.queries) c.in_err-questions.field-0.0 c.in_err-questions.ensures.gives (c.in_ok-observed.ensures.kept c.args.sources.now.script.now c.args.sources.now.limits.now))
 
 pub returns-clause-kept : goal.returns-clause-kept
-returns-clause-kept g c = c.in_ok-observed.ensures.kept [] []
+returns-clause-kept g c = c.in_ok-observed.ensures.kept c.args.sources.now.script.now c.args.sources.now.limits.now

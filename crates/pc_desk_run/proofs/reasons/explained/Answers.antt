@@ -14,5 +14,5 @@ returns c =
     record {
       says = IfOk-weaker c.shown.result _ _
           (says_more (AreReasonsShown c.args.form observed.constraints lines all said) (IsSaid (explains c.args.form c.args.nodes c.args.asking.now))
-          (λ ended text note is. (all, (rw c.as_slice-questions.ensures at c.in_ok-all.ensures.explained), lines, c.in_ok-lines.ensures, said, c.in_ok-note.ensures, is))) c.shown.ensures;
+          (λ ended text note is. (all, (rw c.as_slice-questions.ensures at c.in_ok-all.ensures.explained), lines, (rw (c.has_impossible-impossible.ensures, c.as_slice-told.ensures) at c.in_ok-lines.ensures), said, (rw c.as_slice-constraints.ensures at c.in_ok-note.ensures), is))) (rw (c.as_slice-constraints.ensures, c.as_slice.ensures, c.as_slice-told.ensures) at c.shown.ensures);
     }

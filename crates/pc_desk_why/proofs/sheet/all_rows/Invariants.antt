@@ -4,4 +4,4 @@ use Rattle.pc_desk_why.specs.Shown.{told_rows}
 use Rattle.pc_desk_why.proofs.sheet.all_rows.Given as goal
 
 abbrev pub invariant-loop-told : goal.invariant-loop-told
-invariant-loop-told l = l.rows.items ≡ flat_map (told_rows l.constraints) (take l.told-index l.all)
+invariant-loop-told l = l.rows.items ≡ flat_map (told_rows l.constraints l.clash_lines) (take l.told-index l.all)
