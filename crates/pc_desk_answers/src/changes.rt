@@ -7,7 +7,7 @@ ghost use Rattle.pc_cells_tree.specs.Linked.{IsTree};
 ghost use Rattle.pc_files.specs.Reads.{IsUsable};
 ghost use Rattle.pc_lang.specs.Quantiles.{IsQuantile};
 ghost use Rattle.pc_group.specs.Answers.{AnswersWanted};
-ghost use Rattle.pc_group.specs.Folds.{AreFolds, AreFoldsFor};
+ghost use Rattle.pc_group.specs.Scopes.{AreFolds, AreFoldsFor};
 ghost use Rattle.pc_group.specs.Trees.{told};
 ghost use Rattle.pc_group.specs.Wanted.{wanted_by};
 ghost use Rattle.pc_desk_answers.specs.Blocks.{AreShown, AreShownUnder, IsGround, asked_by, block, ground_in, ground_of, ground_under, quantile};
@@ -29,11 +29,11 @@ use std::alloc::Global;
 
 /// What is shown of the answers to a question under each of these lists of constraints, by searches of at most so many nodes
 /// each. One tree of cuts serves them all: it is cut on for each list before that is answered.
-pub fn answer_under_each(
+pub fn answer_under_each<'x>(
     alloc: Global,
-    observed: &Observed,
+    observed: &'x Observed,
     question: &Question,
-    lists: &[Seq<Constraint>],
+    lists: &'x [Seq<Constraint>],
     nodes: u32,
 ) -> Result<Seq<Seq<Entry>>, Memory>
     requires usable { IsUsable observed.now }
@@ -55,11 +55,11 @@ pub fn answer_under_each(
     }
 }
 
-fn query_under_each(
+fn query_under_each<'x>(
     alloc: Global,
-    scope: &Scope<'_>,
+    scope: &Scope<'x>,
     query: &Query,
-    lists: &[Seq<Constraint>],
+    lists: &'x [Seq<Constraint>],
 ) -> Result<Seq<Seq<Entry>>, Memory>
     requires ground { IsGround (ground_in scope.now) }
     requires asked { IsQuery scope.now.schema.now query.now }
@@ -122,11 +122,11 @@ fn query_under(
     block_entries(alloc, scope, query, document.blocks.as_slice(), left)
 }
 
-fn share_under_each(
+fn share_under_each<'x>(
     alloc: Global,
-    scope: &Scope<'_>,
+    scope: &Scope<'x>,
     asked: &Quantile,
-    lists: &[Seq<Constraint>],
+    lists: &'x [Seq<Constraint>],
 ) -> Result<Seq<Seq<Entry>>, Memory>
     requires ground { IsGround (ground_in scope.now) }
     requires asked { IsQuantile scope.now.schema.now asked.now }

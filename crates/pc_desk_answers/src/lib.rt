@@ -14,8 +14,8 @@ mod trees;
 mod value;
 
 pub use answers::{answer_questions, ask_session};
-pub use changes::answer_under_each;
 pub use blocks::{least_of, quantile_name, query_name};
+pub use changes::answer_under_each;
 pub use entry::group_of;
 pub use laws::left_is_the_aggregate;
 pub use question::{Question, read_questions};
