@@ -1,3 +1,3 @@
 pub mod Changes
-pub mod Shown
+pub mod Listed
 pub mod Weighed

@@ -3,6 +3,7 @@ use Rattle.std.specs.Prelude.{◌≡◌, ℕ, List, [], ◌∷◌, map, Option, 
 use Rattle.std.specs.List.{AllZip}
 use Rattle.pc_model.specs.declared.constraint.Constraint.{Constraint}
 use Rattle.pc_model.specs.declared.schema.Schema.{Schema}
+use Rattle.pc_desk_table.specs.declared.entry.Entry.{Entry}
 use Rattle.pc_desk_answers.specs.Blocks.{AreShown, Asked, Ground, ground_under}
 use Rattle.pc_desk_weigh.specs.declared.change.Change.{Change}
 use Rattle.pc_desk_weigh.specs.declared.weighed.Weighed.{Weighed}
@@ -25,3 +26,13 @@ pub record IsWeighed (ground : Ground) (wanted : List Asked) (change : Option Ch
 -- .. one for each change
 abbrev pub AreWeighed : Ground → List Asked → Option ℕ → List Weighed → Type 0
 AreWeighed ground wanted asked all = AllZip (IsWeighed ground wanted) (all_changes ground.schema ground.constraints asked) all
+
+-- ---- each change beside its entries
+
+abbrev pub weighed_with : Option Change → List Entry → Weighed
+weighed_with change entries = record { change = change; entries = entries }
+
+unfoldable pub weighed_of : List (Option Change) → List (List Entry) → List Weighed
+weighed_of [] answers = []
+weighed_of (change ∷ changes) [] = []
+weighed_of (change ∷ changes) (entries ∷ answers) = weighed_with change entries ∷ weighed_of changes answers
