@@ -1,12 +1,12 @@
 -- What was weighed, as far as a loop has come, and that it is what is asked.
-use Rattle.std.proofs.Common.{◌≡◌, ℕ, suc, ◌+◌, List, [], ◌∷◌, ◌++◌, All, Option, Some, None, map, length, slice_get, option_map, refl, sym, subst, ap, ◌∙◌}
+use Rattle.std.proofs.Common.{◌≡◌, ℕ, zero, suc, ◌≤◌, List, [], ◌∷◌, ◌++◌, All, Option, Some, None, map, length, slice_get, option_map, refl, sym, subst, ap, append-nil, arith, ◌∙◌}
 use Rattle.std.specs.List.{AllZip}
 use Rattle.std.proofs.lemmas.List.Elements.{All-cons, All-map, All-same}
 use Rattle.pc_model.specs.declared.constraint.Constraint.{Constraint}
 use Rattle.pc_model.specs.declared.schema.Schema.{Schema}
 use Rattle.pc_model.specs.Accepted.{AreConstraints}
 use Rattle.pc_desk_table.specs.declared.entry.Entry.{Entry}
-use Rattle.pc_desk_answers.specs.Blocks.{AreShown, AreShownUnder, Asked, Ground, ground_under}
+use Rattle.pc_desk_answers.specs.Blocks.{AreShownUnder, Asked, Ground}
 use Rattle.pc_desk_weigh.specs.declared.change.Change.{Change}
 use Rattle.pc_desk_weigh.specs.declared.weighed.Weighed.{Weighed}
 use Rattle.pc_desk_weigh.specs.Changes.{changes_of}
@@ -34,6 +34,17 @@ pub weighed_more : (changes : List (Option Change)) (answers : List (List Entry)
     new ≡ held ++ listed (option_map (λ (change : Option Change). weighed_with change entries) (slice_get changes (length held))) → new ≡ weighed_of changes (answers ++ entries ∷ [])
 weighed_more changes answers entries held new before one =
     one ∙ ap (λ (all : List Weighed). all ++ more changes entries (length all)) before ∙ sym (weighed_next changes answers entries)
+
+none_past : (changes : List (Option Change)) (place : ℕ) → length changes ≤ place → slice_get changes place ≡ None
+none_past [] place past = refl
+none_past (change ∷ changes) zero past = absurd (omega (arith, past))
+none_past (change ∷ changes) (suc place) past = none_past changes place (omega (arith, past))
+
+pub weighed_past : (changes : List (Option Change)) (entries : List Entry) (held : List Weighed) → length changes ≤ length held →
+    held ≡ held ++ listed (option_map (λ (change : Option Change). weighed_with change entries) (slice_get changes (length held)))
+weighed_past changes entries held past =
+    let none = none_past changes (length held) past in
+    sym (ap (λ (found : Option (Option Change)). held ++ listed (option_map (λ (change : Option Change). weighed_with change entries) found)) none ∙ append-nil held)
 
 module _ (schema : Schema) (constraints : List Constraint) (asked : Option ℕ) where
   abbrev all : List (Option Change)

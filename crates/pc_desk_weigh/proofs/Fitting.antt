@@ -1,10 +1,10 @@
 -- A constraint with a limit that it may get is a constraint.
-use Rattle.std.proofs.Common.{◌≡◌, ℕ, ◌+◌, ◌-◌, ◌≤◌, ◌==◌, nat_lt, Bool, true, false, List, [], ◌∷◌, ◌++◌, All, if◌then◌else◌, refl, arith}
+use Rattle.std.proofs.Common.{◌≡◌, ℕ, ◌+◌, ◌-◌, ◌≤◌, ◌==◌, nat_lt, Bool, true, false, [], ◌∷◌, ◌++◌, All, if◌then◌else◌, refl, arith}
 use Rattle.std.proofs.lemmas.Bool.Decides.{nat_tests}
 use Rattle.std.proofs.lemmas.List.Elements.{All-append, All-cons, All-nil}
 use Rattle.pc_model.specs.declared.constraint.Constraint.{Constraint}
 use Rattle.pc_model.specs.declared.schema.Schema.{Schema}
-use Rattle.pc_model.specs.Accepted.{IsNameFor, frequency_limit}
+use Rattle.pc_model.specs.Accepted.{frequency_limit}
 use Rattle.pc_model.specs.Boxes.{IsServable}
 use Rattle.pc_lang.specs.Canonical.{is_whole}
 use Rattle.pc_desk_weigh.specs.declared.change.Limit.{Limit}

@@ -1,10 +1,10 @@
 -- Constraints after a change are constraints.
-use Rattle.std.proofs.Common.{◌≡◌, ℕ, zero, suc, ◌+◌, ◌<◌, ◌==◌, Bool, true, false, List, [], ◌∷◌, ◌++◌, All, Option, flat_map, map, get_or, length, if◌then◌else◌, refl, sym, subst, ap, arith, eqb-true, ◌∙◌}
+use Rattle.std.proofs.Common.{◌≡◌, ℕ, zero, suc, ◌+◌, ◌<◌, ◌==◌, Bool, true, false, List, [], ◌∷◌, All, Option, flat_map, map, get_or, length, if◌then◌else◌, refl, sym, subst, ap, arith, eqb-true, ◌∙◌}
 use Rattle.std.specs.List.{enumerate_from}
 use Rattle.std.proofs.lemmas.List.Elements.{All-append, All-map, All-nil, All-weaker}
 use Rattle.pc_model.specs.declared.constraint.Constraint.{Constraint}
 use Rattle.pc_model.specs.declared.schema.Schema.{Schema}
-use Rattle.pc_model.specs.Accepted.{AreConstraints, IsNameFor, constraint_limit, frequency_limit}
+use Rattle.pc_model.specs.Accepted.{AreConstraints, IsNameFor}
 use Rattle.pc_desk_weigh.specs.declared.change.Change.{Change}
 use Rattle.pc_desk_weigh.specs.declared.change.Limit.{Limit}
 use Rattle.pc_desk_weigh.specs.declared.change.Limit.TheVariants.{Least, Most, Values}
@@ -107,8 +107,8 @@ module _ (P : Change → Type 0) (schema : Schema) (asked : Option ℕ) where
       All-append P (changes_if schema asked (n, x)) (flat_map (changes_if schema asked) (enumerate_from (n + 1) xs))
       (subst (λ (m : ℕ). All P (changes_if schema asked (m, x))) here (all 0 x (omega arith)))
       (each (n + 1) xs (λ k d inside.
-          let there : n + suc k ≡ n + 1 + k = omega arith in
-          subst (λ (m : ℕ). All P (changes_if schema asked (m, get_or xs k d))) there (all (suc k) d (omega (arith, inside)))))
+      let there : n + suc k ≡ n + 1 + k = omega arith in
+      subst (λ (m : ℕ). All P (changes_if schema asked (m, get_or xs k d))) there (all (suc k) d (omega (arith, inside)))))
 
 module _ (schema : Schema) (constraints : List Constraint) (asked : Option ℕ) (are : AreConstraints schema constraints) where
   abbrev Kept : Change → Type 0

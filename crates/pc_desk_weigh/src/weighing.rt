@@ -1,6 +1,6 @@
 //! What a question comes to under each change.
 ghost use Rattle.std.specs.Prelude.{◌≡◌, [], ◌∷◌, ◌++◌, ◌≤◌, IfOk, Some, length, map, option_map, slice_get};
-ghost use Rattle.pc_model.specs.WellFormed.{HaveFewNames, IsWellFormed};
+ghost use Rattle.pc_model.specs.WellFormed.{HaveFewNames};
 ghost use Rattle.pc_files.specs.Reads.{IsUsable};
 ghost use Rattle.pc_desk_answers.specs.Blocks.{asked_by, ground_of};
 ghost use Rattle.pc_desk_answers.specs.Questions.{IsQuestion};

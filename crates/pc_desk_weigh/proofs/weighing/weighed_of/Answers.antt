@@ -1,7 +1,5 @@
-use Rattle.std.proofs.Common.{◌≡◌, ◌∷◌, ◌++◌, [], length, append_assoc, append-nil, subst, ap, arith, rules, sym, ◌∙◌}
+use Rattle.std.proofs.Common.{◌≡◌, ◌∷◌, [], length, append_assoc, ap, arith, rules, ◌∙◌}
 use Rattle.std.specs.Vec.Iter.{into_iter_items}
-use Rattle.pc_desk_table.specs.declared.entry.Entry.{Entry}
-use Rattle.pc_desk_weigh.specs.Weighed.{weighed_of}
 use Rattle.pc_desk_weigh.proofs.AsAsked.{weighed_more, weighed_none}
 use Rattle.pc_desk_weigh.proofs.weighing.weighed_of.Goals as goal
 
