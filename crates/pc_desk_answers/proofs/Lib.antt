@@ -4,3 +4,4 @@ mod Dividing
 mod LeftRows
 mod Repeats
 pub mod Shown
+mod Under

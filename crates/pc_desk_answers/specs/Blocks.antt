@@ -127,6 +127,16 @@ Shows ground (quantile asked) entry = ShowsQuantile ground asked entry
 abbrev pub AreShown : Ground → List Asked → List Entry → Type 0
 AreShown ground wanted entries = AllZip (Shows ground) wanted entries
 
+-- ---- other constraints
+
+abbrev pub ground_under : Ground → List Constraint → Ground
+ground_under ground constraints = record ground { constraints = constraints }
+
+-- the entries of the same under each of several lists of constraints
+abbrev pub AreShownUnder : Ground → List Asked → List (List Constraint) → List (List Entry) → Type 0
+AreShownUnder ground wanted lists all =
+    AllZip (λ (constraints : List Constraint) (entries : List Entry). AreShown (ground_under ground constraints) wanted entries) lists all
+
 -- ---- the questions of a script
 
 -- what is asked, and of what

@@ -1,9 +1,10 @@
-ghost use Rattle.std.specs.Prelude.{◌≡◌, ◌≤◌, map, All, IfOk};
+ghost use Rattle.std.specs.Prelude.{◌≡◌, ◌≤◌, [], ◌∷◌, map, All, IfOk};
 ghost use Rattle.pc_model.specs.Accepted.{IsQuery};
 ghost use Rattle.pc_session.specs.Sessions.{IsSession, held_by};
 ghost use Rattle.pc_files.specs.Reads.{IsUsable};
+ghost use Rattle.pc_lang.specs.Quantiles.{IsQuantile};
 ghost use Rattle.pc_group.specs.Wanted.{wanted_by};
-ghost use Rattle.pc_desk_answers.specs.Blocks.{AreShown, IsGround, asked, asked_by, block, ground_held, ground_in, ground_of};
+ghost use Rattle.pc_desk_answers.specs.Blocks.{AreShown, IsGround, asked, asked_by, block, ground_held, ground_in, ground_of, quantile};
 ghost use Rattle.pc_desk_answers.specs.Divided.{AreDivided, AreTrees, IsDivided};
 ghost use Rattle.pc_desk_answers.specs.Questions.{IsQuestion};
 
@@ -13,6 +14,7 @@ use crate::trees::{Trees, trees_for};
 use pc_desk_table::Entry;
 use pc_files::Observed;
 use pc_group::{answer_seen, ask, folds_of};
+use pc_lang::Quantile;
 use pc_list::Seq;
 use pc_model::{Constraint, Query, Schema};
 use pc_num::Memory;
@@ -91,13 +93,24 @@ fn answer_one(
 {
     match question {
         Question::Plain(query) => answer_query(alloc, scope, query, trees),
-        Question::Share(asked) => {
-            let entry = quantile_entry(alloc, scope, asked)?;
-            let mut entries = Seq::new(alloc);
-            entries.push(entry)?;
-            Ok(entries)
-        }
+        Question::Share(asked) => answer_share(alloc, scope, asked),
     }
+}
+
+/// What is shown of a quantile, which is one entry.
+pub(crate) fn answer_share(
+    alloc: Global,
+    scope: &Scope<'_>,
+    asked: &Quantile,
+) -> Result<Seq<Entry>, Memory>
+    requires ground { IsGround (ground_in scope.now) }
+    requires asked { IsQuantile scope.now.schema.now asked.now }
+    ensures shown { IfOk result (AreShown (ground_in scope.now) (quantile asked.now ∷ [])) }
+{
+    let entry = quantile_entry(alloc, scope, asked)?;
+    let mut entries = Seq::new(alloc);
+    entries.push(entry)?;
+    Ok(entries)
 }
 
 fn answer_query(

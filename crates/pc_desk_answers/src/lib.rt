@@ -3,6 +3,7 @@
 
 mod answers;
 mod blocks;
+mod changes;
 mod entry;
 mod laws;
 mod question;
@@ -14,6 +15,7 @@ mod value;
 
 pub use answers::{answer_questions, ask_session};
 pub use blocks::{least_of, quantile_name, query_name};
+pub use changes::answer_under_each;
 pub use entry::group_of;
 pub use laws::left_is_the_aggregate;
 pub use question::{Question, read_questions};

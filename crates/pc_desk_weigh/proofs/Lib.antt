@@ -1,0 +1,5 @@
+mod AsAsked
+mod Fitting
+mod Keeping
+mod Places
+mod WholeSides
