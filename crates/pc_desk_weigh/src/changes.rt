@@ -1,7 +1,7 @@
 //! The changes that are weighed, and what constraints are after one.
 ghost use Rattle.std.specs.Prelude.{◌≡◌, ◌++◌, IfOk, map};
 ghost use Rattle.pc_model.specs.WellFormed.{HaveFewNames};
-ghost use Rattle.pc_desk_weigh.specs.Changes.{change_at, changed, changed_at, changes_at, changes_if, changes_of, is_asked_of, with_limit};
+ghost use Rattle.pc_desk_weigh.specs.Changes.{change_at, changed, changed_at, changes_if, changes_of, is_asked_of, with_limit};
 
 use crate::change::{Change, Limit};
 use crate::limits::limits_of;
