@@ -21,6 +21,8 @@ use Rattle.pc_desk_table.specs.declared.entry.Mark.TheVariants as marks
 use Rattle.pc_desk_table.specs.declared.entry.Range.{Range}
 use Rattle.pc_desk_table.specs.declared.entry.Repeated.{Repeated}
 use Rattle.pc_desk_table.specs.declared.entry.Value.{Value}
+use Rattle.pc_desk_answers.specs.declared.question.Question.{Question}
+use Rattle.pc_desk_answers.specs.declared.question.Question.TheVariants.{Plain, Share}
 use Rattle.pc_desk_answers.specs.declared.rounding.Rounding.{Rounding}
 use Rattle.pc_desk_answers.specs.declared.rounding.Rounding.TheVariants as roundings
 use Rattle.pc_desk_table.specs.Texts.{shown}
@@ -49,6 +51,11 @@ places_for aggs.Avg scale = 6
 
 abbrev pub places_of : Schema → Query → ℕ
 places_of schema query = places_for query.agg (scale_for schema query.column)
+
+-- .. of a question's; those of a quantile are of its column
+abbrev pub places_in : Schema → Question → ℕ
+places_in schema (Plain query) = places_of schema query
+places_in schema (Share asked) = scale_for schema (Some asked.column)
 
 abbrev pub within : ℤ → Option ℤ
 within number = if nat_le (unsigned_abs number) limit then Some number else None

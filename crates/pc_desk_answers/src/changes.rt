@@ -16,6 +16,7 @@ ghost use Rattle.pc_desk_answers.specs.Questions.{IsQuestion};
 use crate::answers::{Scope, answer_share};
 use crate::blocks::{block_entries, where_nothing_is_lost};
 use crate::question::Question;
+use crate::watch::Watch;
 use pc_cells::Shared;
 use pc_desk_table::Entry;
 use pc_files::Observed;
@@ -28,13 +29,15 @@ use pc_proof::Block;
 use std::alloc::Global;
 
 /// What is shown of the answers to a question under each of these lists of constraints, by searches of at most so many nodes
-/// each. One tree of cuts serves them all: it is cut on for each list before that is answered.
-pub fn answer_under_each<'x>(
+/// each. One tree of cuts serves them all: it is cut on for each list before that is answered. The watch is told of each list that is
+/// answered.
+pub fn answer_under_each<'x, W: Watch>(
     alloc: Global,
     observed: &'x Observed,
     question: &Question,
     lists: &'x [Seq<Constraint>],
     nodes: u32,
+    watch: &mut W,
 ) -> Result<Seq<Seq<Entry>>, Memory>
     requires usable { IsUsable observed.now }
     requires asked { IsQuestion observed.now.schema question.now }
@@ -50,16 +53,17 @@ pub fn answer_under_each<'x>(
         line: None,
     };
     match question {
-        Question::Plain(query) => query_under_each(alloc, &scope, query, lists),
-        Question::Share(asked) => share_under_each(alloc, &scope, asked, lists),
+        Question::Plain(query) => query_under_each(alloc, &scope, query, lists, watch),
+        Question::Share(asked) => share_under_each(alloc, &scope, asked, lists, watch),
     }
 }
 
-fn query_under_each<'x>(
+fn query_under_each<'x, W: Watch>(
     alloc: Global,
     scope: &Scope<'x>,
     query: &Query,
     lists: &'x [Seq<Constraint>],
+    watch: &mut W,
 ) -> Result<Seq<Seq<Entry>>, Memory>
     requires ground { IsGround (ground_in scope.now) }
     requires asked { IsQuery scope.now.schema.now query.now }
@@ -75,6 +79,7 @@ fn query_under_each<'x>(
         let blocks = left.blocks.as_slice();
         let entries = query_under(alloc, &under, query, folds.as_slice(), blocks, &mut shared)?;
         all.push(entries)?;
+        watch.saw(all.len(), lists.len());
     }
     Ok(Seq::from_vec(all))
 }
@@ -122,11 +127,12 @@ fn query_under(
     block_entries(alloc, scope, query, document.blocks.as_slice(), left)
 }
 
-fn share_under_each<'x>(
+fn share_under_each<'x, W: Watch>(
     alloc: Global,
     scope: &Scope<'x>,
     asked: &Quantile,
     lists: &'x [Seq<Constraint>],
+    watch: &mut W,
 ) -> Result<Seq<Seq<Entry>>, Memory>
     requires ground { IsGround (ground_in scope.now) }
     requires asked { IsQuantile scope.now.schema.now asked.now }
@@ -138,6 +144,7 @@ fn share_under_each<'x>(
         let under = scope_under(scope, list.as_slice());
         let entries = answer_share(alloc, &under, asked)?;
         all.push(entries)?;
+        watch.saw(all.len(), lists.len());
     }
     Ok(Seq::from_vec(all))
 }

@@ -1,11 +1,13 @@
 ghost use Rattle.std.specs.Prelude.{◌≡◌, ◌≤◌, ◌*◌, ◌^◌, ◌-◌, IfOk, IfSome, false, pos, unsigned_abs};
+ghost use Rattle.pc_model.specs.WellFormed.{IsWellFormed};
 ghost use Rattle.pc_num.specs.Put.{scaled_text};
 ghost use Rattle.pc_report.specs.RunLines.{HaveScales};
 ghost use Rattle.pc_report.specs.Units.{IsPrintable};
 ghost use Rattle.pc_desk_answers.specs.Rounded.{limit};
 ghost use Rattle.pc_desk_table.specs.Texts.{shown};
-ghost use Rattle.pc_desk_answers.specs.Values.{average_value, decimal_of, in_millionths, is_average, places_for, places_of, plain_value, printed, units_of, value_of, within};
+ghost use Rattle.pc_desk_answers.specs.Values.{average_value, decimal_of, in_millionths, is_average, places_for, places_in, places_of, plain_value, printed, units_of, value_of, within};
 
+use crate::question::Question;
 use crate::rounding::{LIMIT, Rounding, millionths_of};
 use pc_desk_table::{Value, shown};
 use pc_list::Text;
@@ -161,6 +163,19 @@ pub(crate) fn places_of(schema: &Schema, query: &Query) -> u8
         Agg::Count => 0,
         Agg::Sum | Agg::Min | Agg::Max => scale_for(schema, query.column),
         Agg::Avg => 6,
+    }
+}
+
+/// The decimals of a question's values.
+#[tactic(auto, using(pc_report::proofs::Scales::scales))]
+pub fn places_in(schema: &Schema, question: &Question) -> u8
+    requires well_formed { IsWellFormed schema.now }
+    ensures value { result ≡ places_in schema.now question.now }
+    ensures few { result ≤ 6 }
+{
+    match question {
+        Question::Plain(query) => places_of(schema, query),
+        Question::Share(asked) => scale_for(schema, Some(asked.column)),
     }
 }
 

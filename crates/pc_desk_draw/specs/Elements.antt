@@ -44,9 +44,9 @@ unfoldable pub observed_line : ℕ → ℕ → List ℕ
 observed_line x y = concat (codes "<rect x=\"" ∷ decimal x ∷ codes "\" y=\"" ∷ decimal y ∷ codes "\" width=\"2\" height=\"20\" fill=\"#d30\"/>\n" ∷ [])
 
 abbrev pub tone_text : Tone → List ℕ
-tone_text tones.Left = codes "#999\"/>\n"
-tone_text tones.Lost = codes "#48c\"/>\n"
-tone_text tones.Other = codes "#8be\"/>\n"
+tone_text tones.Grey = codes "#999\"/>\n"
+tone_text tones.Blue = codes "#48c\"/>\n"
+tone_text tones.Pale = codes "#8be\"/>\n"
 
 unfoldable pub segment_start : ℕ → ℕ → ℕ → List ℕ
 segment_start x y width =

@@ -6,6 +6,7 @@ pub mod Elements
 pub mod Escapes
 pub mod Laws
 pub mod Layouts
+pub mod Legends
 pub mod Names
 pub mod Numbers
 pub mod Pictures

@@ -6,13 +6,14 @@ use Rattle.pc_desk_draw.specs.declared.elements.Style.TheVariants as styles
 use Rattle.pc_desk_draw.specs.declared.layout.Layout.{Layout}
 use Rattle.pc_desk_draw.specs.declared.segment.BarPicture.{BarPicture}
 use Rattle.pc_desk_draw.specs.declared.segment.BarRow.{BarRow}
+use Rattle.pc_desk_draw.specs.declared.segment.Legend.{Legend}
 use Rattle.pc_desk_draw.specs.declared.segment.Segment.{Segment}
 use Rattle.pc_desk_draw.specs.declared.segment.Tone.{Tone}
-use Rattle.pc_desk_draw.specs.declared.segment.Tone.TheVariants as tones
 use Rattle.pc_desk_draw.specs.declared.size.Size.{Size}
 use Rattle.pc_desk_draw.specs.declared.span.Span.{Span}
 use Rattle.pc_desk_draw.specs.BarSizes.{bars_height, stacked}
 use Rattle.pc_desk_draw.specs.Elements.{segment, text_element}
+use Rattle.pc_desk_draw.specs.Legends.{legend_of_tones, with_legend}
 use Rattle.pc_desk_draw.specs.Pictures.{background, svg_start}
 use Rattle.pc_desk_draw.specs.Places.{place_of}
 use Rattle.pc_desk_draw.specs.Segments.{bars_layout, segment_span}
@@ -64,24 +65,11 @@ unfoldable pub bars_from : ℕ → List BarPicture → List ℕ
 bars_from top [] = []
 bars_from top (picture ∷ rest) = bars_part top picture ++ bars_from (top + bars_height picture) rest
 
-unfoldable pub legend_left : ℕ → List ℕ
-legend_left top =
-    segment 16 (top + 4) 14 tones.Left
-    ++ text_element 36 (top + 15) styles.Grey (codes "the rows that are left")
-
-unfoldable pub legend_lost : ℕ → List ℕ
-legend_lost top =
-    segment 228 (top + 4) 14 tones.Lost ++ text_element 248 (top + 15) styles.Grey (codes "lost rows")
-
--- what is what, at the bottom
-abbrev pub legend_of_tones : ℕ → List ℕ
-legend_of_tones top = legend_left top ++ legend_lost top
-
 -- the pictures begin below a margin, and the legend ends above one
-abbrev pub sized_bars : Size → List BarPicture → List ℕ
-sized_bars size pictures =
+abbrev pub sized_bars : Size → Legend → List BarPicture → List ℕ
+sized_bars size legend pictures =
     concat (svg_start size.width size.height ∷ background size.width size.height
-    ∷ bars_from 5 pictures ∷ legend_of_tones (size.height - 28) ∷ codes "</svg>\n" ∷ [])
+    ∷ bars_from 5 pictures ∷ legend_of_tones (size.height - 28) legend ∷ codes "</svg>\n" ∷ [])
 
-unfoldable pub bars_text : List BarPicture → List ℕ
-bars_text pictures = sized_bars (stacked least_size pictures) pictures
+unfoldable pub bars_text : Legend → List BarPicture → List ℕ
+bars_text legend pictures = sized_bars (with_legend legend (stacked least_size pictures)) legend pictures

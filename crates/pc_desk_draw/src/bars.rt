@@ -2,81 +2,52 @@ ghost use Rattle.std.specs.Prelude.{◌≡◌, ◌≤◌, ◌^◌, IfOk, IfSome}
 ghost use Rattle.std.specs.List.{All};
 ghost use Rattle.pc_desk_draw.specs.Axes.{IsSmall};
 ghost use Rattle.pc_desk_draw.specs.Segments.{HoldsRow};
-ghost use Rattle.pc_desk_draw.specs.Stacked.{bars_body, bars_from, bars_part, bars_text};
-ghost use Rattle.pc_desk_draw.specs.Stacked.{legend_left, legend_lost, legend_of_tones, sized_bars};
+ghost use Rattle.pc_desk_draw.specs.Stacked.{bars_body, bars_from, bars_part, bars_text, sized_bars};
 
 use crate::bar_size::{end_of, stacked};
-use crate::elements::{Style, segment, text_element};
+use crate::elements::{Style, text_element};
 use crate::grid::axis_above;
 use crate::layout::Layout;
+use crate::legend::{legend_of_tones, with_legend};
 use crate::picture::{background, svg_start};
-use crate::segment::{BarPicture, BarRow, Tone};
+use crate::segment::{BarPicture, BarRow, Legend};
 use crate::segments::bars_layout;
 use crate::size::Size;
 use crate::stacked::bar_rows;
 use pc_num::Memory;
 use std::alloc::Global;
 
-/// Bars as a picture: each with its title, an axis on which all its segments stand, and a row for each bar.
+/// Bars as a picture: each with its title, an axis on which all its segments stand, and a row for each bar; and what the tones
+/// stand for.
 #[tactic(auto, unfolding(crate::specs::Stacked::bars_text))]
-pub fn bars_picture(alloc: Global, pictures: &[BarPicture]) -> Result<Vec<u8>, Memory>
-    ensures text { IfOk result (λ text. text.items ≡ bars_text pictures.now) }
+pub fn bars_picture(
+    alloc: Global,
+    legend: &Legend,
+    pictures: &[BarPicture],
+) -> Result<Vec<u8>, Memory>
+    ensures text { IfOk result (λ text. text.items ≡ bars_text legend.now pictures.now) }
 {
-    let size = stacked(alloc, pictures)?;
-    sized_bars(alloc, size, pictures)
+    let size = with_legend(legend, stacked(alloc, pictures)?);
+    sized_bars(alloc, size, legend, pictures)
 }
 
-fn sized_bars(alloc: Global, size: Size, pictures: &[BarPicture]) -> Result<Vec<u8>, Memory>
+fn sized_bars(
+    alloc: Global,
+    size: Size,
+    legend: &Legend,
+    pictures: &[BarPicture],
+) -> Result<Vec<u8>, Memory>
     requires { size.height ≤ 2 ^ 79 }
-    ensures { IfOk result (λ text. text.items ≡ sized_bars size pictures.now) }
+    ensures { IfOk result (λ text. text.items ≡ sized_bars size legend.now pictures.now) }
 {
     let mut text = svg_start(alloc, size.width, size.height)?;
     let background = background(alloc, size.width, size.height)?;
     text.extend_from_slice(background.as_slice())?;
     let parts = bars_from(alloc, pictures)?;
     text.extend_from_slice(parts.as_slice())?;
-    let legend = legend_of_tones(alloc, size.height.saturating_sub(28))?;
-    text.extend_from_slice(legend.as_slice())?;
+    let words = legend_of_tones(alloc, size.height.saturating_sub(28), legend)?;
+    text.extend_from_slice(words.as_slice())?;
     text.extend_from_slice(b"</svg>\n".as_slice())?;
-    Ok(text)
-}
-
-// What is what, at the bottom.
-fn legend_of_tones(alloc: Global, top: u128) -> Result<Vec<u8>, Memory>
-    requires { top ≤ 2 ^ 81 }
-    ensures { IfOk result (λ text. text.items ≡ legend_of_tones top) }
-{
-    let mut text = legend_left(alloc, top)?;
-    let lost = legend_lost(alloc, top)?;
-    text.extend_from_slice(lost.as_slice())?;
-    Ok(text)
-}
-
-#[tactic(auto, unfolding(crate::specs::Stacked::legend_left))]
-fn legend_left(alloc: Global, top: u128) -> Result<Vec<u8>, Memory>
-    requires { top ≤ 2 ^ 81 }
-    ensures { IfOk result (λ text. text.items ≡ legend_left top) }
-{
-    let mut text = segment(alloc, 16, top + 4, 14, Tone::Left)?;
-    let words = text_element(
-        alloc,
-        36,
-        top + 15,
-        Style::Grey,
-        b"the rows that are left".as_slice(),
-    )?;
-    text.extend_from_slice(words.as_slice())?;
-    Ok(text)
-}
-
-#[tactic(auto, unfolding(crate::specs::Stacked::legend_lost))]
-fn legend_lost(alloc: Global, top: u128) -> Result<Vec<u8>, Memory>
-    requires { top ≤ 2 ^ 81 }
-    ensures { IfOk result (λ text. text.items ≡ legend_lost top) }
-{
-    let mut text = segment(alloc, 228, top + 4, 14, Tone::Lost)?;
-    let words = text_element(alloc, 248, top + 15, Style::Grey, b"lost rows".as_slice())?;
-    text.extend_from_slice(words.as_slice())?;
     Ok(text)
 }
 

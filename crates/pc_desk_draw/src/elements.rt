@@ -135,8 +135,8 @@ fn tone_text<'x>(tone: Tone) -> &'x [u8]
     ensures { result.now ≡ tone_text tone }
 {
     match tone {
-        Tone::Left => b"#999\"/>\n".as_slice(),
-        Tone::Lost => b"#48c\"/>\n".as_slice(),
-        Tone::Other => b"#8be\"/>\n".as_slice(),
+        Tone::Grey => b"#999\"/>\n".as_slice(),
+        Tone::Blue => b"#48c\"/>\n".as_slice(),
+        Tone::Pale => b"#8be\"/>\n".as_slice(),
     }
 }

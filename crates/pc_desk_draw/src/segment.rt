@@ -1,11 +1,19 @@
 use pc_list::{Seq, Text};
 
-/// How a segment is filled: what is left, or one of two tones for what is lost, so that neighbours differ.
+/// How a segment is filled.
 #[derive(Clone, Copy, Debug, PartialEq, Eq)]
 pub enum Tone {
-    Left,
-    Lost,
-    Other,
+    Grey,
+    Blue,
+    Pale,
+}
+
+/// What the tones stand for: a text for each, where the palest may have none.
+#[derive(Debug, Drop)]
+pub struct Legend {
+    pub grey: Text,
+    pub blue: Text,
+    pub pale: Option<Text>,
 }
 
 /// A piece of a bar: where it begins and where it ends, in millionths, in either order.

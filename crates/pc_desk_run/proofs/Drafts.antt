@@ -1,5 +1,5 @@
 -- What was read of a row file of which a schema is drafted.
-use Rattle.std.proofs.Common.{◌≡◌, ⊎_elim, inl, inr, ℕ, Bool, true, false, List, [], ◌∷◌, Option, Some, None, Result, Ok, Err, IfSome, IsOk, if◌then◌else◌, refl, ap, subst}
+use Rattle.std.proofs.Common.{◌≡◌, ⊎_elim, inl, inr, ℕ, Bool, true, false, List, [], ◌∷◌, Option, Some, None, Ok, Err, IfSome, IsOk, if◌then◌else◌, refl, ap, subst}
 use Rattle.std.specs.List.{list_all}
 use Rattle.csv.specs.Reading.{default_config, records, strip_bom}
 use Rattle.pc_model.specs.declared.fault.Fault.{Fault}
@@ -15,7 +15,7 @@ use Rattle.pc_files.specs.declared.kept.Kept.{Kept}
 use Rattle.pc_files.specs.declared.stop.Stop.{Stop}
 use Rattle.pc_files.specs.declared.stop.Stop.TheVariants as stops
 use Rattle.pc_files.specs.Keeping.{KeepsInVain}
-use Rattle.pc_files.specs.Loading.{Agrees, HasCause, IsLoaded, LoadsInVain, LoadsUntil, Reading, StopsAt}
+use Rattle.pc_files.specs.Loading.{Agrees, IsLoaded, LoadsInVain, LoadsUntil, Reading, StopsAt}
 use Rattle.pc_files.specs.Outcome.{found_after, found_in, mapped, refused, value_under}
 use Rattle.pc_files.proofs.FaultFiles.{IsOf, placed_of, table_of_file, then_of}
 use Rattle.pc_desk_schema.specs.Draft.{draft_over, drafted_of, drafted_under, is_field_of}

@@ -2,6 +2,7 @@ mod Drafts
 mod Explained
 mod FaultFiles
 mod Following
+mod ManyQuestions
 mod Noting
 mod Promises
 mod ReadInputs

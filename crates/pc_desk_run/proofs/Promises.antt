@@ -9,10 +9,11 @@ use Rattle.pc_desk_run.specs.declared.ended.Ended.{Ended}
 use Rattle.pc_desk_run.specs.declared.ended.Ended.TheVariants as ends
 use Rattle.pc_desk_run.specs.declared.reply.Reply.{Reply}
 use Rattle.pc_desk_run.specs.declared.reply.Reply.TheVariants as replies
+use Rattle.pc_desk_weigh.specs.declared.weighed.Weighed.{Weighed}
 use Rattle.pc_desk_why.specs.declared.explained.Explained.{Explained}
-use Rattle.pc_desk_run.specs.Endings.{has_impossible, is_impossible, is_open}
+use Rattle.pc_desk_run.specs.Endings.{has_impossible, is_impossible, is_open, stands_impossible}
 use Rattle.pc_desk_run.specs.Meaning.{AsksFor, Call, Delivers, HasAnswered, HasRefused, IsNoted, KeepsPromise}
-use Rattle.pc_desk_run.specs.Outcome.{Input, asks, drafts, explains, follows, limits, lists, tests, tries}
+use Rattle.pc_desk_run.specs.Outcome.{Input, asks, drafts, explains, follows, limits, lists, tests, tries, weighs}
 use Rattle.pc_desk_run.specs.Replies.{IsNoCall, IsSaid, RefusesAsked, RepliesTo, RepliesToNone, Responds}
 
 module _ (call : Call) where
@@ -32,6 +33,8 @@ module _ (call : Call) where
   said_keeps (follows form nodes scripted) ended text note said has = keeps_by (list_any is_impossible said.0) (list_any is_open said.0) ended said.2.0 has
   said_keeps (explains form nodes asking) ended text note said has =
       keeps_by (has_impossible said.0) (list_any (λ (told : Explained). told.open) said.0) ended said.6.0 has
+  said_keeps (weighs names asking) ended text note said has =
+      keeps_by (stands_impossible said.all) (list_any (λ (weighed : Weighed). list_any is_open weighed.entries) said.all) ended said.settled has
   said_keeps (tries form scale observed) ended text note said has = trial_keeps (is_kept (trial_of scale observed.constraints observed.rows)) ended said.0 has
   said_keeps (lists form listing) ended text note said has = keeps_by false false ended said.2.0 has
   said_keeps (limits limited) ended text note said has = keeps_by false false ended said.2.0 has

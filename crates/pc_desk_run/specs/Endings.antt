@@ -1,5 +1,5 @@
 -- How a run ends, by what it shows.
-use Rattle.std.specs.Prelude.{ℕ, ◌||◌, Bool, true, false, List, Option, Some, None, if◌then◌else◌}
+use Rattle.std.specs.Prelude.{ℕ, ◌||◌, Bool, true, false, List, [], ◌∷◌, Option, Some, None, if◌then◌else◌}
 use Rattle.std.specs.List.{list_any}
 use Rattle.pc_desk_table.specs.declared.entry.Entry.{Entry}
 use Rattle.pc_desk_table.specs.declared.entry.Mark.{Mark}
@@ -14,6 +14,7 @@ use Rattle.pc_desk_run.specs.declared.ended.Ended.TheVariants as ends
 use Rattle.pc_desk_schema.specs.Draft.{is_whole}
 use Rattle.pc_desk_schema.specs.declared.draft.Draft.{Draft}
 use Rattle.pc_desk_try.specs.declared.tried.Trial.{Trial}
+use Rattle.pc_desk_weigh.specs.declared.weighed.Weighed.{Weighed}
 use Rattle.pc_desk_why.specs.declared.explained.Explained.{Explained}
 use Rattle.pc_desk_why.specs.declared.explained.Found.{Found}
 use Rattle.pc_desk_why.specs.declared.explained.Found.TheVariants as founds
@@ -78,6 +79,16 @@ has_impossible all = list_any (λ (told : Explained). finds_impossible told.foun
 abbrev pub ended_of_reasons : List Explained → Ended
 ended_of_reasons all =
     if has_impossible all then ends.Impossible else (if list_any (λ (told : Explained). told.open) all then ends.Open else ends.Settled)
+
+-- no lost rows are possible as constraints stand; that a change would make them impossible is a finding
+abbrev pub stands_impossible : List Weighed → Bool
+stands_impossible [] = false
+stands_impossible (standing ∷ changes) = list_any is_impossible standing.entries
+
+abbrev pub ended_of_widths : List Weighed → Ended
+ended_of_widths all =
+    if stands_impossible all then ends.Impossible
+    else (if list_any (λ (weighed : Weighed). list_any is_open weighed.entries) all then ends.Open else ends.Settled)
 
 -- constraints that a table keeps are settled; where it breaks one something is to be looked at
 abbrev pub ended_of_trial : Trial → Ended

@@ -17,9 +17,9 @@ use Rattle.pc_files.specs.Outcome.{Found, listed_files, listing_in, observed_in}
 use Rattle.pc_files.specs.Reads.{IsLimited, IsScripted, IsShowable, IsUsable, ReadsLimited, ReadsScripted}
 use Rattle.pc_desk_answers.specs.Questions.{IsQuestion}
 use Rattle.pc_desk_schema.specs.declared.draft.Draft.{Draft}
-use Rattle.pc_desk_words.specs.Words.{Asked, DraftNames, FileNames, IsBudget, IsScale, LimitNames, SessionNames, TrialNames, ask, draft, limit, opens, session, sql, trial, why}
+use Rattle.pc_desk_words.specs.Words.{Asked, DraftNames, FileNames, IsBudget, IsScale, LimitNames, SessionNames, TrialNames, ask, draft, limit, opens, session, sql, trial, weigh, why}
 use Rattle.pc_desk_run.specs.declared.input.Asking.{Asking}
-use Rattle.pc_desk_run.specs.Outcome.{Input, asking_in, asks, data_files, drafted_for, drafts, explains, follows, limits, lists, tests, tries}
+use Rattle.pc_desk_run.specs.Outcome.{Input, asking_in, asks, data_files, drafted_for, drafts, explains, follows, limits, lists, tests, tries, weighs}
 use Rattle.pc_desk_run.specs.Texts.{Named, named_in}
 
 -- what answers need of what was read
@@ -31,6 +31,7 @@ abbrev pub IsSoundInput : Input → Type 0
 IsSoundInput (asks form nodes asking) = IsAsking asking × IsBudget nodes
 IsSoundInput (follows form nodes scripted) = IsScripted scripted × IsBudget nodes
 IsSoundInput (explains form nodes asking) = IsAsking asking × IsBudget nodes
+IsSoundInput (weighs names asking) = IsAsking asking × (length asking.questions ≡ 1) × IsBudget names.nodes
 IsSoundInput (tries form scale observed) = IsUsable observed × IsScale scale
 IsSoundInput (lists form listing) = IsShowable listing
 IsSoundInput (limits limited) = IsLimited limited
@@ -42,6 +43,7 @@ abbrev pub IsInputOf : Asked → Input → Type 0
 IsInputOf (ask names) (asks form nodes asking) = (form ≡ names.form) × (nodes ≡ names.nodes)
 IsInputOf (session names) (follows form nodes scripted) = (form ≡ names.form) × (nodes ≡ names.nodes)
 IsInputOf (why names) (explains form nodes asking) = (form ≡ names.form) × (nodes ≡ names.nodes)
+IsInputOf (weigh names) (weighs wish asking) = wish ≡ names
 IsInputOf (trial names) (tries form scale observed) = (form ≡ names.form) × (scale ≡ names.scale)
 IsInputOf (opens names) (lists form listing) = form ≡ names.form
 IsInputOf (limit names) (limits limited) = ⊤

@@ -7,7 +7,7 @@ use Rattle.pc_base.specs.Files.{Files}
 use Rattle.pc_desk_answers.specs.Questions.{questions_of}
 use Rattle.pc_desk_schema.specs.Draft.{drafted_of}
 use Rattle.pc_desk_schema.specs.declared.draft.Draft.{Draft}
-use Rattle.pc_desk_words.specs.Words.{AskNames, Asked, DraftNames, FileNames, OpensNames, SessionNames, SqlNames, TrialNames, WhyNames, ask, draft, limit, opens, session, sql, trial, why}
+use Rattle.pc_desk_words.specs.Words.{AskNames, Asked, DraftNames, FileNames, OpensNames, SessionNames, SqlNames, TrialNames, WeighNames, WhyNames, ask, draft, limit, opens, session, sql, trial, weigh, why}
 use Rattle.pc_desk_words.specs.declared.form.Form.{Form}
 use Rattle.pc_desk_words.specs.declared.form.SheetForm.{SheetForm}
 use Rattle.pc_desk_words.specs.declared.form.DrawnForm.{DrawnForm}
@@ -18,13 +18,14 @@ use Rattle.pc_files.specs.declared.reading.Scripted.{Scripted}
 use Rattle.pc_files.specs.Outcome.{Found, NamedFile, Obstacle, limit_files, limited_in, listed_files, listing_in, mapped, observed_files, observed_in, or_refused, outcome_of, script_files, scripted_in, value_under}
 use Rattle.pc_desk_run.specs.declared.input.Asking.{Asking}
 
--- What is asked, a script that is followed, or answers that are explained, by searches of at most so many nodes each; constraints that are held against the
--- rows, whose numbers are multiplied by so many millionths; constraints of which is asked what they open. Each with the form in
+-- What is asked, a script that is followed, answers that are explained, or changes of constraints that are weighed, by searches of at
+-- most so many nodes each; constraints that are held against the rows, whose numbers are multiplied by so many millionths; constraints of which is asked what they open. Each with the form in
 -- which it is shown. Or limits behind constraints; constraints that a table of this name is tested by; or a draft of a schema.
 pub data Input : Type 0 where
   asks : Form → ℕ → Asking → Input
   follows : Form → ℕ → Scripted → Input
   explains : DrawnForm → ℕ → Asking → Input
+  weighs : WeighNames → Asking → Input
   tries : SheetForm → ℕ → Observed → Input
   lists : SheetForm → Listing → Input
   limits : Limited → Input
@@ -38,6 +39,7 @@ data_files names = observed_files names.schema names.rows names.constraints
 abbrev pub files_of : Asked → List NamedFile
 files_of (ask names) = data_files names.files
 files_of (why names) = data_files names.files
+files_of (weigh names) = data_files names.files
 files_of (trial names) = data_files names.files
 files_of (opens names) = listed_files names.files.schema names.files.constraints
 files_of (session names) = script_files names.files.schema names.files.rows names.files.constraints names.script
@@ -62,6 +64,9 @@ follows_in names found = Ok (follows names.form names.nodes (scripted_in found))
 abbrev pub explains_in : WhyNames → Found → Result Input Obstacle
 explains_in names found = mapped (explains names.form names.nodes) (asking_in names.queries found)
 
+abbrev pub weighs_in : WeighNames → Found → Result Input Obstacle
+weighs_in names found = mapped (weighs names) (asking_in (names.query ∷ []) found)
+
 abbrev pub tries_in : TrialNames → Found → Result Input Obstacle
 tries_in names found = Ok (tries names.form names.scale (observed_in found))
 
@@ -83,6 +88,7 @@ abbrev pub comes_to : Asked → Files → Result Input Obstacle
 comes_to (ask names) shelf = outcome_of (files_of (ask names)) (asks_in names) shelf
 comes_to (session names) shelf = outcome_of (files_of (session names)) (follows_in names) shelf
 comes_to (why names) shelf = outcome_of (files_of (why names)) (explains_in names) shelf
+comes_to (weigh names) shelf = outcome_of (files_of (weigh names)) (weighs_in names) shelf
 comes_to (trial names) shelf = outcome_of (files_of (trial names)) (tries_in names) shelf
 comes_to (opens names) shelf = outcome_of (files_of (opens names)) (lists_in names) shelf
 comes_to (limit names) shelf = outcome_of (files_of (limit names)) limits_in shelf

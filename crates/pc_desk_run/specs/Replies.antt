@@ -1,5 +1,5 @@
 -- What is replied to words, by what the files hold.
-use Rattle.std.specs.Prelude.{◌≡◌, ◌⊎◌, ℕ, Bool, true, false, List, [], ◌++◌, drop, length, take, Some, None, Ok, Err}
+use Rattle.std.specs.Prelude.{◌≡◌, ◌⊎◌, ℕ, Bool, true, false, List, [], ◌∷◌, ◌++◌, drop, length, position, take, Option, Some, None, Ok, Err}
 use Rattle.pc_model.specs.declared.constraint.Constraint.{Constraint}
 use Rattle.pc_model.specs.declared.fault.Fault.{Fault}
 use Rattle.pc_model.specs.declared.fault.FileKind.{FileKind}
@@ -14,7 +14,9 @@ use Rattle.pc_files.specs.declared.reading.Observed.{Observed}
 use Rattle.pc_lang.specs.Canonical.{constraints_text}
 use Rattle.pc_schema.specs.Plain.{plain_text}
 use Rattle.pc_files.specs.Reads.{start_of}
-use Rattle.pc_desk_answers.specs.Blocks.{ArePosed, AreShown, asked, ground_of, posed_by}
+use Rattle.pc_desk_answers.specs.Blocks.{ArePosed, AreShown, asked, asked_by, ground_of, posed_by}
+use Rattle.pc_desk_answers.specs.Values.{places_in}
+use Rattle.pc_desk_answers.specs.declared.question.Question.{Question}
 use Rattle.pc_desk_limit.specs.declared.limiting.Limiting.{Limiting}
 use Rattle.pc_desk_limit.specs.declared.limiting.Limiting.TheVariants.{Outside, TooMany, Written}
 use Rattle.pc_desk_limit.specs.Limiting.{IsClosed, IsLimiting}
@@ -25,10 +27,13 @@ use Rattle.pc_desk_short.specs.Clashes.{IsClash}
 use Rattle.pc_desk_short.specs.declared.clash.Clash.{Clash}
 use Rattle.pc_desk_short.specs.declared.clash_line.ClashLine.{ClashLine}
 use Rattle.pc_desk_table.specs.declared.entry.Entry.{Entry}
+use Rattle.pc_desk_weigh.specs.Weighed.{AreWeighed}
+use Rattle.pc_desk_weigh.specs.declared.weighed.Weighed.{Weighed}
+use Rattle.pc_desk_widths.specs.Orders.{AreOrders}
 use Rattle.pc_desk_why.specs.Explained.{AreExplained}
 use Rattle.pc_desk_why.specs.declared.explained.Explained.{Explained}
 use Rattle.pc_desk_words.specs.declared.form.Form.{Form}
-use Rattle.pc_desk_words.specs.Words.{Asked, MayHelp, MayRefuse, asked_of}
+use Rattle.pc_desk_words.specs.Words.{Asked, MayHelp, MayRefuse, WeighNames, asked_of}
 use Rattle.pc_desk_run.specs.declared.ended.Ended.{Ended}
 use Rattle.pc_desk_run.specs.declared.ended.Ended.TheVariants as ends
 use Rattle.pc_desk_run.specs.declared.reply.Reply.{Reply}
@@ -41,10 +46,11 @@ use Rattle.pc_desk_try.specs.Shown.{sheet_of}
 use Rattle.pc_desk_try.specs.Trials.{trial_of}
 use Rattle.pc_desk_words.specs.declared.form.SheetForm.{SheetForm}
 use Rattle.pc_desk_words.specs.declared.form.DrawnForm.{DrawnForm}
-use Rattle.pc_desk_run.specs.Endings.{ended_of, ended_of_draft, ended_of_reasons, ended_of_trial, has_impossible}
+use Rattle.pc_desk_run.specs.Endings.{ended_of, ended_of_draft, ended_of_reasons, ended_of_trial, ended_of_widths, has_impossible}
+use Rattle.pc_desk_run.specs.declared.input.Asking.{Asking}
 use Rattle.pc_desk_run.specs.Inputs.{Explains, IsInputOf, IsSoundInput}
-use Rattle.pc_desk_run.specs.Outcome.{ComesTo, Input, asks, drafts, explains, files_of, follows, limits, lists, tests, tries}
-use Rattle.pc_desk_run.specs.Texts.{AreRefusedLines, IsNoteBeside, Named, named_in, no_column_lines, note_on, outside_lines, sheet_text, text_of, too_many_lines, unread_line, why_text}
+use Rattle.pc_desk_run.specs.Outcome.{ComesTo, Input, asks, drafts, explains, files_of, follows, limits, lists, tests, tries, weighs}
+use Rattle.pc_desk_run.specs.Texts.{AreRefusedLines, IsNoteBeside, Named, is_called, is_ordered, named_in, no_column_lines, no_constraint_lines, note_on, outside_lines, sheet_text, text_of, too_many_lines, unread_line, weigh_text, why_text}
 
 -- what a text is of, with a status and a note beside it
 abbrev pub Saying : Type 1
@@ -65,6 +71,26 @@ AreClashLines observed nodes true lines =
 abbrev pub AreReasonsShown : DrawnForm → List Constraint → List ClashLine → List Explained → List ℕ → Saying
 AreReasonsShown form constraints lines all note ended text said =
     (ended ≡ ended_of_reasons all) × (text ≡ why_text form constraints lines all) × (said ≡ note)
+
+-- the constraint whose changes are wanted: the first that the name calls, or all where no name is given
+abbrev pub IsWanted : Option (List ℕ) → List Constraint → Option ℕ → Type 0
+IsWanted None constraints wanted = wanted ≡ None
+IsWanted (Some name) constraints wanted = (place : ℕ) × (position (is_called name) constraints ≡ Some place) × (wanted ≡ Some place)
+
+-- .. of changes of one limit each: the answers to the question as constraints stand and under each change that is wanted, in their
+-- order
+pub record AreWidthsShown (names : WeighNames) (asking : Asking) (ended : Ended) (text note : List ℕ) : Type 0 where
+  pub question : Question
+  pub one : asking.questions ≡ question ∷ []
+  pub wanted : Option ℕ
+  pub named : IsWanted names.by asking.observed.constraints wanted
+  pub all : List Weighed
+  pub weighed : AreWeighed (ground_of asking.observed names.nodes) (asked_by asking.observed.schema question) wanted all
+  pub orders : List (List ℕ)
+  pub ordered : AreOrders (is_ordered names.form names.sorted) all orders
+  pub settled : ended ≡ ended_of_widths all
+  pub shown : text ≡ weigh_text names.form asking.observed.constraints (places_in asking.observed.schema question) all orders
+  pub beside : IsNoteBeside asking.observed.schema asking.observed.constraints note
 
 -- .. of a trial
 abbrev pub IsTrialShown : SheetForm → Trial → List ℕ → Saying
@@ -89,7 +115,8 @@ limits_of limited = drop limited.opening limited.all
 -- What is said of an input. Entries show answers to what is asked: each is right, by searches of at most so many nodes, and stands
 -- beside the answer to the same where nothing is lost; the note names constraints that open rows beside others that they cross. Of a
 -- script, which may add constraints, each has the number of its line in the file. What is explained is so of the answers that are owed,
--- and of constraints that are impossible a clash of them is told. A trial is that of the constraints over the rows; and each row that can be lost is in one of the classes that are shown. A
+-- and of constraints that are impossible a clash of them is told. A question is weighed as constraints stand and under each change of
+-- one limit of them. A trial is that of the constraints over the rows; and each row that can be lost is in one of the classes that are shown. A
 -- list that is written allows what its constraints allow as far as it meets the limits; a statement is that for the constraints, and
 -- a draft that of the file, with what is said of columns beside it.
 abbrev pub IsSaid : Input → Saying
@@ -103,6 +130,7 @@ IsSaid (explains form nodes asking) ended text note =
     × (lines : List ClashLine) × AreClashLines asking.observed nodes (has_impossible all) lines
     × (said : List ℕ) × IsNoteBeside asking.observed.schema asking.observed.constraints said
     × AreReasonsShown form asking.observed.constraints lines all said ended text note
+IsSaid (weighs names asking) ended text note = AreWidthsShown names asking ended text note
 IsSaid (tries form scale observed) ended text note =
     IsTrialShown form (trial_of scale observed.constraints observed.rows) (note_on observed.constraints) ended text note
 IsSaid (lists form listing) ended text note =
@@ -130,6 +158,9 @@ abbrev pub IsUnwritten : Named → Input → List ℕ → Type 0
 IsUnwritten named (limits limited) text =
     (limiting : Limiting) × IsLimiting limited.schema (opening_of limited) (limits_of limited) limiting × IsLimitRefusal named limited limiting text
 IsUnwritten named (drafts draft) text = (length draft.schema.columns ≡ 0) × (text ≡ no_column_lines named ++ remark_lines draft)
+IsUnwritten named (weighs names asking) text =
+    (name : List ℕ) × (names.by ≡ Some name) × (position (is_called name) asking.observed.constraints ≡ None)
+    × (text ≡ no_constraint_lines named asking.observed.constraints name)
 IsUnwritten named input text = ⊥
 
 -- the reply is what is said of an input, or why nothing is

@@ -1,7 +1,9 @@
 -- The texts that a run writes.
-use Rattle.std.specs.Prelude.{◌≡◌, ℕ, ◌-◌, ◌==◌, ◌||◌, Bool, true, false, List, [], ◌∷◌, ◌++◌, codes, decimal, get_or, length, map, nat_lt, if◌then◌else◌}
+use Rattle.std.specs.Prelude.{◌≡◌, ℕ, ◌-◌, ◌==◌, ◌||◌, Bool, bytes_eq, true, false, List, [], ◌∷◌, ◌++◌, codes, decimal, get_or, length, map, nat_lt, if◌then◌else◌}
 use Rattle.std.specs.List.{concat}
 use Rattle.pc_model.specs.declared.constraint.Constraint.{Constraint}
+use Rattle.pc_model.specs.declared.constraint.When.{When}
+use Rattle.pc_model.specs.declared.constraint.When.TheVariants.{Boxes, Outside}
 use Rattle.pc_model.specs.declared.fault.Fault.{Fault}
 use Rattle.pc_model.specs.declared.fault.FileKind.{FileKind}
 use Rattle.pc_model.specs.declared.fault.FileKind.TheVariants as kinds
@@ -22,7 +24,7 @@ use Rattle.pc_desk_table.specs.Table.{table_text}
 use Rattle.pc_desk_try.specs.Beside.{AreBeside}
 use Rattle.pc_desk_try.specs.Written.{written_name}
 use Rattle.pc_desk_words.specs.Calls.{file_names}
-use Rattle.pc_desk_words.specs.Words.{Asked, FileNames, ask, draft, limit, opens, session, sql, trial, why, with_files}
+use Rattle.pc_desk_words.specs.Words.{Asked, FileNames, ask, draft, limit, opens, session, sql, trial, weigh, why, with_files}
 use Rattle.pc_desk_words.specs.declared.form.Form.{Form}
 use Rattle.pc_desk_words.specs.declared.form.Form.TheVariants as forms
 use Rattle.pc_desk_words.specs.declared.form.SheetForm.{SheetForm}
@@ -31,8 +33,12 @@ use Rattle.pc_desk_words.specs.declared.form.DrawnForm.{DrawnForm}
 use Rattle.pc_desk_words.specs.declared.form.DrawnForm.TheVariants as drawn_forms
 use Rattle.pc_desk_short.specs.declared.clash_line.ClashLine.{ClashLine}
 use Rattle.pc_desk_why.specs.declared.explained.Explained.{Explained}
-use Rattle.pc_desk_why.specs.Bars.{why_bars}
+use Rattle.pc_desk_why.specs.Bars.{why_bars, why_legend}
 use Rattle.pc_desk_why.specs.Shown.{why_sheet}
+use Rattle.pc_desk_records.specs.Shown.{choice_text, shown}
+use Rattle.pc_desk_weigh.specs.declared.weighed.Weighed.{Weighed}
+use Rattle.pc_desk_widths.specs.Shown.{weigh_sheet}
+use Rattle.pc_desk_widths.specs.Tornado.{tornado, tornado_legend}
 use Rattle.pc_desk_run.specs.declared.line.Sources.{Sources}
 
 -- what is shown, in a form
@@ -53,7 +59,24 @@ abbrev pub why_text : DrawnForm → List Constraint → List ClashLine → List 
 why_text drawn_forms.Text constraints lines all = sheet_lines (why_sheet constraints lines all)
 why_text drawn_forms.Table constraints lines all = sheet_table (why_sheet constraints lines all)
 why_text drawn_forms.Json constraints lines all = sheet_json (why_sheet constraints lines all)
-why_text drawn_forms.Picture constraints lines all = bars_text (why_bars constraints lines all)
+why_text drawn_forms.Picture constraints lines all = bars_text why_legend (why_bars constraints lines all)
+
+-- what changes of constraints do to a range
+abbrev pub weigh_text : DrawnForm → List Constraint → ℕ → List Weighed → List (List ℕ) → List ℕ
+weigh_text drawn_forms.Text constraints places all orders = sheet_lines (weigh_sheet constraints places all orders)
+weigh_text drawn_forms.Table constraints places all orders = sheet_table (weigh_sheet constraints places all orders)
+weigh_text drawn_forms.Json constraints places all orders = sheet_json (weigh_sheet constraints places all orders)
+weigh_text drawn_forms.Picture constraints places all orders = bars_text tornado_legend (tornado constraints places all orders)
+
+-- in a picture what moves the range most stands on top
+abbrev pub is_picture : DrawnForm → Bool
+is_picture drawn_forms.Text = false
+is_picture drawn_forms.Table = false
+is_picture drawn_forms.Json = false
+is_picture drawn_forms.Picture = true
+
+abbrev pub is_ordered : DrawnForm → Bool → Bool
+is_ordered form sorted = sorted || is_picture form
 
 -- ---- why nothing is shown
 
@@ -71,6 +94,7 @@ abbrev pub named_in : Asked → Named
 named_in (ask names) = record (named_files names.files) { queries = names.queries }
 named_in (session names) = record (named_files names.files) { script = names.script }
 named_in (why names) = record (named_files names.files) { queries = names.queries }
+named_in (weigh names) = record (named_files names.files) { queries = names.query ∷ [] }
 named_in (trial names) = named_files names.files
 named_in (opens names) = named_files names.files
 named_in (limit names) = record (named_files names.files) { limits = names.limits }
@@ -145,6 +169,35 @@ too_many_lines named lines =
 
 abbrev pub no_column_lines : Named → List ℕ
 no_column_lines named = concat (codes "schema refused: no column fits" ∷ line_break ∷ codes "  " ∷ named.files.rows ∷ line_break ∷ [])
+
+-- what calls a constraint: its name, or `outside`
+abbrev pub called_by : When → List ℕ → List ℕ
+called_by (Boxes area) name = name
+called_by Outside name = codes "outside"
+
+abbrev pub called_as : Constraint → List ℕ
+called_as c = called_by c.when c.name
+
+abbrev pub is_called : List ℕ → Constraint → Bool
+is_called name c = bytes_eq (called_as c) name
+
+abbrev pub called_in : List Constraint → List (List ℕ)
+called_in constraints = map called_as constraints
+
+-- the names of constraints, and which of them is nearest to a name
+abbrev pub constraints_near : List Constraint → List ℕ → List ℕ
+constraints_near constraints name =
+    if length constraints == 0 then codes "none" else choice_text (codes " constraints") name (called_in constraints)
+
+unfoldable pub uncalled_line : List ℕ → List ℕ
+uncalled_line name = concat (codes "words refused: no constraint is called " ∷ shown name ∷ line_break ∷ [])
+
+unfoldable pub names_line : Named → List Constraint → List ℕ → List ℕ
+names_line named constraints name =
+    concat (codes "  " ∷ named.files.constraints ∷ codes ": the file has " ∷ constraints_near constraints name ∷ line_break ∷ [])
+
+abbrev pub no_constraint_lines : Named → List Constraint → List ℕ → List ℕ
+no_constraint_lines named constraints name = uncalled_line name ++ names_line named constraints name
 
 -- ---- what is said beside
 

@@ -1,13 +1,16 @@
 ghost use Rattle.std.specs.Prelude.{◌≡◌, ◌≤◌, All, IfOk};
-ghost use Rattle.pc_desk_run.specs.Texts.{sheet_text, text_of, why_text};
+ghost use Rattle.pc_desk_run.specs.Texts.{sheet_text, text_of, weigh_text, why_text};
 
 use pc_desk_draw::{bars_picture, chart_of, picture_of};
 use pc_desk_short::ClashLine;
 use pc_desk_table::{
     Entry, Sheet, json_of, lines_of, sheet_json, sheet_lines, sheet_table, table_of,
 };
-use pc_desk_why::{Explained, why_bars, why_sheet};
+use pc_desk_weigh::Weighed;
+use pc_desk_why::{Explained, why_bars, why_legend, why_sheet};
+use pc_desk_widths::{tornado, tornado_legend, weigh_sheet};
 use pc_desk_words::{DrawnForm, Form, SheetForm};
+use pc_list::Seq;
 use pc_model::Constraint;
 use pc_num::Memory;
 use std::alloc::Global;
@@ -52,8 +55,34 @@ pub(crate) fn why_text(
         DrawnForm::Table => sheet_table(alloc, &why_sheet(alloc, constraints, lines, all)?),
         DrawnForm::Json => sheet_json(alloc, &why_sheet(alloc, constraints, lines, all)?),
         DrawnForm::Picture => {
+            let legend = why_legend(alloc)?;
             let bars = why_bars(alloc, constraints, lines, all)?;
-            bars_picture(alloc, bars.as_slice())
+            bars_picture(alloc, &legend, bars.as_slice())
         }
+    }
+}
+
+/// The text of what changes of constraints do to a range, in a form.
+pub(crate) fn weigh_text(
+    alloc: Global,
+    form: DrawnForm,
+    constraints: &[Constraint],
+    places: u8,
+    all: &[Weighed],
+    orders: &[Seq<usize>],
+) -> Result<Vec<u8>, Memory>
+    requires { places ≤ 6 }
+    ensures { IfOk result (λ text. text.items ≡ weigh_text form constraints.now places all.now orders.now) }
+{
+    if form == DrawnForm::Picture {
+        let legend = tornado_legend(alloc)?;
+        let bars = tornado(alloc, constraints, places, all, orders)?;
+        return bars_picture(alloc, &legend, bars.as_slice());
+    }
+    let sheet = weigh_sheet(alloc, constraints, places, all, orders)?;
+    match form {
+        DrawnForm::Table => sheet_table(alloc, &sheet),
+        DrawnForm::Json => sheet_json(alloc, &sheet),
+        _ => sheet_lines(alloc, &sheet),
     }
 }

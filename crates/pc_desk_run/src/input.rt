@@ -28,7 +28,7 @@ pub(crate) struct Asking {
     pub questions: Seq<Question>,
 }
 
-/// Reads the files of `ask` or of `why`, and then its queries.
+/// Reads the files of `ask`, of `why` or of `weigh`, and then the queries.
 pub(crate) fn read_asking<F: Shelf>(
     alloc: Global,
     files: &mut F,
@@ -37,6 +37,7 @@ pub(crate) fn read_asking<F: Shelf>(
 ) -> Result<Asking, Stop>
     ensures read { ReadsAsking (reading_of F.told F.leads files.old files.new) (named_of sources.now) result }
     ensures sound { IfOk result IsAsking }
+    ensures many { IfOk result (λ asking. length asking.questions ≡ length (named_of sources.now).queries) }
     ensures kept { KeptFrom (F.told files.old).files (names_in (named_of sources.now)) kept.new result }
 {
     let names = sources.files;

@@ -12,7 +12,9 @@ mod run;
 mod session;
 mod settled;
 mod unwritten;
+mod weighs;
 mod written;
 
 pub use ended::Ended;
+pub use pc_desk_answers::{Unwatched, Watch};
 pub use run::desk;

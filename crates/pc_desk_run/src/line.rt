@@ -34,7 +34,8 @@ pub(crate) fn sources_of_why<'a>(why: &'a Why<'a>) -> Sources<'a>
     sources_of_queries(why.files, why.queries.as_slice())
 }
 
-fn sources_of_queries<'a>(files: Files<'a>, queries: &'a [&'a str]) -> Sources<'a>
+/// Files and queries.
+pub(crate) fn sources_of_queries<'a>(files: Files<'a>, queries: &'a [&'a str]) -> Sources<'a>
     ensures { named_of result ≡ record (named_files (file_names files.entry)) { queries = map (λ text. text.now) queries.now } }
 {
     Sources {

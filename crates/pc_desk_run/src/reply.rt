@@ -21,9 +21,10 @@ use crate::note::{note_beside, note_on};
 use crate::reasons::reply_to_why;
 use crate::session::follow_script;
 use crate::settled::{ended_of, ended_of_trial};
+use crate::weighs::reply_to_weigh;
 use crate::written::{reply_to_draft, reply_to_limit, reply_to_sql};
 use pc_base::Shelf;
-use pc_desk_answers::answer_questions;
+use pc_desk_answers::{Watch, answer_questions};
 use pc_desk_table::Entry;
 use pc_desk_try::{openings, openings_sheet, sheet_of, try_rows};
 use pc_desk_words::{Ask, Call, Form, Opens, Session, SheetForm, Trial, read_call};
@@ -47,10 +48,11 @@ pub(crate) enum Reply {
 }
 
 /// The reply to any words.
-pub(crate) fn respond<F: Shelf>(
+pub(crate) fn respond<F: Shelf, W: Watch>(
     alloc: Global,
     words: &[String],
     files: &mut F,
+    watch: &mut W,
 ) -> Result<Reply, Memory>
     ensures responds { IfOk result (Responds (reading_of F.told F.leads files.old files.new) (map string_bytes words.now)) }
 {
@@ -59,6 +61,7 @@ pub(crate) fn respond<F: Shelf>(
         Call::Ask(ask) => reply_to_ask(alloc, files, &ask),
         Call::Session(session) => reply_to_session(alloc, files, &session),
         Call::Why(why) => reply_to_why(alloc, files, &why),
+        Call::Weigh(wish) => reply_to_weigh(alloc, files, &wish, watch),
         Call::Trial(trial) => reply_to_trial(alloc, files, &trial),
         Call::Opens(opens) => reply_to_opens(alloc, files, &opens),
         Call::Limit(limit) => reply_to_limit(alloc, files, &limit),

@@ -7,21 +7,23 @@ ghost use Rattle.pc_desk_run.specs.Meaning.{Delivers, IsNoted, KeepsPromise, cal
 use crate::ended::Ended;
 use crate::reply::{Reply, respond};
 use pc_base::{Put, Shelf, Sink};
+use pc_desk_answers::Watch;
 use pc_files::put_text;
 use std::alloc::Global;
 
 /// Does what the words ask: loads the files, each at most once, and writes what was asked for to `out` by one put, or says to
-/// `notes` why not.
-pub fn desk<F: Shelf, K: Sink, N: Sink>(
+/// `notes` why not. The watch is told how far a run has come that gives many answers.
+pub fn desk<F: Shelf, K: Sink, N: Sink, W: Watch>(
     alloc: Global,
     words: &[String],
     files: &mut F,
     out: &mut K,
     notes: &mut N,
+    watch: &mut W,
 ) -> Ended
     ensures promise { KeepsPromise (call_of (map string_bytes words.now) (reading_of F.told F.leads files.old files.new) (writing_of K.told out.old out.new) (writing_of N.told notes.old notes.new)) result }
 {
-    match respond(alloc, words, files) {
+    match respond(alloc, words, files, watch) {
         Ok(reply) => deliver(&reply, out, notes),
         Err(_) => out_of_memory(notes),
     }

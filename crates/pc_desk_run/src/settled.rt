@@ -1,11 +1,12 @@
 ghost use Rattle.std.specs.Prelude.{◌≡◌};
 ghost use Rattle.std.specs.List.{list_any};
-ghost use Rattle.pc_desk_run.specs.Endings.{ended_of, ended_of_draft, ended_of_reasons, ended_of_trial, finds_impossible, has_impossible, has_outer, is_impossible, is_open, is_outer};
+ghost use Rattle.pc_desk_run.specs.Endings.{ended_of, ended_of_draft, ended_of_reasons, ended_of_trial, ended_of_widths, finds_impossible, has_impossible, has_outer, is_impossible, is_open, is_outer, stands_impossible};
 
 use crate::ended::Ended;
 use pc_desk_schema::Draft;
 use pc_desk_table::{End, Entry, Mark, Range, Said, SaidLack};
 use pc_desk_try::Trial;
+use pc_desk_weigh::Weighed;
 use pc_desk_why::{Explained, Found};
 
 /// How much of what is shown is settled.
@@ -51,6 +52,36 @@ fn has_open_reason(all: &[Explained]) -> bool
     ensures { result ≡ list_any (λ told. told.open) all.now }
 {
     all.iter().any(|told| told.open)
+}
+
+/// How much of what is weighed is settled.
+pub(crate) fn ended_of_widths(all: &[Weighed]) -> Ended
+    ensures ended { result ≡ ended_of_widths all.now }
+{
+    if stands_impossible(all) {
+        return Ended::Impossible;
+    }
+    if has_open_change(all) {
+        return Ended::Open;
+    }
+    Ended::Settled
+}
+
+// As constraints stand; that a change would make them impossible is a finding.
+fn stands_impossible(all: &[Weighed]) -> bool
+    ensures { result ≡ stands_impossible all.now }
+{
+    match all.first() {
+        Some(standing) => has_impossible_entry(standing.entries.as_slice()),
+        None => false,
+    }
+}
+
+fn has_open_change(all: &[Weighed]) -> bool
+    ensures { result ≡ list_any (λ weighed. list_any is_open weighed.entries) all.now }
+{
+    all.iter()
+        .any(|weighed| has_open(weighed.entries.as_slice()))
 }
 
 /// Whether a table keeps constraints.

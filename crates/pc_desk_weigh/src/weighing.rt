@@ -10,7 +10,7 @@ ghost use Rattle.pc_desk_weigh.specs.Weighed.{AreWeighed, all_changes, constrain
 use crate::change::Change;
 use crate::changes::{changed, changes_of};
 use crate::weighed::Weighed;
-use pc_desk_answers::{Question, answer_under_each};
+use pc_desk_answers::{Question, Watch, answer_under_each};
 use pc_desk_table::Entry;
 use pc_files::Observed;
 use pc_list::Seq;
@@ -19,14 +19,16 @@ use pc_num::Memory;
 use pc_session::copies_of;
 use std::alloc::Global;
 
-/// What a question comes to as constraints stand, and under each change of one limit of them, or of the one at a place.
+/// What a question comes to as constraints stand, and under each change of one limit of them, or of the one at a place. The watch is
+/// told of each that is answered.
 #[tactic(auto, using(pc_model::proofs::FewNames::have_few_names))]
-pub fn weigh(
+pub fn weigh<W: Watch>(
     alloc: Global,
     observed: &Observed,
     question: &Question,
     asked: Option<usize>,
     nodes: u32,
+    watch: &mut W,
 ) -> Result<Seq<Weighed>, Memory>
     requires usable { IsUsable observed.now }
     requires asked { IsQuestion observed.now.schema question.now }
@@ -37,7 +39,7 @@ pub fn weigh(
     let constraints = observed.constraints.as_slice();
     let changes = all_changes(alloc, schema, constraints, asked)?;
     let lists = constraints_under_each(alloc, schema, constraints, changes.as_slice())?;
-    let answers = answer_under_each(alloc, observed, question, lists.as_slice(), nodes)?;
+    let answers = answer_under_each(alloc, observed, question, lists.as_slice(), nodes, watch)?;
     weighed_of(alloc, changes.as_slice(), answers)
 }
 

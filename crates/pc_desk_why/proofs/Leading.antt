@@ -1,11 +1,9 @@
 -- The segments of an end's parts begin at 0, follow one another and end at what all parts add.
-use Rattle.std.proofs.Common.{◌≡◌, ◌∙◌, ℕ, ◌+◌, ◌-◌, ◌^◌, ◌&&◌, ℤ, pos, ◌+ℤ◌, ◌*ℤ◌, Bool, true≢false, List, [], ◌∷◌, ◌++◌, Option, Some, None, IsSome, flat_map, if◌then◌else◌, arith, refl, sym, ap, subst}
+use Rattle.std.proofs.Common.{◌≡◌, ℕ, ◌+◌, ◌-◌, ◌^◌, ◌&&◌, ℤ, pos, ◌+ℤ◌, ◌*ℤ◌, Bool, true≢false, List, [], ◌∷◌, ◌++◌, Option, Some, None, IsSome, if◌then◌else◌, arith, refl, sym, ap, subst}
 use Rattle.std.proofs.lemmas.Int.{ints}
 use Rattle.std.proofs.lemmas.Option.{cond_some}
 use Rattle.pc_model.specs.declared.constraint.Constraint.{Constraint}
-use Rattle.pc_desk_draw.specs.declared.segment.BarRow.{BarRow}
 use Rattle.pc_desk_draw.specs.declared.segment.Segment.{Segment}
-use Rattle.pc_desk_parts.specs.declared.part.Adds.{Adds}
 use Rattle.pc_desk_parts.specs.declared.part.Part.{Part}
 use Rattle.pc_desk_parts.specs.Sums.{amount_of, amounts}
 use Rattle.pc_desk_why.specs.Bars.{Lead, all_segments, is_drawn, millionths, part_row, part_rows, segments_between, tone_of, total_after, total_of, total_with}

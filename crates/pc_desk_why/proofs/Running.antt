@@ -1,5 +1,5 @@
 -- The total of parts so far, and of those that are left; and what segments between totals say.
-use Rattle.std.proofs.Common.{◌≡◌, ◌∙◌, ℕ, ◌+◌, ◌<◌, ◌≤◌, ℤ, List, [], ◌∷◌, ◌++◌, length, get_or, drop, Option, refl}
+use Rattle.std.proofs.Common.{◌≡◌, ℕ, ◌+◌, ◌<◌, ◌≤◌, ℤ, List, length, get_or, drop, Option, refl}
 use Rattle.std.proofs.lemmas.List.{drop_all, drop_more}
 use Rattle.pc_desk_parts.specs.declared.part.Part.{Part}
 use Rattle.pc_desk_why.specs.Bars.{total_after, total_of}

@@ -1,9 +1,10 @@
 -- The bars of explanations: a row for each end, and below it one for each part.
-use Rattle.std.specs.Prelude.{◌≡◌, ℕ, ◌+◌, ◌-◌, ◌^◌, ◌%◌, ◌==◌, ◌&&◌, ℤ, pos, ◌+ℤ◌, ◌*ℤ◌, nat_le, unsigned_abs, Bool, true, false, List, [], ◌∷◌, ◌++◌, codes, decimal, flat_map, map, Option, Some, None, if◌then◌else◌}
+use Rattle.std.specs.Prelude.{◌≡◌, ℕ, ◌+◌, ◌-◌, ◌^◌, ◌%◌, ◌==◌, ◌&&◌, ℤ, pos, ◌+ℤ◌, ◌*ℤ◌, nat_le, unsigned_abs, Bool, List, [], ◌∷◌, ◌++◌, codes, decimal, flat_map, map, Option, Some, None, if◌then◌else◌}
 use Rattle.std.specs.List.{concat}
 use Rattle.pc_model.specs.declared.constraint.Constraint.{Constraint}
 use Rattle.pc_desk_draw.specs.declared.segment.BarPicture.{BarPicture}
 use Rattle.pc_desk_draw.specs.declared.segment.BarRow.{BarRow}
+use Rattle.pc_desk_draw.specs.declared.segment.Legend.{Legend}
 use Rattle.pc_desk_draw.specs.declared.segment.Segment.{Segment}
 use Rattle.pc_desk_draw.specs.declared.segment.Tone.{Tone}
 use Rattle.pc_desk_draw.specs.declared.segment.Tone.TheVariants as tones
@@ -80,8 +81,8 @@ millionths places number = number *ℤ pos (10 ^ (6 - places))
 
 -- neighbours differ
 abbrev pub tone_of : ℕ → Option (List ℕ) → Tone
-tone_of place None = tones.Left
-tone_of place (Some under) = if place % 2 == 0 then tones.Other else tones.Lost
+tone_of place None = tones.Grey
+tone_of place (Some under) = if place % 2 == 0 then tones.Pale else tones.Blue
 
 abbrev pub segment_between : ℕ → Tone → ℤ → ℤ → Segment
 segment_between places tone before after = record { from = millionths places before; to = millionths places after; tone = tone }
@@ -156,6 +157,10 @@ picture_of constraints lines told =
 -- of each answer one picture
 abbrev pub why_bars : List Constraint → List ClashLine → List Explained → List BarPicture
 why_bars constraints lines all = map (picture_of constraints lines) all
+
+-- lost rows have two tones, so that neighbours differ
+abbrev pub why_legend : Legend
+why_legend = record { grey = codes "the rows that are left"; blue = codes "lost rows"; pale = None }
 
 -- ---- what segments say
 

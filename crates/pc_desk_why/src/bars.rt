@@ -1,12 +1,12 @@
 //! The bars of explanations.
 ghost use Rattle.std.specs.Prelude.{◌≡◌, ◌≤◌, ◌++◌, [], ◌∷◌, decimal, All, IfOk, OnOk, map};
 ghost use Rattle.pc_desk_table.specs.Texts.{shown};
-ghost use Rattle.pc_desk_why.specs.Bars.{added_text, all_segments, end_row, end_rows, for_group, found_rows, line_row, part_words, picture_of, rows_of_parts, rows_word, said_row, title_bytes, total_text, under_words, value_words, why_bars};
+ghost use Rattle.pc_desk_why.specs.Bars.{added_text, all_segments, end_row, end_rows, for_group, found_rows, line_row, part_words, picture_of, rows_of_parts, rows_word, said_row, title_bytes, total_text, under_words, value_words, why_bars, why_legend};
 
 use crate::explained::{Explained, Found, MadeEnd};
 use crate::texts::{names_text, number_text, stand_word};
 use crate::totals::{segments_between, start_of, tone_of, total_after, total_of};
-use pc_desk_draw::{BarPicture, BarRow, Segment};
+use pc_desk_draw::{BarPicture, BarRow, Legend, Segment};
 use pc_desk_parts::{Adds, Part};
 use pc_desk_short::ClashLine;
 use pc_desk_table::shown;
@@ -14,6 +14,17 @@ use pc_list::{Seq, Text};
 use pc_model::Constraint;
 use pc_num::Memory;
 use std::alloc::Global;
+
+/// What the tones of the bars stand for.
+pub fn why_legend(alloc: Global) -> Result<Legend, Memory>
+    ensures { IfOk result (λ legend. legend ≡ why_legend) }
+{
+    Ok(Legend {
+        grey: Text::from_text(alloc, "the rows that are left")?,
+        blue: Text::from_text(alloc, "lost rows")?,
+        pale: None,
+    })
+}
 
 /// The bars of explanations: of each answer a picture, with a row for each end and below it one for each part. The lines are those
 /// on constraints that are impossible.

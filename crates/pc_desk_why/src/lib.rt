@@ -13,7 +13,7 @@ mod sheet;
 mod texts;
 mod totals;
 
-pub use bars::why_bars;
+pub use bars::{why_bars, why_legend};
 pub use explained::{Explained, Found, MadeEnd};
 pub use explaining::explain;
 pub use laws::{explained_ends_add_up, explanations_are_read_back, segments_lead_to_the_end};

@@ -83,12 +83,12 @@ pub(crate) fn tone_of(place: usize, under: &Option<Seq<usize>>) -> Tone
     ensures { result ≡ tone_of place under.now }
 {
     if under.is_none() {
-        return Tone::Left;
+        return Tone::Grey;
     }
     if place % 2 == 0 {
-        return Tone::Other;
+        return Tone::Pale;
     }
-    Tone::Lost
+    Tone::Blue
 }
 
 /// The segment from one total to the next, where both are drawn.

@@ -27,6 +27,7 @@ module _ (words : List Text) where
   held_reads asked (calls.Ask call) e holds = e ∙ holds
   held_reads asked (calls.Session call) e holds = e ∙ holds
   held_reads asked (calls.Why call) e holds = e ∙ holds
+  held_reads asked (calls.Weigh call) e holds = e ∙ holds
   held_reads asked (calls.Trial call) e holds = e ∙ holds
   held_reads asked (calls.Opens call) e holds = e ∙ holds
   held_reads asked (calls.Limit call) e holds = e ∙ holds
@@ -39,6 +40,7 @@ module _ (words : List Text) where
   refused_reads missing none (calls.Ask call) refused = absurd refused
   refused_reads missing none (calls.Session call) refused = absurd refused
   refused_reads missing none (calls.Why call) refused = absurd refused
+  refused_reads missing none (calls.Weigh call) refused = absurd refused
   refused_reads missing none (calls.Trial call) refused = absurd refused
   refused_reads missing none (calls.Opens call) refused = absurd refused
   refused_reads missing none (calls.Limit call) refused = absurd refused
@@ -80,6 +82,7 @@ module _ (words : List Text) (kind : ErrorKind) where
   told_reads fails (calls.Ask call) tells = absurd tells
   told_reads fails (calls.Session call) tells = absurd tells
   told_reads fails (calls.Why call) tells = absurd tells
+  told_reads fails (calls.Weigh call) tells = absurd tells
   told_reads fails (calls.Trial call) tells = absurd tells
   told_reads fails (calls.Opens call) tells = absurd tells
   told_reads fails (calls.Limit call) tells = absurd tells

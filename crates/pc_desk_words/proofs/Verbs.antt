@@ -12,7 +12,7 @@ use Rattle.clap.specs.declared.parser.matches.ValueSource.TheVariants.{CommandLi
 use Rattle.clap.proofs.FaultLemmas.{stopped_fault}
 use Rattle.pc_num.specs.Scaled.{are_digits, digits_len, number_after, padded, scaled_of, scaled_size}
 use Rattle.pc_desk_words.specs.Program.{desk_app, desk_shape}
-use Rattle.pc_desk_words.specs.Words.{ask, asked_by, asked_of, asked_without, budget_of, draft, limit, opens, scale_of, session, sql, trial, usual_nodes, usual_scale, why, with_files}
+use Rattle.pc_desk_words.specs.Words.{ask, asked_by, asked_of, asked_without, budget_of, draft, limit, opens, scale_of, session, sql, trial, usual_nodes, usual_scale, weigh, why, with_files}
 use Rattle.pc_desk_words.specs.declared.form.Form.TheVariants as forms
 use Rattle.pc_desk_words.specs.declared.form.SheetForm.TheVariants as sheets
 use Rattle.pc_desk_words.specs.declared.form.DrawnForm.TheVariants as drawn
@@ -29,6 +29,9 @@ session_shape = shape_at (codes "session")
 
 abbrev why_shape : Shape
 why_shape = shape_at (codes "why")
+
+abbrev weigh_shape : Shape
+weigh_shape = shape_at (codes "weigh")
 
 abbrev try_shape : Shape
 try_shape = shape_at (codes "try")
@@ -95,6 +98,10 @@ session_is_verb = record { walked_at = refl; passes = refl; fails = λ words. re
 why_is_verb : IsVerb (codes "why") why_shape
 unfolding walked defaults_fault
 why_is_verb = record { walked_at = refl; passes = refl; fails = λ words. refl; found = λ words. refl }
+
+weigh_is_verb : IsVerb (codes "weigh") weigh_shape
+unfolding walked defaults_fault
+weigh_is_verb = record { walked_at = refl; passes = refl; fails = λ words. refl; found = λ words. refl }
 
 try_is_verb : IsVerb (codes "try") try_shape
 unfolding walked defaults_fault
@@ -249,6 +256,12 @@ module _ (schema rows constraints script : Text) (plain : ArePlain (schema ∷ r
       ≡ Some (session (record { form = forms.Text; nodes = usual_nodes; files = with_files schema rows constraints; script = script }))
   unfolding budget_of defaults_fault
   session_read = words_read (codes "session") session_shape session_is_verb (schema ∷ rows ∷ constraints ∷ script ∷ []) (refl, (refl, (refl, (refl, tt)))) plain refl
+
+module _ (schema rows constraints query : Text) (plain : ArePlain (schema ∷ rows ∷ constraints ∷ query ∷ [])) where
+  pub weigh_read : asked_of (codes "weigh" ∷ schema ∷ rows ∷ constraints ∷ query ∷ [])
+      ≡ Some (weigh (record { form = drawn.Text; nodes = usual_nodes; by = None; sorted = false; files = with_files schema rows constraints; query = query }))
+  unfolding budget_of defaults_fault
+  weigh_read = words_read (codes "weigh") weigh_shape weigh_is_verb (schema ∷ rows ∷ constraints ∷ query ∷ []) (refl, (refl, (refl, (refl, tt)))) plain refl
 
 module _ (schema constraints rows : Text) (plain : ArePlain (schema ∷ constraints ∷ rows ∷ [])) where
   pub trial_read : asked_of (codes "try" ∷ schema ∷ constraints ∷ rows ∷ [])

@@ -1,8 +1,8 @@
 -- What the code of a call holds, and what words come to.
-use Rattle.std.specs.Prelude.{◌≡◌, ◌≢◌, ◌≤◌, ⊤, ℕ, true, false, List, map, length, Option, Some, None}
+use Rattle.std.specs.Prelude.{◌≡◌, ◌≢◌, ◌≤◌, ⊤, ℕ, true, false, List, map, length, Option, Some, None, option_map}
 use Rattle.clap.specs.declared.error.kind.ErrorKind.{ErrorKind}
 use Rattle.clap.specs.declared.error.kind.ErrorKind.TheVariants.{OutOfMemory}
-use Rattle.pc_desk_words.specs.Words.{Asked, AskNames, FileNames, DraftNames, HeadNames, IsBudget, IsScale, LimitNames, OpensNames, SessionNames, SqlNames, TrialNames, WhyNames, MayHelp, MayRefuse, ask, asked_of, draft, is_request, limit, opens, session, sql, trial, why}
+use Rattle.pc_desk_words.specs.Words.{Asked, AskNames, FileNames, DraftNames, HeadNames, IsBudget, IsScale, LimitNames, OpensNames, SessionNames, SqlNames, TrialNames, WeighNames, WhyNames, MayHelp, MayRefuse, ask, asked_of, draft, is_request, limit, opens, session, sql, trial, weigh, why}
 use Rattle.pc_desk_words.specs.declared.call.Ask.{Ask}
 use Rattle.pc_desk_words.specs.declared.call.Call.{Call}
 use Rattle.pc_desk_words.specs.declared.call.Call.TheVariants as calls
@@ -14,6 +14,7 @@ use Rattle.pc_desk_words.specs.declared.call.Opens.{Opens}
 use Rattle.pc_desk_words.specs.declared.call.Session.{Session}
 use Rattle.pc_desk_words.specs.declared.call.Sql.{Sql}
 use Rattle.pc_desk_words.specs.declared.call.Trial.{Trial}
+use Rattle.pc_desk_words.specs.declared.call.Weigh.{Weigh}
 use Rattle.pc_desk_words.specs.declared.call.Why.{Why}
 
 abbrev pub file_names : Files → FileNames
@@ -33,6 +34,16 @@ session_names call =
 abbrev pub why_names : Why → WhyNames
 why_names call =
     record { form = call.form; nodes = call.nodes; files = file_names call.files; queries = map (λ text. text.now) call.queries.items }
+
+abbrev pub weigh_names : Weigh → WeighNames
+weigh_names call = record {
+  form = call.form;
+  nodes = call.nodes;
+  by = option_map (λ text. text.now) call.by;
+  sorted = call.sorted;
+  files = file_names call.files;
+  query = call.query.now;
+}
 
 abbrev pub trial_names : Trial → TrialNames
 trial_names call = record { form = call.form; scale = call.scale; files = file_names call.files }
@@ -54,6 +65,7 @@ abbrev pub Holds : Option Asked → Call → Type 0
 Holds asked (calls.Ask call) = asked ≡ Some (ask (ask_names call))
 Holds asked (calls.Session call) = asked ≡ Some (session (session_names call))
 Holds asked (calls.Why call) = asked ≡ Some (why (why_names call))
+Holds asked (calls.Weigh call) = asked ≡ Some (weigh (weigh_names call))
 Holds asked (calls.Trial call) = asked ≡ Some (trial (trial_names call))
 Holds asked (calls.Opens call) = asked ≡ Some (opens (opens_names call))
 Holds asked (calls.Limit call) = asked ≡ Some (limit (limit_names call))
@@ -72,6 +84,7 @@ abbrev pub Tells : ErrorKind → Call → Type 0
 Tells kind (calls.Ask call) = ⊥
 Tells kind (calls.Session call) = ⊥
 Tells kind (calls.Why call) = ⊥
+Tells kind (calls.Weigh call) = ⊥
 Tells kind (calls.Trial call) = ⊥
 Tells kind (calls.Opens call) = ⊥
 Tells kind (calls.Limit call) = ⊥
@@ -84,6 +97,7 @@ abbrev pub IsRefusal : Call → Type 0
 IsRefusal (calls.Ask call) = ⊥
 IsRefusal (calls.Session call) = ⊥
 IsRefusal (calls.Why call) = ⊥
+IsRefusal (calls.Weigh call) = ⊥
 IsRefusal (calls.Trial call) = ⊥
 IsRefusal (calls.Opens call) = ⊥
 IsRefusal (calls.Limit call) = ⊥
@@ -97,6 +111,7 @@ abbrev pub Reads : List (List ℕ) → Call → Type 0
 Reads words (calls.Ask call) = asked_of words ≡ Some (ask (ask_names call))
 Reads words (calls.Session call) = asked_of words ≡ Some (session (session_names call))
 Reads words (calls.Why call) = asked_of words ≡ Some (why (why_names call))
+Reads words (calls.Weigh call) = asked_of words ≡ Some (weigh (weigh_names call))
 Reads words (calls.Trial call) = asked_of words ≡ Some (trial (trial_names call))
 Reads words (calls.Opens call) = asked_of words ≡ Some (opens (opens_names call))
 Reads words (calls.Limit call) = asked_of words ≡ Some (limit (limit_names call))
@@ -110,6 +125,7 @@ abbrev pub HasBudget : Call → Type 0
 HasBudget (calls.Ask call) = IsBudget call.nodes × (1 ≤ length call.queries.items)
 HasBudget (calls.Session call) = IsBudget call.nodes
 HasBudget (calls.Why call) = IsBudget call.nodes × (1 ≤ length call.queries.items)
+HasBudget (calls.Weigh call) = IsBudget call.nodes
 HasBudget (calls.Trial call) = IsScale call.scale
 HasBudget (calls.Opens call) = ⊤
 HasBudget (calls.Limit call) = ⊤

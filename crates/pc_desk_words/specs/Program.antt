@@ -2,7 +2,7 @@
 use Rattle.std.specs.Prelude.{ℕ, pos, true, false, [], ◌∷◌, codes, Some}
 use Rattle.clap.specs.Words.{App, Rule, Shape, Text, new_app, new_rule, with_rule}
 use Rattle.clap.specs.Simple.{new_shape}
-use Rattle.clap.specs.declared.builder.action.ArgAction.TheVariants.{Append}
+use Rattle.clap.specs.declared.builder.action.ArgAction.TheVariants.{Append, SetTrue}
 use Rattle.clap.specs.declared.builder.value_parser.ValueParser.{ValueParser}
 use Rattle.clap.specs.declared.builder.value_parser.ValueParser.TheVariants as parsers
 
@@ -44,6 +44,14 @@ scale_rule = record (new_rule (codes "scale")) {
 abbrev pub file_rule : Text → Rule
 file_rule id = record (new_rule id) { value_names = 1; required = true }
 
+-- a value that no default stands for
+abbrev pub by_rule : Rule
+by_rule = record (new_rule (codes "by")) { long = Some (codes "by"); value_names = 1 }
+
+-- a flag
+abbrev pub sort_rule : Rule
+sort_rule = record (new_rule (codes "sort")) { long = Some (codes "sort"); action = Some SetTrue }
+
 -- the most columns that may be wanted: no schema has more
 abbrev pub most_columns : ℕ
 most_columns = 12
@@ -66,7 +74,7 @@ query_rule = record (new_rule (codes "query")) {
 abbrev pub with_both : App → Rule → Rule → App
 with_both app first second = with_rule (with_rule app first) second
 
--- the options and files of `ask`, `session` and `why`, and what stands last
+-- the options and files of `ask`, `session`, `why` and `weigh`, and what stands last
 abbrev pub with_words : App → Rule → Rule → App
 with_words app form last =
     with_both (with_both (with_both app form nodes_rule)
@@ -84,6 +92,10 @@ session_verb forms = verb forms (codes "session") (file_rule (codes "script"))
 
 abbrev pub why_verb : ValueParser → Shape
 why_verb forms = verb forms (codes "why") query_rule
+
+abbrev pub weigh_verb : ValueParser → Shape
+weigh_verb forms =
+    (with_both (with_words (new_app (codes "weigh")) (form_rule forms) (file_rule (codes "query"))) by_rule sort_rule).top
 
 abbrev pub try_verb : ValueParser → Shape
 try_verb forms =
@@ -120,11 +132,11 @@ desk_shape = record (new_shape (codes "pc_desk")) {
   arg_required_else_help = true;
 }
 
--- by what the forms of `ask` and `session` may be, those of `why`, and those of `try` and `opens`
+-- by what the forms of `ask` and `session` may be, those of `why` and `weigh`, and those of `try` and `opens`
 abbrev pub desk_with : ValueParser → ValueParser → ValueParser → App
 desk_with forms drawn sheets = record {
   top = desk_shape;
-  subs = ask_verb forms ∷ session_verb forms ∷ why_verb drawn ∷ try_verb sheets ∷ opens_verb sheets ∷ limit_verb ∷ schema_verb ∷ sql_verb ∷ [];
+  subs = ask_verb forms ∷ session_verb forms ∷ why_verb drawn ∷ weigh_verb drawn ∷ try_verb sheets ∷ opens_verb sheets ∷ limit_verb ∷ schema_verb ∷ sql_verb ∷ [];
 }
 
 -- any text may stand as a form here: which it names is told by `form_named`, `drawn_form_named` and `sheet_form_named`

@@ -1,6 +1,7 @@
 -- Which words are a call.
 use Rattle.std.specs.Prelude.{◌≡◌, ℕ, ◌≤◌, nat_le, ◌&&◌, ◌==◌, not, ℤ, pos, int_le, unsigned_abs, Bool, true, false, List, [], ◌∷◌, codes, bytes_eq, Option, Some, None, option_map, option_and_then, unwrap_or, if◌then◌else◌}
 use Rattle.std.specs.List.{list_all, list_any}
+use Rattle.std.specs.Option.{option_map_or}
 use Rattle.std.specs.Result.{result_ok}
 use Rattle.std.specs.Str.Parse.{digits_value, without_leading_plus}
 use Rattle.clap.specs.Walk.{Row, Text, all_of, first_of, is_empty}
@@ -36,6 +37,16 @@ pub record WhyNames : Type 0 where
   pub nodes : ℕ
   pub files : FileNames
   pub queries : List (List ℕ)
+
+-- of `weigh`: how changes are shown, how many nodes each search may have, the constraint whose changes alone are weighed,
+-- whether what moves the range most comes first, the files, and the text of the query
+pub record WeighNames : Type 0 where
+  pub form : DrawnForm
+  pub nodes : ℕ
+  pub by : Option (List ℕ)
+  pub sorted : Bool
+  pub files : FileNames
+  pub query : List ℕ
 
 -- of `session`: what `ask` has, with the name of the script in place of queries
 pub record SessionNames : Type 0 where
@@ -75,6 +86,7 @@ pub data Asked : Type 0 where
   ask : AskNames → Asked
   session : SessionNames → Asked
   why : WhyNames → Asked
+  weigh : WeighNames → Asked
   trial : TrialNames → Asked
   opens : OpensNames → Asked
   limit : LimitNames → Asked
@@ -93,7 +105,7 @@ form_named name =
     else (if bytes_eq name (codes "svg") then Some forms.Picture
     else None))))
 
--- the form that `--as` of `why` names
+-- the form that `--as` of `why` and of `weigh` names
 abbrev pub drawn_form_named : List ℕ → Option DrawnForm
 drawn_form_named name =
     if bytes_eq name (codes "text") then Some drawn.Text
@@ -145,7 +157,7 @@ within number = if nat_le 1 number && nat_le number most_nodes then Some number 
 
 -- ---- what was found of a verb
 
--- what `ask`, `session` and `why` have beside a form
+-- what `ask`, `session`, `why` and `weigh` have beside a form
 pub record HeadNames : Type 0 where
   pub nodes : ℕ
   pub files : FileNames
@@ -201,6 +213,19 @@ abbrev pub why_in : List Row → Option WhyNames
 why_in found = option_and_then (λ form. option_and_then (λ head. option_map (with_questions form head)
     (queries_in found)) (head_in found)) (drawn_form_in found)
 
+-- whether the flag `--sort` stands there
+abbrev pub sorted_in : List Row → Bool
+sorted_in found = option_map_or (λ text. bytes_eq text (codes "true")) (first_of (codes "sort") found) false
+
+abbrev pub with_query : DrawnForm → HeadNames → Option (List ℕ) → Bool → List ℕ → WeighNames
+with_query form head by sorted query =
+    record { form = form; nodes = head.nodes; by = by; sorted = sorted; files = head.files; query = query }
+
+abbrev pub weigh_in : List Row → Option WeighNames
+weigh_in found = option_and_then (λ form. option_and_then (λ head.
+    option_map (with_query form head (first_of (codes "by") found) (sorted_in found))
+    (first_of (codes "query") found)) (head_in found)) (drawn_form_in found)
+
 abbrev pub sheet_form_in : List Row → Option SheetForm
 sheet_form_in found = option_and_then sheet_form_named (first_of (codes "as") found)
 
@@ -250,12 +275,13 @@ asked_in name found =
     if bytes_eq name (codes "ask") then option_map ask (ask_in found)
     else (if bytes_eq name (codes "session") then option_map session (session_in found)
     else (if bytes_eq name (codes "why") then option_map why (why_in found)
+    else (if bytes_eq name (codes "weigh") then option_map weigh (weigh_in found)
     else (if bytes_eq name (codes "try") then option_map trial (trial_in found)
     else (if bytes_eq name (codes "opens") then option_map opens (opens_in found)
     else (if bytes_eq name (codes "limit") then option_map limit (limit_in found)
     else (if bytes_eq name (codes "sql") then option_map sql (sql_in found)
     else (if bytes_eq name (codes "schema") then option_map draft (draft_in found)
-    else None)))))))
+    else None))))))))
 
 abbrev pub asked_by : Option (Text × List Row) → Option Asked
 asked_by = option_and_then (λ (verb : Text × List Row). asked_in verb.0 verb.1)

@@ -50,6 +50,19 @@ pub struct Why<'a> {
     pub queries: Vec<&'a str>,
 }
 
+/// The verb `weigh`: how the changes are shown, how many nodes each search may have, whose changes, whether what moves
+/// most comes first, the files, and the query.
+#[derive(Clone, Copy, Debug)]
+pub struct Weigh<'a> {
+    pub form: DrawnForm,
+    pub nodes: u32,
+    /// The constraint whose changes alone are weighed; those of all where none is named.
+    pub by: Option<&'a str>,
+    pub sorted: bool,
+    pub files: Files<'a>,
+    pub query: &'a str,
+}
+
 /// The verb `try`: how what is found is shown, by what each number of rows is multiplied, in millionths, and the files.
 #[derive(Clone, Copy, Debug)]
 pub struct Trial<'a> {
@@ -92,6 +105,7 @@ pub enum Call<'a> {
     Ask(Ask<'a>),
     Session(Session<'a>),
     Why(Why<'a>),
+    Weigh(Weigh<'a>),
     Trial(Trial<'a>),
     Opens(Opens<'a>),
     Limit(Limit<'a>),
@@ -103,7 +117,7 @@ pub enum Call<'a> {
     Refused(String),
 }
 
-/// What `ask`, `session` and `why` have beside a form.
+/// What `ask`, `session`, `why` and `weigh` have beside a form.
 #[derive(Clone, Copy, Debug)]
 pub(crate) struct Head<'a> {
     pub nodes: u32,

@@ -45,7 +45,7 @@ impl Form {
 }
 
 impl DrawnForm {
-    /// The form that `--as` of `why` names.
+    /// The form that `--as` of `why` and of `weigh` names.
     pub(crate) fn named(name: &str) -> Option<DrawnForm>
         ensures { result ≡ drawn_form_named name.now }
     {

@@ -2,10 +2,10 @@
 ghost use Rattle.std.specs.Prelude.{◌≡◌, ◌≤◌, [], codes, map, length, IfOk, IfSome, option_map, unwrap_or};
 ghost use Rattle.clap.specs.Words.{found_of, rows_of, subcommand_rows_of};
 ghost use Rattle.clap.specs.Walk.{all_of, first_of};
-ghost use Rattle.pc_desk_words.specs.Calls.{ask_names, draft_names, file_names, head_names, limit_names, opens_names, session_names, sql_names, trial_names, why_names, HasBudget, HoldsIf};
-ghost use Rattle.pc_desk_words.specs.Words.{ask_in, asked_by, asked_in, budget_of, draft_in, files_in, form_in, head_in, limit_in, nodes_in, opens_in, queries_in, rowless_files_in, scale_in, scale_of, scale_within, session_in, sheet_form_in, some_of, sql_in, trial_in, drawn_form_in, why_in, within, IsBudget, IsScale};
+ghost use Rattle.pc_desk_words.specs.Calls.{ask_names, draft_names, file_names, head_names, limit_names, opens_names, session_names, sql_names, trial_names, weigh_names, why_names, HasBudget, HoldsIf};
+ghost use Rattle.pc_desk_words.specs.Words.{ask_in, asked_by, asked_in, budget_of, draft_in, files_in, form_in, head_in, limit_in, nodes_in, opens_in, queries_in, rowless_files_in, scale_in, scale_of, scale_within, session_in, sheet_form_in, some_of, sorted_in, sql_in, trial_in, drawn_form_in, weigh_in, why_in, within, IsBudget, IsScale};
 
-use crate::call::{Ask, Call, Draft, Files, Head, Limit, Opens, Session, Sql, Trial, Why};
+use crate::call::{Ask, Call, Draft, Files, Head, Limit, Opens, Session, Sql, Trial, Weigh, Why};
 use crate::form::{DrawnForm, Form, SheetForm};
 use clap::ArgMatches;
 use pc_num::{Memory, read_scaled};
@@ -45,6 +45,7 @@ fn call_of<'a>(
         "ask" => Ok(ask_in(alloc, found)?.map(Call::Ask)),
         "session" => Ok(session_in(found).map(Call::Session)),
         "why" => Ok(why_in(alloc, found)?.map(Call::Why)),
+        "weigh" => Ok(weigh_in(found).map(Call::Weigh)),
         "try" => Ok(trial_in(found).map(Call::Trial)),
         "opens" => Ok(opens_in(found).map(Call::Opens)),
         "limit" => Ok(limit_in(found).map(Call::Limit)),
@@ -130,6 +131,33 @@ fn session_in<'a>(found: &ArgMatches<'a>) -> Option<Session<'a>>
         files: head.files,
         script,
     })
+}
+
+fn weigh_in<'a>(found: &ArgMatches<'a>) -> Option<Weigh<'a>>
+    ensures reads { option_map weigh_names result ≡ weigh_in (rows_of (found_of found.now)) }
+    ensures numbers { IfSome result (λ weigh. IsBudget weigh.nodes) }
+{
+    let form = drawn_form_in(found)?;
+    let head = head_in(found)?;
+    let query = text_in(found, "query")?;
+    Some(Weigh {
+        form,
+        nodes: head.nodes,
+        by: text_in(found, "by"),
+        sorted: sorted_in(found),
+        files: head.files,
+        query,
+    })
+}
+
+/// A flag is read as a text: `true` where it stands there.
+fn sorted_in(found: &ArgMatches<'_>) -> bool
+    ensures { result ≡ sorted_in (rows_of (found_of found.now)) }
+{
+    match text_in(found, "sort") {
+        Some(text) => text == "true",
+        None => false,
+    }
 }
 
 fn trial_in<'a>(found: &ArgMatches<'a>) -> Option<Trial<'a>>

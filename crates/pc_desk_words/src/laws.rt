@@ -1,6 +1,6 @@
-ghost use Rattle.std.specs.Prelude.{◌≡◌, ◌<◌, ◌≤◌, ◌∷◌, [], ℕ, List, All, Some, codes, false, length};
+ghost use Rattle.std.specs.Prelude.{◌≡◌, ◌<◌, ◌≤◌, ◌∷◌, [], ℕ, List, All, Some, None, codes, false, length};
 ghost use Rattle.pc_desk_words.specs.Program.{most_columns, most_queries};
-ghost use Rattle.pc_desk_words.specs.Words.{ask, asked_of, draft, is_dashed, limit, opens, session, sql, trial, why, usual_nodes, usual_scale, with_files};
+ghost use Rattle.pc_desk_words.specs.Words.{ask, asked_of, draft, is_dashed, limit, opens, session, sql, trial, weigh, why, usual_nodes, usual_scale, with_files};
 ghost use Rattle.pc_desk_words.specs.declared.form.Form.TheVariants.{Text};
 ghost use Rattle.pc_desk_words.specs.declared.form.SheetForm.TheVariants as sheets;
 ghost use Rattle.pc_desk_words.specs.declared.form.DrawnForm.TheVariants as drawn;
@@ -19,6 +19,12 @@ pub fn plain_words_are_a_session()
 /// After `why`, such words are the three files and the queries, as after `ask`.
 pub fn plain_words_ask_why()
     ensures { (schema rows constraints query : List ℕ) (queries : List (List ℕ)) → All (λ word. is_dashed word ≡ false) (schema ∷ rows ∷ constraints ∷ query ∷ queries) → length queries < most_queries → asked_of (codes "why" ∷ schema ∷ rows ∷ constraints ∷ query ∷ queries) ≡ Some (why (record { form = drawn.Text; nodes = usual_nodes; files = with_files schema rows constraints; queries = query ∷ queries })) }
+{}
+
+/// After `weigh`, four such words are the three files and the query, shown as text, with the usual number of nodes, of
+/// all constraints, unsorted.
+pub fn plain_words_ask_to_weigh()
+    ensures { (schema rows constraints query : List ℕ) → All (λ word. is_dashed word ≡ false) (schema ∷ rows ∷ constraints ∷ query ∷ []) → asked_of (codes "weigh" ∷ schema ∷ rows ∷ constraints ∷ query ∷ []) ≡ Some (weigh (record { form = drawn.Text; nodes = usual_nodes; by = None; sorted = false; files = with_files schema rows constraints; query = query })) }
 {}
 
 /// After `try`, three such words are the schema, the constraints and the rows, shown as text, with the factor 1.

@@ -2,7 +2,7 @@ ghost use Rattle.std.specs.Prelude.{◌≡◌, ◌∷◌, [], false, true, pos, 
 ghost use Rattle.clap.specs.Words.{app_of, rule_of};
 ghost use Rattle.clap.specs.declared.builder.command.Command.TheViews.{out-Command};
 ghost use Rattle.clap.specs.declared.builder.value_parser.ValueParser.TheVariants.{Signed};
-ghost use Rattle.pc_desk_words.specs.Program.{ask_verb, column_rule, desk_app, desk_shape, desk_with, file_rule, form_rule, limit_verb, most_nodes, nodes_rule, opens_verb, query_rule, scale_rule, schema_verb, session_verb, sql_verb, try_verb, why_verb, with_both, with_words};
+ghost use Rattle.pc_desk_words.specs.Program.{ask_verb, by_rule, column_rule, desk_app, desk_shape, desk_with, file_rule, form_rule, limit_verb, most_nodes, nodes_rule, opens_verb, query_rule, scale_rule, schema_verb, session_verb, sort_rule, sql_verb, try_verb, weigh_verb, why_verb, with_both, with_words};
 
 use crate::texts;
 use clap::builder::ValueParser;
@@ -11,7 +11,7 @@ use std::alloc::{AllocError, Global};
 
 const FORMS: &[&str] = &["text", "table", "json", "chart", "svg"];
 
-/// The forms of `why`.
+/// The forms of `why` and `weigh`.
 const DRAWN_FORMS: &[&str] = &["text", "table", "json", "svg"];
 
 /// The forms of `try` and `opens`.
@@ -53,16 +53,17 @@ fn desk_with<'a>(
         .subcommand(sql(alloc)?)
 }
 
-/// .. and with those that hold constraints against a table or tell what they open.
+/// .. and with those that weigh changes, hold constraints against a table or tell what they open.
 fn holding_desk<'a>(
     alloc: Global,
     forms: ValueParser<'a>,
     drawn: ValueParser<'a>,
     sheets: ValueParser<'a>,
 ) -> Result<Command<'a>, AllocError>
-    ensures { IfOk result (λ command. app_of command ≡ record { top = desk_shape; subs = ask_verb forms.entry ∷ session_verb forms.entry ∷ why_verb drawn.entry ∷ try_verb sheets.entry ∷ opens_verb sheets.entry ∷ [] }) }
+    ensures { IfOk result (λ command. app_of command ≡ record { top = desk_shape; subs = ask_verb forms.entry ∷ session_verb forms.entry ∷ why_verb drawn.entry ∷ weigh_verb drawn.entry ∷ try_verb sheets.entry ∷ opens_verb sheets.entry ∷ [] }) }
 {
     answering_desk(alloc, forms, drawn)?
+        .subcommand(weigh(alloc, drawn)?)?
         .subcommand(trial(alloc, sheets)?)?
         .subcommand(opens(alloc, sheets)?)
 }
@@ -137,6 +138,18 @@ fn why<'a>(alloc: Global, forms: ValueParser<'a>) -> Result<Command<'a>, AllocEr
     )
 }
 
+fn weigh<'a>(alloc: Global, forms: ValueParser<'a>) -> Result<Command<'a>, AllocError>
+    ensures app { IfOk result (λ command. app_of command ≡ record { top = weigh_verb forms.entry; subs = [] }) }
+    ensures local { IfOk result (λ command. (out-Command command).has_globals ≡ false) }
+{
+    let command = Command::new(alloc, "weigh")
+        .about(texts::WEIGH_ABOUT)
+        .after_help(texts::WEIGH_AFTER);
+    let query = file(alloc, "query", "QUERY", texts::QUERY);
+    let command = with_words(alloc, command, form(alloc, forms, texts::DRAWN_AS), query)?;
+    with_both(command, by(alloc), sort(alloc))
+}
+
 fn trial<'a>(alloc: Global, forms: ValueParser<'a>) -> Result<Command<'a>, AllocError>
     ensures app { IfOk result (λ command. app_of command ≡ record { top = try_verb forms.entry; subs = [] }) }
     ensures local { IfOk result (λ command. (out-Command command).has_globals ≡ false) }
@@ -194,7 +207,7 @@ fn draft<'a>(alloc: Global) -> Result<Command<'a>, AllocError>
     with_both(command, rows(alloc, texts::SCHEMA_ROWS), columns(alloc))
 }
 
-/// The options and files of `ask`, `session` and `why`, and what stands last.
+/// The options and files of `ask`, `session`, `why` and `weigh`, and what stands last.
 fn with_words<'a>(
     alloc: Global,
     command: Command<'a>,
@@ -250,6 +263,26 @@ fn numbers<'a>() -> ValueParser<'a>
     ensures { result ≡ Signed (pos 1) (pos most_nodes) }
 {
     value_parser!(u32).range(1..=100_000)
+}
+
+fn by<'a>(alloc: Global) -> Arg<'a>
+    ensures rule { rule_of result ≡ by_rule }
+    ensures local { result.global ≡ false }
+{
+    Arg::new(alloc, "by")
+        .long("by")
+        .value_name("NAME")
+        .help(texts::BY)
+}
+
+fn sort<'a>(alloc: Global) -> Arg<'a>
+    ensures rule { rule_of result ≡ sort_rule }
+    ensures local { result.global ≡ false }
+{
+    Arg::new(alloc, "sort")
+        .long("sort")
+        .action(ArgAction::SetTrue)
+        .help(texts::SORT)
 }
 
 fn scale<'a>(alloc: Global) -> Arg<'a>

@@ -7,7 +7,7 @@ pub(crate) const AFTER: &str =
 
 /// What stands below the help of a verb.
 macro_rules! after {
-    ($forms:literal, $statuses:literal, $refused:literal, $example:literal) => {
+    ($forms:expr, $statuses:expr, $refused:literal, $example:literal) => {
         concat!(
             "\
 Forms of --as:
@@ -73,19 +73,33 @@ macro_rules! after_answers {
     };
 }
 
-/// Below `why`.
+/// Below `why` and `weigh`.
 macro_rules! after_reasons {
-    ($example:literal) => {
+    ($each:literal, $picture:literal, $ends:literal, $constraints:literal, $refused:literal, $example:literal) => {
         after!(
-            "  table  CSV, a record for each part of an end
-  json   JSON, an object for each part of an end
-  svg    a picture: of counts and sums, the parts as pieces of a bar
+            concat!(
+                "  table  CSV, a record for each ",
+                $each,
+                "
+  json   JSON, an object for each ",
+                $each,
+                "
+  svg    a picture: ",
+                $picture,
+                "
 ",
-            "  0  all ends are made of the parts that are shown
+            ),
+            concat!(
+                "  0  all ends are ",
+                $ends,
+                "
   1  an end is only known from outside, or a line is undecided
-  2  the constraints are impossible
+  2  the ",
+                $constraints,
+                " are impossible
 ",
-            "words, a file or a query",
+            ),
+            $refused,
             $example
         )
     };
@@ -124,7 +138,24 @@ pub(crate) const WHY_ABOUT: &str =
     "Tell what each end of an answer is made of, and what keeps it from lying further out";
 
 pub(crate) const WHY_AFTER: &str = after_reasons!(
+    "part of an end",
+    "of counts and sums, the parts as pieces of a bar",
+    "made of the parts that are shown",
+    "constraints",
+    "words, a file or a query",
     "why sales.schema sales.csv lost.pc 'sum(price) where day in 1..3'"
+);
+
+pub(crate) const WEIGH_ABOUT: &str =
+    "Tell how each change of one limit moves the range: which guess is worth verifying";
+
+pub(crate) const WEIGH_AFTER: &str = after_reasons!(
+    "change",
+    "bars round the range that stands",
+    "known",
+    "constraints as they stand",
+    "words, a file, a query or the name of --by",
+    "weigh --sort sales.schema sales.csv lost.pc 'sum(price)'"
 );
 
 pub(crate) const TRY_ABOUT: &str =
@@ -203,6 +234,10 @@ pub(crate) const AS: &str = "how answers are shown: text, table, json, chart or 
 pub(crate) const NODES: &str = "how many nodes each search may have, 1 to 100000";
 
 pub(crate) const DRAWN_AS: &str = "how it is shown: text, table, json or svg";
+
+pub(crate) const BY: &str = "weigh the changes of this constraint alone";
+
+pub(crate) const SORT: &str = "put first what moves the range most";
 
 pub(crate) const SHEET_AS: &str = "how what is found is shown: text, table or json";
 

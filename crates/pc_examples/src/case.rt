@@ -2,7 +2,7 @@
 use crate::command::Command;
 use crate::trouble::Trouble;
 use pc_base::{MemShelf, MemSink};
-use pc_desk_run::desk;
+use pc_desk_run::{Unwatched, desk};
 use pc_list::Seq;
 use pc_run::run;
 use std::alloc::Global;
@@ -111,7 +111,7 @@ impl Program {
     ) -> u8 {
         match self {
             Program::Pc => run(alloc, words, shelf, out).code(),
-            Program::Desk => desk(alloc, words, shelf, out, notes).code(),
+            Program::Desk => desk(alloc, words, shelf, out, notes, &mut Unwatched).code(),
         }
     }
 

@@ -6,13 +6,13 @@ use Rattle.pc_desk_answers.proofs.Under.{all_under, next_under, none_under}
 use Rattle.pc_desk_answers.proofs.changes.query_under_each.Goals as goal
 
 pub loop-list-init : goal.loop-list-init
-loop-list-init c =
+loop-list-init g c =
     let ground = ground_in c.args.scope.now in
     let wanted = map block (wanted_by ground.schema c.args.query.now) in
     record { tree = c.in_ok-shared.ensures.tree; shown = rw c.new-all.ensures.items (none_under ground wanted) }
 
 pub loop-list-preserved : goal.loop-list-preserved
-loop-list-preserved c =
+loop-list-preserved g c =
     let at = c.loop-list in
     let ground = ground_in c.args.scope.now in
     let wanted = map block (wanted_by ground.schema c.args.query.now) in
@@ -26,7 +26,7 @@ loop-list-preserved c =
     }
 
 pub returns : goal.returns
-returns c =
+returns g c =
     let ground = ground_in c.args.scope.now in
     let wanted = map block (wanted_by ground.schema c.args.query.now) in
     record { shown = rw c.from_vec.ensures (all_under ground wanted c.args.lists.now c.loop-list.list-index c.loop-list.all.items (omega (arith, c.loop-list-test.false)) c.loop-list.invariant.shown) }

@@ -1,14 +1,16 @@
-use Rattle.std.proofs.Common.{◌≡◌, [], ◌∷◌, refl, rules}
-use Rattle.std.proofs.lemmas.Result.{err_from_is_err_and}
+use Rattle.std.proofs.Common.{◌≡◌, List, [], ◌∷◌, length, refl}
+use Rattle.std.proofs.lemmas.Result.{IfOk-at_ok, err_from_is_err_and}
 use Rattle.pc_model.specs.declared.fault.FileKind.TheVariants as kinds
 use Rattle.pc_files.specs.Reads.{found_of}
 use Rattle.pc_files.specs.Loading.{reading_of}
 use Rattle.pc_files.specs.Outcome.{observed_files}
+use Rattle.pc_desk_answers.specs.declared.question.Question.{Question}
 use Rattle.pc_desk_answers.specs.Questions.{questions_of}
 use Rattle.pc_desk_run.specs.Inputs.{names_in}
 use Rattle.pc_desk_run.specs.Outcome.{asking_in}
 use Rattle.pc_desk_run.specs.Texts.{named_of}
 use Rattle.pc_desk_run.proofs.FaultFiles.{questions_of_words}
+use Rattle.pc_desk_run.proofs.ManyQuestions.{as_many}
 use Rattle.pc_files.proofs.Keeping.{query_stops}
 use Rattle.pc_files.proofs.ReadFiles.{queries_refused, still_stops, whole_read}
 use Rattle.pc_desk_run.proofs.input.read_asking.Goals as goal
@@ -52,3 +54,8 @@ returns-in_err-questions-clause-kept g c =
 
 pub returns-clause-kept : goal.returns-clause-kept
 returns-clause-kept g c = c.in_ok-observed.ensures.kept c.args.sources.now.script.now c.args.sources.now.limits.now
+
+pub returns-clause-many : goal.returns-clause-many
+returns-clause-many g c =
+    let names = named_of c.args.sources.now in
+    IfOk-at_ok (λ (questions : List Question). length questions ≡ length names.queries) c.in_ok-questions.ensures.gives (as_many c.in_ok-observed.observed.schema 1 names.queries)

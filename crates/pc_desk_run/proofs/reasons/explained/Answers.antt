@@ -1,4 +1,3 @@
-use Rattle.std.proofs.Common.{◌≡◌, rules}
 use Rattle.std.proofs.lemmas.Result.{IfOk-weaker}
 use Rattle.pc_desk_run.specs.Outcome.{explains}
 use Rattle.pc_desk_run.specs.Replies.{AreReasonsShown, IsSaid}

@@ -1,7 +1,7 @@
 use Rattle.std.proofs.Common.{inl}
 use Rattle.std.proofs.lemmas.Result.{IfOk-weaker}
-use Rattle.pc_desk_words.specs.Calls.{ask_names, draft_names, limit_names, opens_names, session_names, sql_names, trial_names, why_names}
-use Rattle.pc_desk_words.specs.Words.{ask, draft, limit, opens, session, sql, trial, why}
+use Rattle.pc_desk_words.specs.Calls.{ask_names, draft_names, limit_names, opens_names, session_names, sql_names, trial_names, weigh_names, why_names}
+use Rattle.pc_desk_words.specs.Words.{ask, draft, limit, opens, session, sql, trial, weigh, why}
 use Rattle.pc_desk_run.proofs.reply.respond.Goals as goal
 
 pub reply_to_ask-requires : goal.reply_to_ask-requires
@@ -27,6 +27,14 @@ pub returns-in-Why : goal.returns-in-Why
 returns-in-Why g c =
     let reads = rw c.in-Why.is at c.in_ok-call.ensures.reads in
     record { responds = IfOk-weaker c.reply_to_why.result _ _ (λ reply replies. inl (why (why_names c.in-Why.why), reads, replies)) c.reply_to_why.ensures }
+
+pub reply_to_weigh-requires : goal.reply_to_weigh-requires
+reply_to_weigh-requires g c = rw c.in-Weigh.is at c.in_ok-call.ensures.numbers
+
+pub returns-in-Weigh : goal.returns-in-Weigh
+returns-in-Weigh g c =
+    let reads = rw c.in-Weigh.is at c.in_ok-call.ensures.reads in
+    record { responds = IfOk-weaker c.reply_to_weigh.result _ _ (λ reply replies. inl (weigh (weigh_names c.in-Weigh.wish), reads, replies)) c.reply_to_weigh.ensures }
 
 pub reply_to_trial-requires : goal.reply_to_trial-requires
 reply_to_trial-requires g c = rw c.in-Trial.is at c.in_ok-call.ensures.numbers

@@ -1,1 +1,0 @@
-use Rattle.pc_desk_run.proofs.written.closed.Goals as goal

@@ -1,4 +1,3 @@
-use Rattle.std.proofs.Common.{Err, Ok}
 use Rattle.std.proofs.lemmas.Result.{IfOk-weaker}
 use Rattle.pc_files.specs.Loading.{reading_of}
 use Rattle.pc_desk_words.specs.Calls.{draft_names}

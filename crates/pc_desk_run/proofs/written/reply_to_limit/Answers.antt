@@ -1,4 +1,4 @@
-use Rattle.std.proofs.Common.{Err, Ok, refl}
+use Rattle.std.proofs.Common.{Err, Ok}
 use Rattle.std.proofs.lemmas.Result.{IfOk-weaker}
 use Rattle.pc_files.specs.Loading.{reading_of}
 use Rattle.pc_files.specs.Outcome.{Found, limited_in}

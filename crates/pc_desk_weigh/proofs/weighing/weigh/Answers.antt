@@ -7,7 +7,7 @@ use Rattle.pc_desk_weigh.proofs.AsAsked.{are_weighed, changes_are, lists_are, li
 use Rattle.pc_desk_weigh.proofs.weighing.weigh.Goals as goal
 
 pub answer_under_each-requires-clause-lists : goal.answer_under_each-requires-clause-lists
-answer_under_each-requires-clause-lists c =
+answer_under_each-requires-clause-lists g c =
     let now = c.args.observed.now in
     lists_are now.schema now.constraints c.args.asked c.as_slice-2.result.now
     (lists_come now.schema now.constraints c.args.asked c.as_slice-constraints.result.now c.in_ok-changes.changes c.as_slice.result.now c.in_ok-lists.lists c.as_slice-2.result.now
@@ -15,7 +15,7 @@ answer_under_each-requires-clause-lists c =
     c.requires.usable.accepted
 
 pub returns : goal.returns
-returns c =
+returns g c =
     let now = c.args.observed.now in
     let ground = ground_of now c.args.nodes in
     let wanted = asked_by now.schema c.args.question.now in

@@ -1,6 +1,5 @@
-use Rattle.std.proofs.Common.{◌≡◌, ◌++◌, ◌∷◌, ◌+◌, [], List, ℕ, arith, drop, refl, rules, sym, subst, ◌∙◌}
-use Rattle.pc_desk_draw.specs.declared.segment.BarRow.{BarRow}
-use Rattle.pc_desk_why.specs.Bars.{part_row, part_rows, rows_of_parts, segments_between, tone_of, total_after}
+use Rattle.std.proofs.Common.{◌≡◌, ◌++◌, ◌∷◌, [], arith, rules, sym, ◌∙◌}
+use Rattle.pc_desk_why.specs.Bars.{part_row, total_after}
 use Rattle.pc_desk_why.proofs.BarRows.{made_row, rows_past, rows_step}
 use Rattle.pc_desk_why.proofs.bars.part_rows.Goals as goal
 

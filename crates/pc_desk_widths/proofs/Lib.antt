@@ -1,0 +1,4 @@
+mod Back
+mod BlockRows
+mod Sorting
+mod TwoRanges
