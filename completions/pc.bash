@@ -17,10 +17,10 @@ _pc_desk() {
   local word=${COMP_WORDS[COMP_CWORD]} verb=${COMP_WORDS[1]} previous=${COMP_WORDS[COMP_CWORD - 1]}
   COMPREPLY=()
   if [ "$COMP_CWORD" -eq 1 ]; then
-    mapfile -t COMPREPLY < <(compgen -W "ask session why try opens limit schema sql help --help --version" -- "$word")
+    mapfile -t COMPREPLY < <(compgen -W "ask session why weigh try opens limit schema sql help --help --version" -- "$word")
   elif [ "$verb" = help ]; then
-    mapfile -t COMPREPLY < <(compgen -W "ask session why try opens limit schema sql" -- "$word")
-  elif [[ $previous == --as && $verb == why ]]; then
+    mapfile -t COMPREPLY < <(compgen -W "ask session why weigh try opens limit schema sql" -- "$word")
+  elif [[ $previous == --as && $verb =~ ^(why|weigh)$ ]]; then
     mapfile -t COMPREPLY < <(compgen -W "text table json svg" -- "$word")
   elif [[ $previous == --as && $verb =~ ^(try|opens)$ ]]; then
     mapfile -t COMPREPLY < <(compgen -W "text table json" -- "$word")
@@ -30,6 +30,15 @@ _pc_desk() {
     mapfile -t COMPREPLY < <(compgen -W "1 1000 10000 100000" -- "$word")
   elif [ "$previous" = --scale ]; then
     mapfile -t COMPREPLY < <(compgen -W "0.01 0.05 0.1 1" -- "$word")
+  elif [[ $previous == --by && $verb == weigh ]]; then
+    # the plain names of constraints in the files that stand there
+    local file=
+    for file in "${COMP_WORDS[@]:2}"; do
+      [[ $file != -* && -r $file ]] || continue
+      mapfile -t -O "${#COMPREPLY[@]}" COMPREPLY < <(compgen -W "$(sed -n 's/^\([A-Za-z_][A-Za-z_0-9]*\):.*=>.*/\1/p' "$file")" -- "$word")
+    done
+  elif [[ $word == -* && $verb == weigh ]]; then
+    mapfile -t COMPREPLY < <(compgen -W "--as --nodes --by --sort --help" -- "$word")
   elif [[ $word == -* && $verb == try ]]; then
     mapfile -t COMPREPLY < <(compgen -W "--as --scale --help" -- "$word")
   elif [[ $word == -* && $verb == opens ]]; then
