@@ -13,7 +13,7 @@ use Rattle.pc_desk_weigh.specs.declared.weighed.Weighed.{Weighed}
 use Rattle.pc_desk_why.specs.declared.explained.Explained.{Explained}
 use Rattle.pc_desk_run.specs.Endings.{has_impossible, is_impossible, is_open, stands_impossible}
 use Rattle.pc_desk_run.specs.Meaning.{AsksFor, Call, Delivers, HasAnswered, HasRefused, IsNoted, KeepsPromise}
-use Rattle.pc_desk_run.specs.Outcome.{Input, asks, drafts, explains, follows, limits, lists, tests, tries, weighs}
+use Rattle.pc_desk_run.specs.Outcome.{Input, asks, drafts, explains, follows, limits, lists, recalls, tests, tries, weighs}
 use Rattle.pc_desk_run.specs.Replies.{IsNoCall, IsSaid, RefusesAsked, RepliesTo, RepliesToNone, Responds}
 
 module _ (call : Call) where
@@ -40,6 +40,7 @@ module _ (call : Call) where
   said_keeps (limits limited) ended text note said has = keeps_by false false ended said.2.0 has
   said_keeps (tests table listing) ended text note said has = keeps_by false false ended said.0 has
   said_keeps (drafts draft) ended text note said has = trial_keeps (is_whole draft) ended said.0 has
+  said_keeps (recalls names known) ended text note said has = keeps_by false false ended said.2.0 has
 
   -- ---- refusals
 

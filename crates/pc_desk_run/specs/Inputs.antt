@@ -1,31 +1,41 @@
 -- What was read of the files of a call.
-use Rattle.std.specs.Prelude.{◌≡◌, ◌≤◌, ℕ, ⊤, All, List, [], length, Ok, Err, Option, Result}
+use Rattle.std.specs.Prelude.{◌≡◌, ◌≤◌, ℕ, ⊤, All, List, [], get_or, length, Ok, Err, Option, Result}
 use Rattle.pc_model.specs.declared.fault.FileKind.{FileKind}
 use Rattle.pc_model.specs.declared.fault.FileKind.TheVariants as kinds
+use Rattle.std.specs.List.{AllPass}
+use Rattle.pc_model.specs.Membership.{in_domain}
 use Rattle.pc_model.specs.WellFormed.{IsWellFormed}
 use Rattle.pc_base.specs.Files.{Files}
 use Rattle.pc_files.specs.declared.kept.Kept.{Kept}
 use Rattle.pc_files.specs.declared.stop.Stop.{Stop}
 use Rattle.pc_files.specs.declared.stop.Stop.TheVariants as stops
 use Rattle.pc_files.specs.Keeping.{AreBytesOf, ExplainsFault, KeptFrom, names_of}
-use Rattle.pc_files.specs.Loading.{IsLoaded, IsRead, Reading}
+use Rattle.pc_files.specs.Loading.{AreRead, IsLoaded, IsRead, Reading}
 use Rattle.pc_files.specs.declared.reading.Limited.{Limited}
 use Rattle.pc_files.specs.declared.reading.Scripted.{Scripted}
 use Rattle.pc_files.specs.declared.reading.Listing.{Listing}
 use Rattle.pc_files.specs.declared.reading.Observed.{Observed}
-use Rattle.pc_files.specs.Outcome.{Found, listed_files, listing_in, observed_in}
+use Rattle.pc_files.specs.Outcome.{Found, listed_files, listing_in, no_script, observed_in}
 use Rattle.pc_files.specs.Reads.{IsLimited, IsScripted, IsShowable, IsUsable, ReadsLimited, ReadsScripted}
 use Rattle.pc_desk_answers.specs.Questions.{IsQuestion}
 use Rattle.pc_desk_schema.specs.declared.draft.Draft.{Draft}
-use Rattle.pc_desk_words.specs.Words.{Asked, DraftNames, FileNames, IsBudget, IsScale, LimitNames, SessionNames, TrialNames, ask, draft, limit, opens, session, sql, trial, weigh, why}
+use Rattle.pc_desk_past.specs.Past.{IsHistory, IsKnown}
+use Rattle.pc_desk_past.specs.declared.past.Known.{Known}
+use Rattle.pc_desk_words.specs.Words.{Asked, DraftNames, FileNames, IsBudget, IsScale, LimitNames, SessionNames, TrialNames, ask, draft, history, limit, opens, session, sql, trial, weigh, why}
 use Rattle.pc_desk_run.specs.declared.input.Asking.{Asking}
-use Rattle.pc_desk_run.specs.Outcome.{Input, asking_in, asks, data_files, drafted_for, drafts, explains, follows, limits, lists, tests, tries, weighs}
+use Rattle.pc_desk_run.specs.declared.recalls.Table.{Table}
+use Rattle.pc_desk_run.specs.Outcome.{Input, asking_in, asks, data_files, drafted_for, drafts, explains, follows, known_in, limits, lists, recalls, table_files, tests, tries, weighs}
 use Rattle.pc_desk_run.specs.Texts.{Named, named_in}
 
 -- what answers need of what was read
 pub record IsAsking (asking : Asking) : Type 0 where
   pub usable : IsUsable asking.observed
   pub asked : All (IsQuestion asking.observed.schema) asking.questions
+
+-- .. of a schema and rows alone
+pub record IsTable (table : Table) : Type 0 where
+  pub well_formed : IsWellFormed table.schema
+  pub seen : AllPass (in_domain table.schema) table.rows
 
 abbrev pub IsSoundInput : Input → Type 0
 IsSoundInput (asks form nodes asking) = IsAsking asking × IsBudget nodes
@@ -36,6 +46,7 @@ IsSoundInput (tries form scale observed) = IsUsable observed × IsScale scale
 IsSoundInput (lists form listing) = IsShowable listing
 IsSoundInput (limits limited) = IsLimited limited
 IsSoundInput (tests table listing) = IsShowable listing
+IsSoundInput (recalls names known) = IsKnown known × IsHistory names
 IsSoundInput (drafts drafted) = 1 ≤ length drafted.schema.columns → IsWellFormed drafted.schema
 
 -- whether or not a shelf tells its files: what the words say of form, nodes, factor and table is as they say it
@@ -49,11 +60,24 @@ IsInputOf (opens names) (lists form listing) = form ≡ names.form
 IsInputOf (limit names) (limits limited) = ⊤
 IsInputOf (sql names) (tests table listing) = table ≡ names.table
 IsInputOf (draft names) (drafts drafted) = ⊤
+IsInputOf (history names) (recalls wish known) = wish ≡ names
 IsInputOf asked input = ⊥
 
 -- what reading the files of a call answers
 abbrev pub ReadsAsking : Reading → Named → Result Asking Stop → Type 0
 ReadsAsking reading named result = IsRead reading (data_files named.files) (asking_in named.queries) result
+
+-- a schema and rows alone, whatever files follow
+abbrev pub found_table : Table → Found
+found_table table = record { schema = table.schema; rows = table.rows; constraints = []; limited = []; bytes = []; script = no_script }
+
+abbrev pub ReadsTable : Reading → FileNames → Result Table Stop → Type 0
+ReadsTable reading files (Ok table) = AreRead reading (table_files files) (found_table table)
+ReadsTable reading files (Err stop) = IsRead reading (table_files files) (λ (found : Found). Ok found) (Err stop)
+
+-- .. and the query of a text
+abbrev pub ReadsKnown : Reading → Named → Result Known Stop → Type 0
+ReadsKnown reading named result = IsRead reading (table_files named.files) (known_in (get_or named.queries 0 [])) result
 
 abbrev pub ReadsSession : Reading → SessionNames → Result Scripted Stop → Type 0
 ReadsSession reading names result = ReadsScripted reading names.files.schema names.files.rows names.files.constraints names.script result

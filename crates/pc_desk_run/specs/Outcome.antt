@@ -7,7 +7,7 @@ use Rattle.pc_base.specs.Files.{Files}
 use Rattle.pc_desk_answers.specs.Questions.{questions_of}
 use Rattle.pc_desk_schema.specs.Draft.{drafted_of}
 use Rattle.pc_desk_schema.specs.declared.draft.Draft.{Draft}
-use Rattle.pc_desk_words.specs.Words.{AskNames, Asked, DraftNames, FileNames, OpensNames, SessionNames, SqlNames, TrialNames, WeighNames, WhyNames, ask, draft, limit, opens, session, sql, trial, weigh, why}
+use Rattle.pc_desk_words.specs.Words.{AskNames, Asked, DraftNames, FileNames, HistoryNames, OpensNames, SessionNames, SqlNames, TrialNames, WeighNames, WhyNames, ask, draft, history, limit, opens, session, sql, trial, weigh, why}
 use Rattle.pc_desk_words.specs.declared.form.Form.{Form}
 use Rattle.pc_desk_words.specs.declared.form.SheetForm.{SheetForm}
 use Rattle.pc_desk_words.specs.declared.form.DrawnForm.{DrawnForm}
@@ -16,11 +16,15 @@ use Rattle.pc_files.specs.declared.reading.Listing.{Listing}
 use Rattle.pc_files.specs.declared.reading.Observed.{Observed}
 use Rattle.pc_files.specs.declared.reading.Scripted.{Scripted}
 use Rattle.pc_files.specs.Outcome.{Found, NamedFile, Obstacle, limit_files, limited_in, listed_files, listing_in, mapped, observed_files, observed_in, or_refused, outcome_of, script_files, scripted_in, value_under}
+use Rattle.pc_lang.specs.Files.{query_at}
+use Rattle.pc_desk_past.specs.declared.past.Known.{Known}
+use Rattle.pc_desk_run.specs.Texts.{where_text}
 use Rattle.pc_desk_run.specs.declared.input.Asking.{Asking}
 
 -- What is asked, a script that is followed, answers that are explained, or changes of constraints that are weighed, by searches of at
 -- most so many nodes each; constraints that are held against the rows, whose numbers are multiplied by so many millionths; constraints of which is asked what they open. Each with the form in
--- which it is shown. Or limits behind constraints; constraints that a table of this name is tested by; or a draft of a schema.
+-- which it is shown. Or limits behind constraints; constraints that a table of this name is tested by; a draft of a schema; or rows by
+-- which constraints are drafted.
 pub data Input : Type 0 where
   asks : Form → ℕ → Asking → Input
   follows : Form → ℕ → Scripted → Input
@@ -31,9 +35,13 @@ pub data Input : Type 0 where
   limits : Limited → Input
   tests : List ℕ → Listing → Input
   drafts : Draft → Input
+  recalls : HistoryNames → Known → Input
 
 abbrev pub data_files : FileNames → List NamedFile
 data_files names = observed_files names.schema names.rows names.constraints
+
+abbrev pub table_files : FileNames → List NamedFile
+table_files names = (kinds.Schema, names.schema) ∷ (kinds.Rows, names.rows) ∷ []
 
 -- the files of a call, in the order in which they are read
 abbrev pub files_of : Asked → List NamedFile
@@ -46,12 +54,19 @@ files_of (session names) = script_files names.files.schema names.files.rows name
 files_of (limit names) = limit_files names.files.schema names.files.constraints names.limits
 files_of (sql names) = listed_files names.files.schema names.files.constraints
 files_of (draft names) = (kinds.Rows, names.rows) ∷ []
+files_of (history names) = table_files names.files
 
 -- the questions of texts, with what was found
 abbrev pub asking_in : List (List ℕ) → Found → Result Asking Obstacle
 asking_in texts found = do
   questions ← or_refused (questions_of found.schema texts)
   Ok (record { observed = observed_in found; questions = questions })
+
+-- a schema and rows, and which of them a text means
+abbrev pub known_in : List ℕ → Found → Result Known Obstacle
+known_in text found = do
+  query ← or_refused (query_at found.schema 1 text)
+  Ok (record { schema = found.schema; rows = found.rows; query = query })
 
 -- ---- what was found in the files of each verb
 
@@ -79,6 +94,9 @@ limits_in found = Ok (limits (limited_in found))
 abbrev pub tests_in : SqlNames → Found → Result Input Obstacle
 tests_in names found = Ok (tests names.table (listing_in found))
 
+abbrev pub recalls_in : HistoryNames → Found → Result Input Obstacle
+recalls_in names found = mapped (recalls names) (known_in (where_text names.chosen) found)
+
 -- a draft is of the bytes of a row file, which are read with no schema
 abbrev pub drafted_for : DraftNames → List ℕ → Result Draft Fault
 drafted_for names bytes = drafted_of bytes names.columns
@@ -93,6 +111,7 @@ comes_to (trial names) shelf = outcome_of (files_of (trial names)) (tries_in nam
 comes_to (opens names) shelf = outcome_of (files_of (opens names)) (lists_in names) shelf
 comes_to (limit names) shelf = outcome_of (files_of (limit names)) limits_in shelf
 comes_to (sql names) shelf = outcome_of (files_of (sql names)) (tests_in names) shelf
+comes_to (history names) shelf = outcome_of (files_of (history names)) (recalls_in names) shelf
 comes_to (draft names) shelf = mapped drafts (value_under kinds.Rows names.rows (drafted_for names) shelf)
 
 -- where the shelf tells its files, the call comes to this with them

@@ -49,7 +49,11 @@ use Rattle.pc_desk_words.specs.declared.form.DrawnForm.{DrawnForm}
 use Rattle.pc_desk_run.specs.Endings.{ended_of, ended_of_draft, ended_of_reasons, ended_of_trial, ended_of_widths, has_impossible}
 use Rattle.pc_desk_run.specs.declared.input.Asking.{Asking}
 use Rattle.pc_desk_run.specs.Inputs.{Explains, IsInputOf, IsSoundInput}
-use Rattle.pc_desk_run.specs.Outcome.{ComesTo, Input, asks, drafts, explains, files_of, follows, limits, lists, tests, tries, weighs}
+use Rattle.pc_desk_past.specs.Past.{past_of}
+use Rattle.pc_desk_past.specs.Texts.{past_text, refusal_lines}
+use Rattle.pc_desk_past.specs.declared.fault.PastFault.{PastFault}
+use Rattle.pc_desk_past.specs.declared.past.Past.TheVariants.{Drafted, Refused}
+use Rattle.pc_desk_run.specs.Outcome.{ComesTo, Input, asks, drafts, explains, files_of, follows, limits, lists, recalls, tests, tries, weighs}
 use Rattle.pc_desk_run.specs.Texts.{AreRefusedLines, IsNoteBeside, Named, is_called, is_ordered, named_in, no_column_lines, no_constraint_lines, note_on, outside_lines, sheet_text, text_of, too_many_lines, unread_line, weigh_text, why_text}
 
 -- what a text is of, with a status and a note beside it
@@ -118,7 +122,7 @@ limits_of limited = drop limited.opening limited.all
 -- and of constraints that are impossible a clash of them is told. A question is weighed as constraints stand and under each change of
 -- one limit of them. A trial is that of the constraints over the rows; and each row that can be lost is in one of the classes that are shown. A
 -- list that is written allows what its constraints allow as far as it meets the limits; a statement is that for the constraints, and
--- a draft that of the file, with what is said of columns beside it.
+-- a draft that of the file, with what is said of columns beside it. Constraints from history are those of the rows that are meant.
 abbrev pub IsSaid : Input → Saying
 IsSaid (asks form nodes asking) ended text note =
     (entries : List Entry) × AreShown (ground_of asking.observed nodes) (asked asking.observed.schema asking.questions) entries
@@ -141,6 +145,8 @@ IsSaid (limits limited) ended text note =
 IsSaid (tests table listing) ended text note =
     IsWritten ends.Settled (sql_text listing.schema listing.constraints table) (note_on listing.constraints) ended text note
 IsSaid (drafts draft) ended text note = IsWritten (ended_of_draft draft) (plain_text draft.schema.columns) (remark_lines draft) ended text note
+IsSaid (recalls names known) ended text note =
+    (drafted : List Constraint) × (past_of known names ≡ Drafted drafted) × IsWritten ends.Settled (past_text known.schema names drafted) [] ended text note
 
 -- the reply is what is said
 abbrev pub Says : Saying → Reply → Type 0
@@ -161,6 +167,8 @@ IsUnwritten named (drafts draft) text = (length draft.schema.columns ≡ 0) × (
 IsUnwritten named (weighs names asking) text =
     (name : List ℕ) × (names.by ≡ Some name) × (position (is_called name) asking.observed.constraints ≡ None)
     × (text ≡ no_constraint_lines named asking.observed.constraints name)
+IsUnwritten named (recalls names known) text =
+    (fault : PastFault) × (past_of known names ≡ Refused fault) × (text ≡ refusal_lines known.schema names fault)
 IsUnwritten named input text = ⊥
 
 -- the reply is what is said of an input, or why nothing is

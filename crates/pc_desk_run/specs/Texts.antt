@@ -1,5 +1,5 @@
 -- The texts that a run writes.
-use Rattle.std.specs.Prelude.{◌≡◌, ℕ, ◌-◌, ◌==◌, ◌||◌, Bool, bytes_eq, true, false, List, [], ◌∷◌, ◌++◌, codes, decimal, get_or, length, map, nat_lt, if◌then◌else◌}
+use Rattle.std.specs.Prelude.{◌≡◌, ℕ, ◌-◌, ◌==◌, ◌||◌, Bool, bytes_eq, true, false, List, [], ◌∷◌, ◌++◌, codes, decimal, get_or, length, map, nat_lt, Option, Some, None, if◌then◌else◌}
 use Rattle.std.specs.List.{concat}
 use Rattle.pc_model.specs.declared.constraint.Constraint.{Constraint}
 use Rattle.pc_model.specs.declared.constraint.When.{When}
@@ -24,7 +24,7 @@ use Rattle.pc_desk_table.specs.Table.{table_text}
 use Rattle.pc_desk_try.specs.Beside.{AreBeside}
 use Rattle.pc_desk_try.specs.Written.{written_name}
 use Rattle.pc_desk_words.specs.Calls.{file_names}
-use Rattle.pc_desk_words.specs.Words.{Asked, FileNames, ask, draft, limit, opens, session, sql, trial, weigh, why, with_files}
+use Rattle.pc_desk_words.specs.Words.{Asked, FileNames, ask, draft, history, limit, opens, session, sql, trial, weigh, why, with_files}
 use Rattle.pc_desk_words.specs.declared.form.Form.{Form}
 use Rattle.pc_desk_words.specs.declared.form.Form.TheVariants as forms
 use Rattle.pc_desk_words.specs.declared.form.SheetForm.{SheetForm}
@@ -90,6 +90,11 @@ pub record Named : Type 0 where
 abbrev pub named_files : FileNames → Named
 named_files files = record { files = files; script = []; limits = []; queries = [] }
 
+-- the query that counts the rows which are meant
+abbrev pub where_text : Option (List ℕ) → List ℕ
+where_text None = codes "count"
+where_text (Some text) = codes "count where " ++ text
+
 abbrev pub named_in : Asked → Named
 named_in (ask names) = record (named_files names.files) { queries = names.queries }
 named_in (session names) = record (named_files names.files) { script = names.script }
@@ -100,6 +105,7 @@ named_in (opens names) = named_files names.files
 named_in (limit names) = record (named_files names.files) { limits = names.limits }
 named_in (sql names) = named_files names.files
 named_in (draft names) = named_files (with_files [] names.rows [])
+named_in (history names) = record (named_files names.files) { queries = where_text names.chosen ∷ [] }
 
 abbrev pub named_of : Sources → Named
 named_of sources = record { files = file_names sources.files; script = sources.script.now; limits = sources.limits.now; queries = map (λ text. text.now) sources.queries.now }

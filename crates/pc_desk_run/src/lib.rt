@@ -7,6 +7,7 @@ mod input;
 mod line;
 mod note;
 mod reasons;
+mod recalls;
 mod reply;
 mod run;
 mod session;

@@ -170,7 +170,7 @@ fn name_of<'a>(sources: &Sources<'a>, kind: FileKind, place: u64) -> &'a str
     }
 }
 
-fn query_at<'a>(queries: &[&'a str], place: u64) -> &'a str
+pub(crate) fn query_at<'a>(queries: &[&'a str], place: u64) -> &'a str
     ensures { result.now ≡ get_or (map (λ text. text.now) queries.now) (place - 1) [] }
 {
     match queries.get(place.saturating_sub(1) as usize) {

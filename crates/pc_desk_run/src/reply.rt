@@ -19,6 +19,7 @@ use crate::line::{
 };
 use crate::note::{note_beside, note_on};
 use crate::reasons::reply_to_why;
+use crate::recalls::reply_to_history;
 use crate::session::follow_script;
 use crate::settled::{ended_of, ended_of_trial};
 use crate::weighs::reply_to_weigh;
@@ -64,6 +65,7 @@ pub(crate) fn respond<F: Shelf, W: Watch>(
         Call::Weigh(wish) => reply_to_weigh(alloc, files, &wish, watch),
         Call::Trial(trial) => reply_to_trial(alloc, files, &trial),
         Call::Opens(opens) => reply_to_opens(alloc, files, &opens),
+        Call::History(wish) => reply_to_history(alloc, files, &wish),
         Call::Limit(limit) => reply_to_limit(alloc, files, &limit),
         Call::Sql(sql) => reply_to_sql(alloc, files, &sql),
         Call::Draft(draft) => reply_to_draft(alloc, files, &draft),

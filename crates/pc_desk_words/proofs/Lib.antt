@@ -1,4 +1,4 @@
-mod Budgets
+mod Numbers
 mod PlainWords
 mod Scales
 mod Tellings

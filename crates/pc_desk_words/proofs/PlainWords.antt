@@ -99,13 +99,46 @@ pub reaches_end : (s : Shape) (w : Walk) → Reaches s w [] w
 unfolding walk_fault
 reaches_end s w = (refl, refl)
 
-reaches_more : (s : Shape) (from next end : Walk) (word : Text) (rest : List Text) → turn_fault s [] from word ≡ [] → walked s.rules [] from word ≡ next
+pub reaches_more : (s : Shape) (from next end : Walk) (word : Text) (rest : List Text) → turn_fault s [] from word ≡ [] → walked s.rules [] from word ≡ next
     → Reaches s next rest end → Reaches s from (word ∷ rest) end
 unfolding walk_fault
 reaches_more s from next end word rest turn step reaches = (
   ap (λ kinds. or_else kinds (walk_fault s [] (walked s.rules [] from word) rest)) turn ∙ ap (λ after. walk_fault s [] after rest) step ∙ reaches.0,
   ap (λ after. fold (walked s.rules []) after rest) step ∙ reaches.1,
 )
+
+-- ---- a plain word where an option waits for its value
+
+-- where the walk stands
+abbrev pub awaiting : Text → ℕ → Held → Walk
+awaiting id position h = record { held = h; waiting = option id; position = position; is_trailing = false; stopped = None }
+
+-- .. and where it stands once the option has it
+abbrev pub given : Shape → Text → ℕ → Held → Text → Walk
+given s id position h word =
+    let taken = short_or_plain s.rules (option id) word None h in
+    after_step s.rules word (awaiting id position h) taken.0 taken.1
+
+module _ (s : Shape) (id : Text) (position : ℕ) (h : Held) (word : Text) (plain : is_dashed word ≡ false) where
+  abbrev read : Held × Step
+  read = word_met s.rules [] false (option id) position word h
+
+  value_met : read ≡ short_or_plain s.rules (option id) word None h
+  value_met = long_is s.rules (option id) position word h (plain_word word plain)
+
+  value_walked : walked s.rules [] (awaiting id position h) word ≡ given s id position h word
+  unfolding walked
+  value_walked = ap (λ (p : Held × Step). after_step s.rules word (awaiting id position h) p.0 p.1) value_met
+
+  value_turn : turn_fault s [] (awaiting id position h) word ≡ []
+  value_turn =
+      ap (λ kinds. or_else kinds (step_fault s position read.0 read.1)) (no_flag_fails s (option id) word h (plain_word word plain))
+      ∙ ap (λ (p : Held × Step). step_fault s position p.0 p.1) value_met
+
+  pub given_reaches : (end : Walk) (rest : List Text) → Reaches s (given s id position h word) rest end → Reaches s (awaiting id position h) (word ∷ rest) end
+  given_reaches end rest = reaches_more s (awaiting id position h) (given s id position h word) end word rest value_turn value_walked
+
+-- ---- plain words
 
 abbrev pub ArePlain : List Text → Type 0
 ArePlain = All (λ word. is_dashed word ≡ false)

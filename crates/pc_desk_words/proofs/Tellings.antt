@@ -30,6 +30,7 @@ module _ (words : List Text) where
   held_reads asked (calls.Weigh call) e holds = e ∙ holds
   held_reads asked (calls.Trial call) e holds = e ∙ holds
   held_reads asked (calls.Opens call) e holds = e ∙ holds
+  held_reads asked (calls.History call) e holds = e ∙ holds
   held_reads asked (calls.Limit call) e holds = e ∙ holds
   held_reads asked (calls.Sql call) e holds = e ∙ holds
   held_reads asked (calls.Draft call) e holds = e ∙ holds
@@ -43,6 +44,7 @@ module _ (words : List Text) where
   refused_reads missing none (calls.Weigh call) refused = absurd refused
   refused_reads missing none (calls.Trial call) refused = absurd refused
   refused_reads missing none (calls.Opens call) refused = absurd refused
+  refused_reads missing none (calls.History call) refused = absurd refused
   refused_reads missing none (calls.Limit call) refused = absurd refused
   refused_reads missing none (calls.Sql call) refused = absurd refused
   refused_reads missing none (calls.Draft call) refused = absurd refused
@@ -85,6 +87,7 @@ module _ (words : List Text) (kind : ErrorKind) where
   told_reads fails (calls.Weigh call) tells = absurd tells
   told_reads fails (calls.Trial call) tells = absurd tells
   told_reads fails (calls.Opens call) tells = absurd tells
+  told_reads fails (calls.History call) tells = absurd tells
   told_reads fails (calls.Limit call) tells = absurd tells
   told_reads fails (calls.Sql call) tells = absurd tells
   told_reads fails (calls.Draft call) tells = absurd tells

@@ -2,6 +2,7 @@
 use Rattle.std.proofs.Common.{◌≡◌, ◌∙◌, ◌<◌, ◌≤◌, ◌==◌, ℕ, false, List, [], ◌∷◌, ◌++◌, Some, None, codes, length, refl, sym, ap, ap₂, subst, arith, nat_lt}
 use Rattle.std.specs.Prelude.{fold, find, unwrap_or, is_some}
 use Rattle.std.proofs.lemmas.List.{append-nil, append_assoc}
+use Rattle.std.proofs.lemmas.List.Elements.{All-head, All-tail}
 use Rattle.clap.specs.Faults.{check_fault, defaults_fault, entered_fault, fault_of, level_fault, settle_fault, turn_fault, walk_fault}
 use Rattle.clap.specs.Kinds.{Kinds, or_else, range_kinds, values_kinds}
 use Rattle.clap.specs.Simple.{Shape, built, entered, label_of, names_of, subcommand_of}
@@ -12,11 +13,11 @@ use Rattle.clap.specs.declared.parser.matches.ValueSource.TheVariants.{CommandLi
 use Rattle.clap.proofs.FaultLemmas.{stopped_fault}
 use Rattle.pc_num.specs.Scaled.{are_digits, digits_len, number_after, padded, scaled_of, scaled_size}
 use Rattle.pc_desk_words.specs.Program.{desk_app, desk_shape}
-use Rattle.pc_desk_words.specs.Words.{ask, asked_by, asked_of, asked_without, budget_of, draft, limit, opens, scale_of, session, sql, trial, usual_nodes, usual_scale, weigh, why, with_files}
+use Rattle.pc_desk_words.specs.Words.{ask, asked_by, asked_of, asked_without, draft, history, is_dashed, limit, number_of, opens, scale_of, session, sql, trial, usual_nodes, usual_scale, weigh, why, with_files}
 use Rattle.pc_desk_words.specs.declared.form.Form.TheVariants as forms
 use Rattle.pc_desk_words.specs.declared.form.SheetForm.TheVariants as sheets
 use Rattle.pc_desk_words.specs.declared.form.DrawnForm.TheVariants as drawn
-use Rattle.pc_desk_words.proofs.PlainWords.{ArePlain, AreFit, Reaches, plain_reaches, plainly, reaches_end}
+use Rattle.pc_desk_words.proofs.PlainWords.{ArePlain, AreFit, Reaches, awaiting, given, given_reaches, plain_reaches, plainly, reaches_end, reaches_more}
 
 abbrev shape_at : Text → Shape
 shape_at name = unwrap_or (find (λ s. answers_to name (label_of s)) (built desk_app).subs) desk_shape
@@ -38,6 +39,9 @@ try_shape = shape_at (codes "try")
 
 abbrev opens_shape : Shape
 opens_shape = shape_at (codes "opens")
+
+abbrev history_shape : Shape
+history_shape = shape_at (codes "history")
 
 abbrev limit_shape : Shape
 limit_shape = shape_at (codes "limit")
@@ -110,6 +114,10 @@ try_is_verb = record { walked_at = refl; passes = refl; fails = λ words. refl; 
 opens_is_verb : IsVerb (codes "opens") opens_shape
 unfolding walked defaults_fault
 opens_is_verb = record { walked_at = refl; passes = refl; fails = λ words. refl; found = λ words. refl }
+
+history_is_verb : IsVerb (codes "history") history_shape
+unfolding walked defaults_fault
+history_is_verb = record { walked_at = refl; passes = refl; fails = λ words. refl; found = λ words. refl }
 
 limit_is_verb : IsVerb (codes "limit") limit_shape
 unfolding walked defaults_fault
@@ -229,12 +237,12 @@ module _ (schema rows constraints : Text) where
 
     pub ask_read : asked_of (codes "ask" ∷ words)
         ≡ Some (ask (record { form = forms.Text; nodes = usual_nodes; files = with_files schema rows constraints; queries = query ∷ queries }))
-    unfolding budget_of
+    unfolding number_of
     ask_read = queries_read (codes "ask") ask_shape ask_is_verb (ask_takes query)
 
     pub why_read : asked_of (codes "why" ∷ words)
         ≡ Some (why (record { form = drawn.Text; nodes = usual_nodes; files = with_files schema rows constraints; queries = query ∷ queries }))
-    unfolding budget_of
+    unfolding number_of
     why_read = queries_read (codes "why") why_shape why_is_verb (why_takes query)
 
 -- ---- the verbs that take as many words as they have positionals
@@ -254,13 +262,13 @@ module _ (name : Text) (s : Shape) (is : IsVerb name s) (words : List Text) (fit
 module _ (schema rows constraints script : Text) (plain : ArePlain (schema ∷ rows ∷ constraints ∷ script ∷ [])) where
   pub session_read : asked_of (codes "session" ∷ schema ∷ rows ∷ constraints ∷ script ∷ [])
       ≡ Some (session (record { form = forms.Text; nodes = usual_nodes; files = with_files schema rows constraints; script = script }))
-  unfolding budget_of defaults_fault
+  unfolding number_of defaults_fault
   session_read = words_read (codes "session") session_shape session_is_verb (schema ∷ rows ∷ constraints ∷ script ∷ []) (refl, (refl, (refl, (refl, tt)))) plain refl
 
 module _ (schema rows constraints query : Text) (plain : ArePlain (schema ∷ rows ∷ constraints ∷ query ∷ [])) where
   pub weigh_read : asked_of (codes "weigh" ∷ schema ∷ rows ∷ constraints ∷ query ∷ [])
       ≡ Some (weigh (record { form = drawn.Text; nodes = usual_nodes; by = None; sorted = false; files = with_files schema rows constraints; query = query }))
-  unfolding budget_of defaults_fault
+  unfolding number_of defaults_fault
   weigh_read = words_read (codes "weigh") weigh_shape weigh_is_verb (schema ∷ rows ∷ constraints ∷ query ∷ []) (refl, (refl, (refl, (refl, tt)))) plain refl
 
 module _ (schema constraints rows : Text) (plain : ArePlain (schema ∷ constraints ∷ rows ∷ [])) where
@@ -282,6 +290,41 @@ module _ (schema constraints last : Text) (plain : ArePlain (schema ∷ constrai
   pub sql_read : asked_of (codes "sql" ∷ schema ∷ constraints ∷ last ∷ []) ≡ Some (sql (record { files = with_files schema [] constraints; table = last }))
   unfolding defaults_fault
   sql_read = words_read (codes "sql") sql_shape sql_is_verb (schema ∷ constraints ∷ last ∷ []) (refl, (refl, (refl, tt))) plain refl
+
+-- ---- `history`
+
+-- `--by` was met
+abbrev by_held : Held
+by_held = record { rows = []; pending = Some (codes "by", []); skip = 0 }
+
+by_met : walked history_shape.rules [] start (codes "--by") ≡ awaiting (codes "by") 1 by_held
+unfolding walked
+by_met = refl
+
+by_passes : turn_fault history_shape [] start (codes "--by") ≡ []
+by_passes = refl
+
+module _ (by schema rows : Text) (plain : ArePlain (by ∷ schema ∷ rows ∷ [])) where
+  abbrev divided : Walk
+  divided = given history_shape (codes "by") 1 by_held by
+
+  abbrev history_end : Walk
+  history_end = fold (plainly history_shape) divided (schema ∷ rows ∷ [])
+
+  files_reach : Reaches history_shape divided (schema ∷ rows ∷ []) history_end
+  files_reach =
+      plain_reaches history_shape history_end [] divided (schema ∷ rows ∷ []) (refl, (refl, tt))
+      (All-tail (λ w. is_dashed w ≡ false) by (schema ∷ rows ∷ []) plain) (λ none. reaches_end history_shape history_end)
+
+  history_reaches : Reaches history_shape start (codes "--by" ∷ by ∷ schema ∷ rows ∷ []) history_end
+  history_reaches =
+      reaches_more history_shape start (awaiting (codes "by") 1 by_held) history_end (codes "--by") (by ∷ schema ∷ rows ∷ []) by_passes by_met
+      (given_reaches history_shape (codes "by") 1 by_held by (All-head (λ w. is_dashed w ≡ false) by (schema ∷ rows ∷ []) plain) history_end (schema ∷ rows ∷ []) files_reach)
+
+  pub history_read : asked_of (codes "history" ∷ codes "--by" ∷ by ∷ schema ∷ rows ∷ [])
+      ≡ Some (history (record { files = with_files schema rows []; by = by; chosen = None; per = None; widen = 0; lost = None }))
+  unfolding number_of defaults_fault
+  history_read = verb_read (codes "history") history_shape history_is_verb (codes "--by" ∷ by ∷ schema ∷ rows ∷ []) history_end history_reaches refl
 
 -- ---- `schema`
 

@@ -1,14 +1,16 @@
 -- What the code of a call holds, and what words come to.
-use Rattle.std.specs.Prelude.{◌≡◌, ◌≢◌, ◌≤◌, ⊤, ℕ, true, false, List, map, length, Option, Some, None, option_map}
+use Rattle.std.specs.Prelude.{◌≡◌, ◌≢◌, ◌≤◌, ⊤, ℕ, true, false, List, [], map, length, Option, Some, None, IfSome, option_map}
 use Rattle.clap.specs.declared.error.kind.ErrorKind.{ErrorKind}
 use Rattle.clap.specs.declared.error.kind.ErrorKind.TheVariants.{OutOfMemory}
-use Rattle.pc_desk_words.specs.Words.{Asked, AskNames, FileNames, DraftNames, HeadNames, IsBudget, IsScale, LimitNames, OpensNames, SessionNames, SqlNames, TrialNames, WeighNames, WhyNames, MayHelp, MayRefuse, ask, asked_of, draft, is_request, limit, opens, session, sql, trial, weigh, why}
+use Rattle.pc_desk_words.specs.Words.{Asked, AskNames, FileNames, DraftNames, HeadNames, HistoryNames, IsBudget, IsLoss, IsScale, LimitNames, OpensNames, SessionNames, SqlNames, TrialNames, WeighNames, WhyNames, MayHelp, MayRefuse, ask, asked_of, draft, history, is_request, limit, opens, session, sql, trial, weigh, why, with_files}
+use Rattle.pc_desk_words.specs.Program.{most_widen}
 use Rattle.pc_desk_words.specs.declared.call.Ask.{Ask}
 use Rattle.pc_desk_words.specs.declared.call.Call.{Call}
 use Rattle.pc_desk_words.specs.declared.call.Call.TheVariants as calls
 use Rattle.pc_desk_words.specs.declared.call.Draft.{Draft}
 use Rattle.pc_desk_words.specs.declared.call.Files.{Files}
 use Rattle.pc_desk_words.specs.declared.call.Head.{Head}
+use Rattle.pc_desk_words.specs.declared.call.History.{History}
 use Rattle.pc_desk_words.specs.declared.call.Limit.{Limit}
 use Rattle.pc_desk_words.specs.declared.call.Opens.{Opens}
 use Rattle.pc_desk_words.specs.declared.call.Session.{Session}
@@ -51,6 +53,16 @@ trial_names call = record { form = call.form; scale = call.scale; files = file_n
 abbrev pub opens_names : Opens → OpensNames
 opens_names call = record { form = call.form; files = file_names call.files }
 
+abbrev pub history_names : History → HistoryNames
+history_names call = record {
+  files = with_files call.schema.now call.rows.now [];
+  by = call.by.now;
+  chosen = option_map (λ text. text.now) call.chosen;
+  per = option_map (λ text. text.now) call.per;
+  widen = call.widen;
+  lost = call.lost;
+}
+
 abbrev pub limit_names : Limit → LimitNames
 limit_names call = record { files = file_names call.files; limits = call.limits.now }
 
@@ -68,6 +80,7 @@ Holds asked (calls.Why call) = asked ≡ Some (why (why_names call))
 Holds asked (calls.Weigh call) = asked ≡ Some (weigh (weigh_names call))
 Holds asked (calls.Trial call) = asked ≡ Some (trial (trial_names call))
 Holds asked (calls.Opens call) = asked ≡ Some (opens (opens_names call))
+Holds asked (calls.History call) = asked ≡ Some (history (history_names call))
 Holds asked (calls.Limit call) = asked ≡ Some (limit (limit_names call))
 Holds asked (calls.Sql call) = asked ≡ Some (sql (sql_names call))
 Holds asked (calls.Draft call) = asked ≡ Some (draft (draft_names call))
@@ -87,6 +100,7 @@ Tells kind (calls.Why call) = ⊥
 Tells kind (calls.Weigh call) = ⊥
 Tells kind (calls.Trial call) = ⊥
 Tells kind (calls.Opens call) = ⊥
+Tells kind (calls.History call) = ⊥
 Tells kind (calls.Limit call) = ⊥
 Tells kind (calls.Sql call) = ⊥
 Tells kind (calls.Draft call) = ⊥
@@ -100,6 +114,7 @@ IsRefusal (calls.Why call) = ⊥
 IsRefusal (calls.Weigh call) = ⊥
 IsRefusal (calls.Trial call) = ⊥
 IsRefusal (calls.Opens call) = ⊥
+IsRefusal (calls.History call) = ⊥
 IsRefusal (calls.Limit call) = ⊥
 IsRefusal (calls.Sql call) = ⊥
 IsRefusal (calls.Draft call) = ⊥
@@ -114,6 +129,7 @@ Reads words (calls.Why call) = asked_of words ≡ Some (why (why_names call))
 Reads words (calls.Weigh call) = asked_of words ≡ Some (weigh (weigh_names call))
 Reads words (calls.Trial call) = asked_of words ≡ Some (trial (trial_names call))
 Reads words (calls.Opens call) = asked_of words ≡ Some (opens (opens_names call))
+Reads words (calls.History call) = asked_of words ≡ Some (history (history_names call))
 Reads words (calls.Limit call) = asked_of words ≡ Some (limit (limit_names call))
 Reads words (calls.Sql call) = asked_of words ≡ Some (sql (sql_names call))
 Reads words (calls.Draft call) = asked_of words ≡ Some (draft (draft_names call))
@@ -128,6 +144,7 @@ HasBudget (calls.Why call) = IsBudget call.nodes × (1 ≤ length call.queries.i
 HasBudget (calls.Weigh call) = IsBudget call.nodes
 HasBudget (calls.Trial call) = IsScale call.scale
 HasBudget (calls.Opens call) = ⊤
+HasBudget (calls.History call) = (call.widen ≤ most_widen) × IfSome call.lost IsLoss
 HasBudget (calls.Limit call) = ⊤
 HasBudget (calls.Sql call) = ⊤
 HasBudget (calls.Draft call) = ⊤

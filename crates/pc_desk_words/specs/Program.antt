@@ -14,6 +14,14 @@ most_nodes = 100_000
 abbrev pub most_queries : ℕ
 most_queries = 16
 
+-- by how many per cent limits may be widened at most
+abbrev pub most_widen : ℕ
+most_widen = 1_000
+
+-- the most lost rows that words may tell of
+abbrev pub most_lost : ℕ
+most_lost = 10_000_000
+
 -- what its value has to be is asked of the parser
 abbrev pub form_rule : ValueParser → Rule
 form_rule forms = record (new_rule (codes "as")) {
@@ -44,13 +52,32 @@ scale_rule = record (new_rule (codes "scale")) {
 abbrev pub file_rule : Text → Rule
 file_rule id = record (new_rule id) { value_names = 1; required = true }
 
--- a value that no default stands for
-abbrev pub by_rule : Rule
-by_rule = record (new_rule (codes "by")) { long = Some (codes "by"); value_names = 1 }
+-- any text may be the value, and no default stands for it
+abbrev pub text_rule : Text → Rule
+text_rule id = record (new_rule id) { long = Some id; value_names = 1 }
 
 -- a flag
 abbrev pub sort_rule : Rule
 sort_rule = record (new_rule (codes "sort")) { long = Some (codes "sort"); action = Some SetTrue }
+
+-- what divides rows has to be said
+abbrev pub division_rule : Rule
+division_rule = record (new_rule (codes "by")) { long = Some (codes "by"); value_names = 1; required = true }
+
+abbrev pub widen_rule : Rule
+widen_rule = record (new_rule (codes "widen")) {
+  long = Some (codes "widen");
+  value_names = 1;
+  parser = Some (parsers.Unsigned 0 most_widen);
+  defaults = codes "0" ∷ [];
+}
+
+abbrev pub lost_rule : Rule
+lost_rule = record (new_rule (codes "lost")) {
+  long = Some (codes "lost");
+  value_names = 1;
+  parser = Some (parsers.Unsigned 1 most_lost);
+}
 
 -- the most columns that may be wanted: no schema has more
 abbrev pub most_columns : ℕ
@@ -95,7 +122,7 @@ why_verb forms = verb forms (codes "why") query_rule
 
 abbrev pub weigh_verb : ValueParser → Shape
 weigh_verb forms =
-    (with_both (with_words (new_app (codes "weigh")) (form_rule forms) (file_rule (codes "query"))) by_rule sort_rule).top
+    (with_both (with_words (new_app (codes "weigh")) (form_rule forms) (file_rule (codes "query"))) (text_rule (codes "by")) sort_rule).top
 
 abbrev pub try_verb : ValueParser → Shape
 try_verb forms =
@@ -107,6 +134,15 @@ abbrev pub opens_verb : ValueParser → Shape
 opens_verb forms =
     (with_both (with_rule (new_app (codes "opens")) (form_rule forms))
     (file_rule (codes "schema")) (file_rule (codes "constraints"))).top
+
+-- which rows are meant, and which of them are counted together
+abbrev pub with_cells : App → App
+with_cells app = with_both (with_rule app division_rule) (text_rule (codes "where")) (text_rule (codes "per"))
+
+abbrev pub history_verb : Shape
+history_verb =
+    (with_both (with_both (with_cells (new_app (codes "history"))) widen_rule lost_rule)
+    (file_rule (codes "schema")) (file_rule (codes "rows"))).top
 
 -- a schema, constraints, and what stands last
 abbrev pub listing_verb : Text → Text → Shape
@@ -136,7 +172,7 @@ desk_shape = record (new_shape (codes "pc_desk")) {
 abbrev pub desk_with : ValueParser → ValueParser → ValueParser → App
 desk_with forms drawn sheets = record {
   top = desk_shape;
-  subs = ask_verb forms ∷ session_verb forms ∷ why_verb drawn ∷ weigh_verb drawn ∷ try_verb sheets ∷ opens_verb sheets ∷ limit_verb ∷ schema_verb ∷ sql_verb ∷ [];
+  subs = ask_verb forms ∷ session_verb forms ∷ why_verb drawn ∷ weigh_verb drawn ∷ try_verb sheets ∷ opens_verb sheets ∷ history_verb ∷ limit_verb ∷ schema_verb ∷ sql_verb ∷ [];
 }
 
 -- any text may stand as a form here: which it names is told by `form_named`, `drawn_form_named` and `sheet_form_named`

@@ -10,7 +10,7 @@ use Rattle.clap.specs.ValueTests.{is_unsigned_in}
 use Rattle.clap.specs.declared.error.kind.ErrorKind.{ErrorKind}
 use Rattle.clap.specs.declared.error.kind.ErrorKind.TheVariants.{DisplayHelp, DisplayVersion}
 use Rattle.pc_num.specs.Scaled.{scaled_of}
-use Rattle.pc_desk_words.specs.Program.{desk_app, most_nodes}
+use Rattle.pc_desk_words.specs.Program.{desk_app, most_lost, most_nodes, most_widen}
 use Rattle.pc_desk_words.specs.declared.form.Form.{Form}
 use Rattle.pc_desk_words.specs.declared.form.Form.TheVariants as forms
 use Rattle.pc_desk_words.specs.declared.form.SheetForm.{SheetForm}
@@ -66,6 +66,16 @@ pub record OpensNames : Type 0 where
   pub form : SheetForm
   pub files : FileNames
 
+-- of `history`: the files, of which there are no constraints; by which columns the rows are divided, which rows are meant,
+-- the column of the periods, by how many per cent limits are widened, and how many rows are lost
+pub record HistoryNames : Type 0 where
+  pub files : FileNames
+  pub by : List ℕ
+  pub chosen : Option (List ℕ)
+  pub per : Option (List ℕ)
+  pub widen : ℕ
+  pub lost : Option ℕ
+
 -- of `limit`: the files, of which there are no rows, and the name of the limits
 pub record LimitNames : Type 0 where
   pub files : FileNames
@@ -89,6 +99,7 @@ pub data Asked : Type 0 where
   weigh : WeighNames → Asked
   trial : TrialNames → Asked
   opens : OpensNames → Asked
+  history : HistoryNames → Asked
   limit : LimitNames → Asked
   sql : SqlNames → Asked
   draft : DraftNames → Asked
@@ -122,9 +133,9 @@ sheet_form_named name =
     else (if bytes_eq name (codes "json") then Some sheets.Json
     else None))
 
--- the number of nodes that a text spells, as `clap` reads numbers: a `+` may lead it
-unfoldable pub budget_of : List ℕ → Option ℕ
-budget_of text = if is_unsigned_in 1 most_nodes text then Some (digits_value 10 (without_leading_plus text)) else None
+-- the number from a least to a greatest one that a text spells, as `clap` reads numbers: a `+` may lead it
+unfoldable pub number_of : ℕ → ℕ → List ℕ → Option ℕ
+number_of least most text = if is_unsigned_in least most text then Some (digits_value 10 (without_leading_plus text)) else None
 
 -- how many nodes each search may have where the words do not say it
 abbrev pub usual_nodes : ℕ
@@ -151,9 +162,9 @@ abbrev pub is_dashed : List ℕ → Bool
 is_dashed [] = false
 is_dashed (byte ∷ rest) = byte == 45
 
--- a number, where it is one of nodes
-abbrev pub within : ℕ → Option ℕ
-within number = if nat_le 1 number && nat_le number most_nodes then Some number else None
+-- a number, where it lies from a least to a greatest one
+abbrev pub within : ℕ → ℕ → ℕ → Option ℕ
+within least most number = if nat_le least number && nat_le number most then Some number else None
 
 -- ---- what was found of a verb
 
@@ -176,7 +187,7 @@ abbrev pub form_in : List Row → Option Form
 form_in found = option_and_then form_named (first_of (codes "as") found)
 
 abbrev pub nodes_in : List Row → Option ℕ
-nodes_in found = option_and_then budget_of (first_of (codes "nodes") found)
+nodes_in found = option_and_then (number_of 1 most_nodes) (first_of (codes "nodes") found)
 
 abbrev pub head_in : List Row → Option HeadNames
 head_in found = option_and_then (λ nodes. option_map (with_head nodes) (files_in found)) (nodes_in found)
@@ -250,6 +261,28 @@ with_form form files = record { form = form; files = files }
 abbrev pub opens_in : List Row → Option OpensNames
 opens_in found = option_and_then (λ form. option_map (with_form form) (rowless_files_in found)) (sheet_form_in found)
 
+abbrev pub widen_in : List Row → Option ℕ
+widen_in found = option_and_then (number_of 0 most_widen) (first_of (codes "widen") found)
+
+-- a text that spells no number of rows `clap` does not take
+abbrev pub lost_in : List Row → Option ℕ
+lost_in found = option_and_then (number_of 1 most_lost) (first_of (codes "lost") found)
+
+abbrev pub with_widen : FileNames → List ℕ → List Row → ℕ → HistoryNames
+with_widen files by found widen = record {
+  files = files;
+  by = by;
+  chosen = first_of (codes "where") found;
+  per = first_of (codes "per") found;
+  widen = widen;
+  lost = lost_in found;
+}
+
+abbrev pub history_in : List Row → Option HistoryNames
+history_in found = option_and_then (λ schema. option_and_then (λ rows. option_and_then (λ by.
+    option_map (with_widen (with_files schema rows []) by found) (widen_in found))
+    (first_of (codes "by") found)) (first_of (codes "rows") found)) (first_of (codes "schema") found)
+
 abbrev pub with_limits : FileNames → List ℕ → LimitNames
 with_limits files limits = record { files = files; limits = limits }
 
@@ -278,10 +311,11 @@ asked_in name found =
     else (if bytes_eq name (codes "weigh") then option_map weigh (weigh_in found)
     else (if bytes_eq name (codes "try") then option_map trial (trial_in found)
     else (if bytes_eq name (codes "opens") then option_map opens (opens_in found)
+    else (if bytes_eq name (codes "history") then option_map history (history_in found)
     else (if bytes_eq name (codes "limit") then option_map limit (limit_in found)
     else (if bytes_eq name (codes "sql") then option_map sql (sql_in found)
     else (if bytes_eq name (codes "schema") then option_map draft (draft_in found)
-    else None))))))))
+    else None)))))))))
 
 abbrev pub asked_by : Option (Text × List Row) → Option Asked
 asked_by = option_and_then (λ (verb : Text × List Row). asked_in verb.0 verb.1)
@@ -323,6 +357,11 @@ MayRefuse words = only_shows (fault_of desk_app words) ≡ false
 pub record IsBudget (nodes : ℕ) : Type 0 where
   pub some : 1 ≤ nodes
   pub few : nodes ≤ most_nodes
+
+-- a number of lost rows that words may tell of
+pub record IsLoss (lost : ℕ) : Type 0 where
+  pub some : 1 ≤ lost
+  pub few : lost ≤ most_lost
 
 -- a factor that words may ask for, in millionths
 pub record IsScale (scale : ℕ) : Type 0 where

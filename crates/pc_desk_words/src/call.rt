@@ -78,6 +78,23 @@ pub struct Opens<'a> {
     pub files: Files<'a>,
 }
 
+/// The verb `history`: the files, of which the constraints have no name, and how rows are divided and counted.
+#[derive(Clone, Copy, Debug)]
+pub struct History<'a> {
+    pub schema: &'a str,
+    pub rows: &'a str,
+    /// The columns by which the rows are divided, and into how many parts.
+    pub by: &'a str,
+    /// The predicate that tells which rows are meant: all where none is said.
+    pub chosen: Option<&'a str>,
+    /// The column of the periods: all rows are of one period where none is named.
+    pub per: Option<&'a str>,
+    /// By how many per cent limits are widened.
+    pub widen: u64,
+    /// How many rows are lost: as many as a period has where it is not said.
+    pub lost: Option<u64>,
+}
+
 /// The verb `limit`: the files, of which the rows have no name, and the limits.
 #[derive(Clone, Copy, Debug)]
 pub struct Limit<'a> {
@@ -108,6 +125,7 @@ pub enum Call<'a> {
     Weigh(Weigh<'a>),
     Trial(Trial<'a>),
     Opens(Opens<'a>),
+    History(History<'a>),
     Limit(Limit<'a>),
     Sql(Sql<'a>),
     Draft(Draft<'a>),

@@ -2,16 +2,24 @@
 ghost use Rattle.std.specs.Prelude.{◌≡◌, ◌≤◌, [], codes, map, length, IfOk, IfSome, option_map, unwrap_or};
 ghost use Rattle.clap.specs.Words.{found_of, rows_of, subcommand_rows_of};
 ghost use Rattle.clap.specs.Walk.{all_of, first_of};
-ghost use Rattle.pc_desk_words.specs.Calls.{ask_names, draft_names, file_names, head_names, limit_names, opens_names, session_names, sql_names, trial_names, weigh_names, why_names, HasBudget, HoldsIf};
-ghost use Rattle.pc_desk_words.specs.Words.{ask_in, asked_by, asked_in, budget_of, draft_in, files_in, form_in, head_in, limit_in, nodes_in, opens_in, queries_in, rowless_files_in, scale_in, scale_of, scale_within, session_in, sheet_form_in, some_of, sorted_in, sql_in, trial_in, drawn_form_in, weigh_in, why_in, within, IsBudget, IsScale};
+ghost use Rattle.pc_desk_words.specs.Calls.{ask_names, draft_names, file_names, head_names, history_names, limit_names, opens_names, session_names, sql_names, trial_names, weigh_names, why_names, HasBudget, HoldsIf};
+ghost use Rattle.pc_desk_words.specs.Program.{most_widen};
+ghost use Rattle.pc_desk_words.specs.Words.{ask_in, asked_by, asked_in, draft_in, files_in, form_in, head_in, history_in, limit_in, lost_in, nodes_in, number_of, opens_in, queries_in, rowless_files_in, scale_in, scale_of, scale_within, session_in, sheet_form_in, some_of, sorted_in, sql_in, trial_in, drawn_form_in, weigh_in, why_in, widen_in, within, IsBudget, IsLoss, IsScale};
 
-use crate::call::{Ask, Call, Draft, Files, Head, Limit, Opens, Session, Sql, Trial, Weigh, Why};
+use crate::call::{
+    Ask, Call, Draft, Files, Head, History, Limit, Opens, Session, Sql, Trial, Weigh, Why,
+};
 use crate::form::{DrawnForm, Form, SheetForm};
 use clap::ArgMatches;
 use pc_num::{Memory, read_scaled};
 use std::alloc::Global;
 
 const MOST_NODES: u32 = 100_000;
+
+/// In per cent.
+const MOST_WIDEN: u32 = 1_000;
+
+const MOST_LOST: u32 = 10_000_000;
 
 /// In millionths.
 const MOST_SCALE: i64 = 1_000_000_000_000;
@@ -48,6 +56,7 @@ fn call_of<'a>(
         "weigh" => Ok(weigh_in(found).map(Call::Weigh)),
         "try" => Ok(trial_in(found).map(Call::Trial)),
         "opens" => Ok(opens_in(found).map(Call::Opens)),
+        "history" => Ok(history_in(found).map(Call::History)),
         "limit" => Ok(limit_in(found).map(Call::Limit)),
         "sql" => Ok(sql_in(found).map(Call::Sql)),
         "schema" => Ok(draft_in(alloc, found)?.map(Call::Draft)),
@@ -178,6 +187,25 @@ fn opens_in<'a>(found: &ArgMatches<'a>) -> Option<Opens<'a>>
     Some(Opens { form, files })
 }
 
+fn history_in<'a>(found: &ArgMatches<'a>) -> Option<History<'a>>
+    ensures reads { option_map history_names result ≡ history_in (rows_of (found_of found.now)) }
+    ensures numbers { IfSome result (λ history. (history.widen ≤ most_widen) × IfSome history.lost IsLoss) }
+{
+    let schema = text_in(found, "schema")?;
+    let rows = text_in(found, "rows")?;
+    let by = text_in(found, "by")?;
+    let widen = widen_in(found)?;
+    Some(History {
+        schema,
+        rows,
+        by,
+        chosen: text_in(found, "where"),
+        per: text_in(found, "per"),
+        widen,
+        lost: lost_in(found),
+    })
+}
+
 fn limit_in<'a>(found: &ArgMatches<'a>) -> Option<Limit<'a>>
     ensures { option_map limit_names result ≡ limit_in (rows_of (found_of found.now)) }
 {
@@ -265,27 +293,45 @@ fn sheet_form_in(found: &ArgMatches<'_>) -> Option<SheetForm>
     SheetForm::named(text_in(found, "as")?)
 }
 
-#[tactic(auto, using(crate::proofs::Budgets::is_budget))]
 fn nodes_in(found: &ArgMatches<'_>) -> Option<u32>
     ensures reads { result ≡ nodes_in (rows_of (found_of found.now)) }
     ensures within { IfSome result IsBudget }
 {
-    budget_of(text_in(found, "nodes")?)
+    number_of(1, MOST_NODES, text_in(found, "nodes")?)
 }
 
-fn budget_of(text: &str) -> Option<u32>
-    ensures { result ≡ budget_of text.now }
+fn widen_in(found: &ArgMatches<'_>) -> Option<u64>
+    ensures reads { result ≡ widen_in (rows_of (found_of found.now)) }
+    ensures within { IfSome result (λ widen. widen ≤ most_widen) }
+{
+    let number = number_of(0, MOST_WIDEN, text_in(found, "widen")?)?;
+    Some(u64::from(number))
+}
+
+fn lost_in(found: &ArgMatches<'_>) -> Option<u64>
+    ensures reads { result ≡ lost_in (rows_of (found_of found.now)) }
+    ensures within { IfSome result IsLoss }
+{
+    let number = number_of(1, MOST_LOST, text_in(found, "lost")?)?;
+    Some(u64::from(number))
+}
+
+/// The number from a least to a greatest one that a text spells.
+fn number_of(least: u32, most: u32, text: &str) -> Option<u32>
+    ensures spells { result ≡ number_of least most text.now }
+    ensures within { IfSome result (λ number. (least ≤ number) × (number ≤ most)) }
 {
     match text.parse::<u32>() {
-        Ok(number) => within(number),
+        Ok(number) => within(least, most, number),
         Err(_) => None,
     }
 }
 
-fn within(number: u32) -> Option<u32>
-    ensures { result ≡ within number }
+fn within(least: u32, most: u32, number: u32) -> Option<u32>
+    ensures tells { result ≡ within least most number }
+    ensures lies { IfSome result (λ number. (least ≤ number) × (number ≤ most)) }
 {
-    if number < 1 || MOST_NODES < number {
+    if number < least || most < number {
         return None;
     }
     Some(number)

@@ -1,6 +1,6 @@
 ghost use Rattle.std.specs.Prelude.{◌≡◌, ◌<◌, ◌≤◌, ◌∷◌, [], ℕ, List, All, Some, None, codes, false, length};
 ghost use Rattle.pc_desk_words.specs.Program.{most_columns, most_queries};
-ghost use Rattle.pc_desk_words.specs.Words.{ask, asked_of, draft, is_dashed, limit, opens, session, sql, trial, weigh, why, usual_nodes, usual_scale, with_files};
+ghost use Rattle.pc_desk_words.specs.Words.{ask, asked_of, draft, history, is_dashed, limit, opens, session, sql, trial, weigh, why, usual_nodes, usual_scale, with_files};
 ghost use Rattle.pc_desk_words.specs.declared.form.Form.TheVariants.{Text};
 ghost use Rattle.pc_desk_words.specs.declared.form.SheetForm.TheVariants as sheets;
 ghost use Rattle.pc_desk_words.specs.declared.form.DrawnForm.TheVariants as drawn;
@@ -35,6 +35,12 @@ pub fn plain_words_are_a_trial()
 /// After `opens`, two such words are the schema and the constraints, shown as text.
 pub fn plain_words_ask_what_opens()
     ensures { (schema constraints : List ℕ) → All (λ word. is_dashed word ≡ false) (schema ∷ constraints ∷ []) → asked_of (codes "opens" ∷ schema ∷ constraints ∷ []) ≡ Some (opens (record { form = sheets.Text; files = with_files schema [] constraints })) }
+{}
+
+/// After `history` and `--by`, three such words are what divides the rows, the schema and the rows: all rows are meant,
+/// of one period, nothing is widened, and how many rows are lost is not said.
+pub fn plain_words_ask_for_history()
+    ensures { (by schema rows : List ℕ) → All (λ word. is_dashed word ≡ false) (by ∷ schema ∷ rows ∷ []) → asked_of (codes "history" ∷ codes "--by" ∷ by ∷ schema ∷ rows ∷ []) ≡ Some (history (record { files = with_files schema rows []; by = by; chosen = None; per = None; widen = 0; lost = None })) }
 {}
 
 /// After `limit`, three such words are the schema, the constraints and the limits.

@@ -2,7 +2,7 @@ ghost use Rattle.std.specs.Prelude.{◌≡◌, ◌∷◌, [], false, true, pos, 
 ghost use Rattle.clap.specs.Words.{app_of, rule_of};
 ghost use Rattle.clap.specs.declared.builder.command.Command.TheViews.{out-Command};
 ghost use Rattle.clap.specs.declared.builder.value_parser.ValueParser.TheVariants.{Signed};
-ghost use Rattle.pc_desk_words.specs.Program.{ask_verb, by_rule, column_rule, desk_app, desk_shape, desk_with, file_rule, form_rule, limit_verb, most_nodes, nodes_rule, opens_verb, query_rule, scale_rule, schema_verb, session_verb, sort_rule, sql_verb, try_verb, weigh_verb, why_verb, with_both, with_words};
+ghost use Rattle.pc_desk_words.specs.Program.{ask_verb, column_rule, desk_app, desk_shape, desk_with, division_rule, file_rule, form_rule, history_verb, limit_verb, lost_rule, most_nodes, nodes_rule, opens_verb, query_rule, scale_rule, schema_verb, session_verb, sort_rule, sql_verb, text_rule, try_verb, weigh_verb, why_verb, widen_rule, with_both, with_cells, with_words};
 
 use crate::texts;
 use clap::builder::ValueParser;
@@ -47,10 +47,22 @@ fn desk_with<'a>(
 ) -> Result<Command<'a>, AllocError>
     ensures { IfOk result (λ command. app_of command ≡ desk_with forms.entry drawn.entry sheets.entry) }
 {
-    holding_desk(alloc, forms, drawn, sheets)?
+    drafting_desk(alloc, forms, drawn, sheets)?
         .subcommand(limit(alloc)?)?
         .subcommand(draft(alloc)?)?
         .subcommand(sql(alloc)?)
+}
+
+/// .. and with the one that drafts constraints.
+fn drafting_desk<'a>(
+    alloc: Global,
+    forms: ValueParser<'a>,
+    drawn: ValueParser<'a>,
+    sheets: ValueParser<'a>,
+) -> Result<Command<'a>, AllocError>
+    ensures { IfOk result (λ command. app_of command ≡ record { top = desk_shape; subs = ask_verb forms.entry ∷ session_verb forms.entry ∷ why_verb drawn.entry ∷ weigh_verb drawn.entry ∷ try_verb sheets.entry ∷ opens_verb sheets.entry ∷ history_verb ∷ [] }) }
+{
+    holding_desk(alloc, forms, drawn, sheets)?.subcommand(history(alloc)?)
 }
 
 /// .. and with those that weigh changes, hold constraints against a table or tell what they open.
@@ -147,7 +159,8 @@ fn weigh<'a>(alloc: Global, forms: ValueParser<'a>) -> Result<Command<'a>, Alloc
         .after_help(texts::WEIGH_AFTER);
     let query = file(alloc, "query", "QUERY", texts::QUERY);
     let command = with_words(alloc, command, form(alloc, forms, texts::DRAWN_AS), query)?;
-    with_both(command, by(alloc), sort(alloc))
+    let by = text_option(alloc, "by", "NAME", texts::BY);
+    with_both(command, by, sort(alloc))
 }
 
 fn trial<'a>(alloc: Global, forms: ValueParser<'a>) -> Result<Command<'a>, AllocError>
@@ -171,6 +184,30 @@ fn opens<'a>(alloc: Global, forms: ValueParser<'a>) -> Result<Command<'a>, Alloc
         .after_help(texts::OPENS_AFTER);
     let command = command.arg(form(alloc, forms, texts::SHEET_AS))?;
     with_both(command, schema(alloc), constraints(alloc))
+}
+
+fn history<'a>(alloc: Global) -> Result<Command<'a>, AllocError>
+    ensures app { IfOk result (λ command. app_of command ≡ record { top = history_verb; subs = [] }) }
+    ensures local { IfOk result (λ command. (out-Command command).has_globals ≡ false) }
+{
+    let command = Command::new(alloc, "history")
+        .about(texts::HISTORY_ABOUT)
+        .after_help(texts::HISTORY_AFTER);
+    let command = with_cells(alloc, command)?;
+    let command = with_both(command, widen(alloc), lost(alloc))?;
+    with_both(command, schema(alloc), rows(alloc, texts::HISTORY_ROWS))
+}
+
+/// The options of `history` that say which rows are meant, and which of them are counted together.
+fn with_cells<'a>(alloc: Global, command: Command<'a>) -> Result<Command<'a>, AllocError>
+    requires { (out-Command command).has_globals ≡ false }
+    ensures app { IfOk result (λ r. app_of r ≡ with_cells (app_of command.entry)) }
+    ensures local { IfOk result (λ r. (out-Command r).has_globals ≡ false) }
+{
+    let command = command.arg(division(alloc))?;
+    let chosen = text_option(alloc, "where", "PREDICATE", texts::WHERE);
+    let period = text_option(alloc, "per", "COLUMN", texts::PER);
+    with_both(command, chosen, period)
 }
 
 fn limit<'a>(alloc: Global) -> Result<Command<'a>, AllocError>
@@ -265,14 +302,45 @@ fn numbers<'a>() -> ValueParser<'a>
     value_parser!(u32).range(1..=100_000)
 }
 
-fn by<'a>(alloc: Global) -> Arg<'a>
-    ensures rule { rule_of result ≡ by_rule }
+fn text_option<'a>(alloc: Global, id: &'a str, name: &'a str, help: &'a str) -> Arg<'a>
+    ensures rule { rule_of result ≡ text_rule id.now }
+    ensures local { result.global ≡ false }
+{
+    Arg::new(alloc, id).long(id).value_name(name).help(help)
+}
+
+fn division<'a>(alloc: Global) -> Arg<'a>
+    ensures rule { rule_of result ≡ division_rule }
     ensures local { result.global ≡ false }
 {
     Arg::new(alloc, "by")
         .long("by")
-        .value_name("NAME")
-        .help(texts::BY)
+        .value_name("COLUMNS")
+        .required(true)
+        .help(texts::DIVISION)
+}
+
+fn widen<'a>(alloc: Global) -> Arg<'a>
+    ensures rule { rule_of result ≡ widen_rule }
+    ensures local { result.global ≡ false }
+{
+    Arg::new(alloc, "widen")
+        .long("widen")
+        .value_name("PERCENT")
+        .value_parser(ValueParser::Unsigned(0, 1_000))
+        .default_value("0")
+        .help(texts::WIDEN)
+}
+
+fn lost<'a>(alloc: Global) -> Arg<'a>
+    ensures rule { rule_of result ≡ lost_rule }
+    ensures local { result.global ≡ false }
+{
+    Arg::new(alloc, "lost")
+        .long("lost")
+        .value_name("N")
+        .value_parser(ValueParser::Unsigned(1, 10_000_000))
+        .help(texts::LOST)
 }
 
 fn sort<'a>(alloc: Global) -> Arg<'a>

@@ -177,6 +177,16 @@ pub(crate) const OPENS_AFTER: &str = after_findings!(
     "opens sales.schema lost.pc"
 );
 
+pub(crate) const HISTORY_ABOUT: &str =
+    "Draft constraints from the rows of a time before the loss, or of the rows that are left";
+
+pub(crate) const HISTORY_AFTER: &str = after_written!(
+    "  0  it is written
+",
+    "words, a file, more than 20 cells or a draft of no row",
+    "history sales.schema 2025.csv --by branch,price/3 --per month --widen 10"
+);
+
 pub(crate) const LIMIT_ABOUT: &str =
     "Write constraints with lines that limit and do not open: no row may be lost by them alone";
 
@@ -207,6 +217,21 @@ pub(crate) const SQL_AFTER: &str = after_written!(
     "words or a file",
     "sql sales.schema lost.pc sales | sqlite3 sales.db"
 );
+
+pub(crate) const HISTORY_ROWS: &str =
+    "the row file (CSV): rows of a time before the loss, or those that are left";
+
+pub(crate) const DIVISION: &str = "\
+what divides the rows into cells: columns of names, and of numbers in so many parts, such as branch,price/3";
+
+pub(crate) const WHERE: &str =
+    "which rows are meant, such as 'day in 1..3'; all where it is not said";
+
+pub(crate) const PER: &str = "the column of the periods; all rows are of one where none is named";
+
+pub(crate) const WIDEN: &str = "by how many per cent limits are widened, 0 to 1000";
+
+pub(crate) const LOST: &str = "how many rows are lost, 1 to 10000000";
 
 pub(crate) const LIMITS: &str = "the limits: lines as constraints have them";
 

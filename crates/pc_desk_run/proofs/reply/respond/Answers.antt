@@ -1,7 +1,7 @@
 use Rattle.std.proofs.Common.{inl}
 use Rattle.std.proofs.lemmas.Result.{IfOk-weaker}
-use Rattle.pc_desk_words.specs.Calls.{ask_names, draft_names, limit_names, opens_names, session_names, sql_names, trial_names, weigh_names, why_names}
-use Rattle.pc_desk_words.specs.Words.{ask, draft, limit, opens, session, sql, trial, weigh, why}
+use Rattle.pc_desk_words.specs.Calls.{ask_names, draft_names, history_names, limit_names, opens_names, session_names, sql_names, trial_names, weigh_names, why_names}
+use Rattle.pc_desk_words.specs.Words.{ask, draft, history, limit, opens, session, sql, trial, weigh, why}
 use Rattle.pc_desk_run.proofs.reply.respond.Goals as goal
 
 pub reply_to_ask-requires : goal.reply_to_ask-requires
@@ -48,6 +48,16 @@ pub returns-in-Opens : goal.returns-in-Opens
 returns-in-Opens g c =
     let reads = rw c.in-Opens.is at c.in_ok-call.ensures.reads in
     record { responds = IfOk-weaker c.reply_to_opens.result _ _ (λ reply replies. inl (opens (opens_names c.in-Opens.opens), reads, replies)) c.reply_to_opens.ensures }
+
+pub reply_to_history-requires : goal.reply_to_history-requires
+reply_to_history-requires g c =
+    let numbers = rw c.in-History.is at c.in_ok-call.ensures.numbers in
+    record { widen = numbers.0; lost = numbers.1 }
+
+pub returns-in-History : goal.returns-in-History
+returns-in-History g c =
+    let reads = rw c.in-History.is at c.in_ok-call.ensures.reads in
+    record { responds = IfOk-weaker c.reply_to_history.result _ _ (λ reply replies. inl (history (history_names c.in-History.wish), reads, replies)) c.reply_to_history.ensures }
 
 pub returns-in-Limit : goal.returns-in-Limit
 returns-in-Limit g c =

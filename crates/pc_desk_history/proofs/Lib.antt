@@ -1,0 +1,16 @@
+pub mod Apart
+pub mod Around
+pub mod CellNames
+pub mod Drafted
+pub mod Extents
+pub mod Folding
+pub mod Gaps
+pub mod Holding
+pub mod PastPossible
+pub mod Servable
+pub mod Sifted
+pub mod Steps
+pub mod Tallies
+pub mod Tight
+pub mod Unlisted
+pub mod Within

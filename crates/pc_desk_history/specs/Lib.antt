@@ -1,0 +1,4 @@
+pub mod Draft
+pub mod Laws
+pub mod Periods
+pub mod Widening

@@ -1,0 +1,3 @@
+pub mod Laws
+pub mod Past
+pub mod Texts
