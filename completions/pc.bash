@@ -17,9 +17,9 @@ _pc_desk() {
   local word=${COMP_WORDS[COMP_CWORD]} verb=${COMP_WORDS[1]} previous=${COMP_WORDS[COMP_CWORD - 1]}
   COMPREPLY=()
   if [ "$COMP_CWORD" -eq 1 ]; then
-    mapfile -t COMPREPLY < <(compgen -W "ask session why weigh try opens limit schema sql help --help --version" -- "$word")
+    mapfile -t COMPREPLY < <(compgen -W "ask session why weigh try opens history limit schema sql help --help --version" -- "$word")
   elif [ "$verb" = help ]; then
-    mapfile -t COMPREPLY < <(compgen -W "ask session why weigh try opens limit schema sql" -- "$word")
+    mapfile -t COMPREPLY < <(compgen -W "ask session why weigh try opens history limit schema sql" -- "$word")
   elif [[ $previous == --as && $verb =~ ^(why|weigh)$ ]]; then
     mapfile -t COMPREPLY < <(compgen -W "text table json svg" -- "$word")
   elif [[ $previous == --as && $verb =~ ^(try|opens)$ ]]; then
@@ -30,6 +30,14 @@ _pc_desk() {
     mapfile -t COMPREPLY < <(compgen -W "1 1000 10000 100000" -- "$word")
   elif [ "$previous" = --scale ]; then
     mapfile -t COMPREPLY < <(compgen -W "0.01 0.05 0.1 1" -- "$word")
+  elif [[ $previous =~ ^--(by|per)$ && $verb == history ]]; then
+    # the columns of the schema that stands there, where their names are plain
+    local file=
+    for file in "${COMP_WORDS[@]:2}"; do
+      [[ $file != -* && -r $file ]] || continue
+      mapfile -t COMPREPLY < <(compgen -W "$(sed -n 's/^\([A-Za-z_][A-Za-z_0-9]*\),\(cat\|int\|dec\),.*/\1/p' "$file")" -- "$word")
+      break
+    done
   elif [[ $previous == --by && $verb == weigh ]]; then
     # the plain names of constraints in the files that stand there
     local file=
@@ -39,6 +47,8 @@ _pc_desk() {
     done
   elif [[ $word == -* && $verb == weigh ]]; then
     mapfile -t COMPREPLY < <(compgen -W "--as --nodes --by --sort --help" -- "$word")
+  elif [[ $word == -* && $verb == history ]]; then
+    mapfile -t COMPREPLY < <(compgen -W "--by --where --per --widen --lost --help" -- "$word")
   elif [[ $word == -* && $verb == try ]]; then
     mapfile -t COMPREPLY < <(compgen -W "--as --scale --help" -- "$word")
   elif [[ $word == -* && $verb == opens ]]; then
